@@ -1,25 +1,24 @@
 -- What a turn sends to the client, part after part; and that these parts are the model's.
-use Rattle.std.proofs.Common.{◌≡◌, ◌∙◌, ℕ, Bool, true, false, not, ◌&&◌, ◌||◌, max, min, refl, sym, ap, subst, List, [], ◌∷◌, ◌++◌, map, if◌then◌else◌}
+use Rattle.std.proofs.Common.{◌≡◌, ◌∙◌, ℕ, Bool, true, false, not, ◌&&◌, ◌||◌, max, min, refl, sym, ap, ap₂, subst, List, [], ◌∷◌, ◌++◌, map, if◌then◌else◌}
 use Rattle.std.specs.Bool.{MatchBool}
 use Rattle.std.proofs.lemmas.Bool.{false≢true}
 use Rattle.std.proofs.lemmas.List.{map-append}
 use Rattle.ft_io.specs.declared.Addr.{Addr}
 use Rattle.seq_arith.specs.Packet.{Segment}
 use Rattle.server_trait.specs.Service.{Machine}
-use Rattle.ft_model.proofs.PlainTurns.{plain_resends, due_is_pending}
 use Rattle.ft_model.specs.Network.Packet.{To_client}
 use Rattle.ft_model.specs.Wire.{Wire}
 use Rattle.ft_model.specs.News.{News}
 use Rattle.ft_model.specs.Point.{Point, target}
 use Rattle.ft_model.specs.Sending.{sent_at_once, send_edge, resends}
 use Rattle.ft_model.specs.Timer.{expires}
-use Rattle.ft_model.specs.PendingAck.{is_ack_pending, is_ack_due}
+use Rattle.ft_model.specs.PendingAck.{is_ack_pending, is_ack_due, is_delayed}
 use Rattle.ft_model.specs.Segments.{syn_ack, syn_acks, is_unacknowledged, first_unacknowledged, probe, resent, new_texts, new_fin, full_segments, or_bare, bare_segment, segments_of}
 use Rattle.plain_packets.specs.Sent.{Appends}
 use Rattle.plain_packets.proofs.Sent.{appends_none, appends_both}
 use Rattle.plain_connection.specs.declared.before.Before.{Before}
 use Rattle.plain_connection.specs.Before.{IsBefore}
-use Rattle.plain_connection.specs.Since.{having_sent, syn_acks_since, resent_since, full_segments_since, is_ack_pending_since, segments_since, has_some, Sends}
+use Rattle.plain_connection.specs.Since.{having_sent, syn_acks_since, resent_since, full_segments_since, is_delayed_since, is_ack_due_since, is_ack_pending_since, segments_since, has_some, Sends}
 
 pub at_once_since : {S : Type 0} (service : Machine S) (news : News) (p after : Point) (before : Before) → IsBefore service news p before
     → sent_at_once service (having_sent before.sent after) after ≡ sent_at_once service p after
@@ -37,8 +36,7 @@ resent_are service server news p after before is =
     let since : Bool → ℕ → List Segment =
     λ b n. if b then (if is_unacknowledged (having_sent n after) after then first_unacknowledged service server (having_sent n after) after
     else probe service server (having_sent n after) after) else [] in
-    ap (λ b. since b before.sent) (is.resends ∙ ap (λ b. expires news p || b) (sym (plain_resends news p is.profile.recovers)))
-    ∙ ap (since (expires news p || resends news p)) is.sent
+    ap (λ b. since b before.sent) is.resends ∙ ap (since (expires news p || resends news p)) is.sent
 
 new_texts_are : {S : Type 0} (service : Machine S) (server : Addr) (news : News) (p after : Point) (before : Before) → IsBefore service news p before
     → new_texts service server (having_sent before.sent after) after ≡ new_texts service server p after
@@ -62,10 +60,11 @@ full_are service server news p after before is =
 
 pending_is : {S : Type 0} (service : Machine S) (news : News) (p after : Point) (before : Before) → IsBefore service news p before
     → is_ack_pending_since before after ≡ is_ack_pending service news p after
-unfolding is_ack_due
+unfolding is_ack_due is_delayed is_ack_pending
 pending_is service news p after before is =
-    let due : is_ack_pending_since before after ≡ is_ack_due service news p after = cc in
-    due ∙ sym (due_is_pending service news p after is.profile.delays)
+    let due : is_ack_due_since before after ≡ is_ack_due service news p after = cc in
+    let waits : is_delayed_since before after ≡ is_delayed news p after = cc in
+    ap₂ (λ d w. not w && d) due waits
 
 -- the segments of a turn, from what it compares
 pub segments_are : {S : Type 0} (service : Machine S) (server : Addr) (news : News) (p after : Point) (before : Before) → IsBefore service news p before

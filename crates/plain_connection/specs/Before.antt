@@ -1,13 +1,11 @@
 -- What a turn of a connection compares with the connection before it.
 use Rattle.std.specs.Prelude.{◌≡◌, ◌||◌, length}
 use Rattle.server_trait.specs.Service.{Machine}
-use Rattle.tcp_rules.specs.Profile.{plain}
-use Rattle.ft_model.specs.Profiled.{HasProfile}
-use Rattle.ft_model.specs.Point.{Point, taken_units, advertised_edge}
+use Rattle.ft_model.specs.Point.{Point, taken_units, advertised_edge, acknowledgement, window}
 use Rattle.ft_model.specs.News.{News}
-use Rattle.ft_model.specs.Sending.{is_third_duplicate}
+use Rattle.ft_model.specs.Sending.{resends}
 use Rattle.ft_model.specs.Timer.{expires, probes}
-use Rattle.ft_model.specs.PendingAck.{asks}
+use Rattle.ft_model.specs.PendingAck.{asks, is_segment}
 use Rattle.ft_model.specs.Segments.{opens_with}
 use Rattle.ft_model.specs.ResetAndEnd.{reset_after}
 use Rattle.plain_point.specs.Turn.{timer_of}
@@ -27,7 +25,10 @@ pub record IsBefore {State : Type 0} (service : Machine State) (news : News) (p 
   pub syn_acked : before.syn_acked ≡ p.syn_acked
   pub asks : before.asks ≡ asks service news p
   pub opens : before.opens ≡ opens_with news p
-  pub resends : before.resends ≡ (expires news p || is_third_duplicate news p)
+  pub resends : before.resends ≡ (expires news p || resends news p)
   pub probes : before.probes ≡ probes news p
   pub reset : before.reset ≡ reset_after news p
-  pub profile : HasProfile plain p
+  pub arrives : before.arrives ≡ is_segment news
+  pub delays : before.delays ≡ p.delays
+  pub acknowledged : before.acknowledged ≡ acknowledgement p
+  pub window : before.window ≡ window p

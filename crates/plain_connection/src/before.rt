@@ -39,18 +39,26 @@ pub(crate) struct Before {
     pub(crate) asks: bool,
     /// Whether the SYN-ACK answers the news.
     pub(crate) opens: bool,
-    /// Whether a retransmission or a probe is due: the timer expires, or a duplicate acknowledgement is the third in a row.
+    /// Whether a retransmission or a probe is due: the timer expires, or an acknowledgement shows a loss.
     pub(crate) resends: bool,
     /// Whether a probe is sent past the edge.
     pub(crate) probes: bool,
     /// Whether the client resets the connection, or has reset it already.
     pub(crate) reset: bool,
+    /// Whether the news is a segment.
+    pub(crate) arrives: bool,
+    /// Whether the ACK of text that isn't logged yet waits for the log.
+    pub(crate) delays: bool,
+    /// How many units were acknowledged.
+    pub(crate) acknowledged: u64,
+    /// The window that was advertised.
+    pub(crate) window: u16,
 }
 
 impl<S: Service> PlainConnection<S> {
     ghost use Rattle.ft_model.specs.Point.{is_over as over_lem};
     ghost use Rattle.ft_model.specs.Timer.{expires, probes as probes_lem};
-    ghost use Rattle.ft_model.specs.Sending.{is_third_duplicate};
+    ghost use Rattle.ft_model.specs.Sending.{resends as resends_lem};
     ghost use Rattle.ft_model.specs.PendingAck.{asks as asks_lem};
     ghost use Rattle.ft_model.specs.Segments.{opens_with};
     ghost use Rattle.ft_model.specs.ResetAndEnd.{reset_after};
@@ -88,13 +96,13 @@ impl<S: Service> PlainConnection<S> {
         }
     }
 
-    /// Returns whether a retransmission or a probe is due: the timer expires, or a duplicate acknowledgement is the third in a row.
-    #[tactic(auto, unfolding(ft_model::specs::Sending::is_third_duplicate))]
+    /// Returns whether a retransmission or a probe is due: the timer expires, or an acknowledgement shows a loss.
+    #[tactic(auto, unfolding(ft_model::specs::Sending::is_third_duplicate, ft_model::specs::Sending::is_partial_ack))]
     fn resends(&self, news: &News<'_>) -> bool
-        ensures { result ≡ (expires (news_in news.now) self.now.point || is_third_duplicate (news_in news.now) self.now.point) }
+        ensures { result ≡ (expires (news_in news.now) self.now.point || resends_lem (news_in news.now) self.now.point) }
     {
         match news {
-            News::Segment(segment) => self.point.is_third_duplicate(segment),
+            News::Segment(segment) => self.point.resends(segment),
             News::Tick => self.point.expires_at_tick(),
             News::Logged(_) | News::Begins => false,
         }
@@ -127,7 +135,6 @@ impl<S: Service> PlainConnection<S> {
         ensures value { IsBefore (machine (S.started self.now.kind) S.after) (news_in news.now) self.now.point result }
         ensures within { result.taken ≤ 2 ^ 63 }
     {
-        self.point.is_plain();
         Before {
             answered: self.point.answered(),
             units: self.point.taken_units(),
@@ -144,6 +151,10 @@ impl<S: Service> PlainConnection<S> {
             resends: self.resends(news),
             probes: self.probes(news),
             reset: self.resets(news),
+            arrives: news.is_segment(),
+            delays: self.point.delays(),
+            acknowledged: self.point.acknowledgement(),
+            window: self.point.window(),
         }
     }
 }

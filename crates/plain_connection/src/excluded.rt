@@ -12,9 +12,11 @@ use crate::before::Before;
 use crate::connection::PlainConnection;
 use crate::news::News;
 use ft_io::NoMemory;
+use logger_wire::Numbers;
 use plain_log::PlainFetched;
 use server_trait::Service;
 use std::alloc::Global;
+use tcp_rules::Profile;
 
 /// A service doesn't read while any of its output isn't released: the contract of `PlainConnection::next_read`.
 #[tactic(auto, unfolding(ft_model::specs::Reads::may_read))]
@@ -46,7 +48,31 @@ fn bounds_without_the_closing_unit<S: Service>(
     requires closed { (run_of (machine (S.started kind) S.after) (entry_in entry)).closed ≡ true }
     ensures { IfOk result (λ c. made (machine (S.started kind) S.after) c.point < c.point.fetched_output) }
 {
-    PlainConnection::resumed(alloc, kind, entry)
+    PlainConnection::resumed(alloc, Profile::Plain, kind, entry)
+}
+
+/// A restart measures round trips anew: the clause `point` of `PlainConnection::resumed`.
+fn keeps_the_interval_at_a_restart<S: Service>(
+    alloc: Global,
+    kind: u8,
+    entry: PlainFetched,
+) -> Result<PlainConnection<S>, NoMemory>
+    requires whole { is_whole entry ≡ true }
+    requires live { entry.head.done ≡ false }
+    ensures { IfOk result (λ c. c.point.timing.base ≡ 10) }
+{
+    PlainConnection::resumed(alloc, Profile::Wan, kind, entry)
+}
+
+/// No ACK of the plain profile waits for the log: the clause `point` of `PlainConnection::opened`.
+fn delays_in_the_plain_profile<S: Service>(
+    alloc: Global,
+    kind: u8,
+    numbers: &Numbers,
+) -> Result<PlainConnection<S>, NoMemory>
+    ensures { IfOk result (λ c. c.point.delays ≡ false) }
+{
+    PlainConnection::opened(alloc, Profile::Plain, kind, numbers)
 }
 
 /// Nothing new is sent past the client's right edge or the congestion window: the clause `value` of `PlainConnection::sent_at_once`.

@@ -1,6 +1,7 @@
 //! What happens to one live connection in a turn of the server.
 
 ghost use Rattle.std.specs.Prelude.{◌≡◌};
+ghost use Rattle.ft_model.specs.PendingAck.{is_segment};
 ghost use Rattle.ft_model.specs.Timer.{is_tick};
 ghost use Rattle.plain_connection.specs.News.{news_in};
 
@@ -21,6 +22,16 @@ pub enum News<'a> {
 }
 
 impl News<'_> {
+    /// Returns whether it is a segment.
+    pub(crate) fn is_segment(&self) -> bool
+        ensures { result ≡ is_segment (news_in self.now) }
+    {
+        match self {
+            News::Segment(_) => true,
+            News::Logged(_) | News::Tick | News::Begins => false,
+        }
+    }
+
     /// Returns whether it is a tick.
     pub(crate) fn is_tick(&self) -> bool
         ensures { result ≡ is_tick (news_in self.now) }

@@ -3,7 +3,7 @@
 ghost use Rattle.std.specs.Prelude.{◌≡◌, ◌≤◌, [], true, false, IfOk, OnOk, nat_le, sum, length};
 ghost use Rattle.std.specs.List.{list_all};
 ghost use Rattle.server_trait.specs.Service.{machine};
-ghost use Rattle.tcp_rules.specs.Profile.{plain};
+ghost use Rattle.tcp_rules.specs.Profiles.{profile_of};
 ghost use Rattle.ft_model.specs.Opening.{point_opened};
 ghost use Rattle.ft_model.specs.Restart.{entry_in, point_of, is_whole};
 ghost use Rattle.logger_wire.specs.Records.{numbers_said};
@@ -17,21 +17,23 @@ use plain_log::{EntryParts, PlainFetched};
 use plain_point::PlainPoint;
 use server_trait::Service;
 use std::alloc::Global;
+use tcp_rules::Profile;
 
 impl<S: Service> PlainConnection<S> {
-    /// Creates a connection with these numbers, for a service of this kind.
+    /// Creates a connection with these numbers, in a profile and for a service of this kind.
     pub fn opened(
         alloc: Global,
+        profile: Profile,
         kind: u8,
         numbers: &Numbers,
     ) -> Result<PlainConnection<S>, NoMemory>
-        ensures point { IfOk result (λ c. c.point ≡ point_opened plain (numbers_said numbers.now)) }
+        ensures point { IfOk result (λ c. c.point ≡ point_opened (profile_of profile) (numbers_said numbers.now)) }
         ensures kind { IfOk result (λ c. c.kind ≡ kind) }
         ensures served { IfOk result (λ c. IsServed (machine (S.started kind) S.after) c) }
     {
         Ok(PlainConnection {
             kind,
-            point: PlainPoint::opened(alloc, numbers),
+            point: PlainPoint::opened(alloc, profile, numbers),
             made: Made::new(alloc, kind)?,
         })
     }
@@ -52,16 +54,17 @@ impl<S: Service> PlainConnection<S> {
         Ok(())
     }
 
-    /// Restores a connection from a whole entry of the log that isn't done. The service makes its reads again. The output continues after what the client
-    /// acknowledged, and an earlier incarnation may have sent all of it.
+    /// Restores a connection in a profile, from a whole entry of the log that isn't done. The service makes its reads again. The output continues after what
+    /// the client acknowledged, and an earlier incarnation may have sent all of it.
     pub fn resumed(
         alloc: Global,
+        profile: Profile,
         kind: u8,
         entry: PlainFetched,
     ) -> Result<PlainConnection<S>, NoMemory>
         requires whole { is_whole entry ≡ true }
         requires live { entry.head.done ≡ false }
-        ensures point { IfOk result (λ c. c.point ≡ point_of (machine (S.started kind) S.after) plain (entry_in entry)) }
+        ensures point { IfOk result (λ c. c.point ≡ point_of (machine (S.started kind) S.after) (profile_of profile) (entry_in entry)) }
         ensures kind { IfOk result (λ c. c.kind ≡ kind) }
         ensures served { IfOk result (λ c. IsServed (machine (S.started kind) S.after) c) }
     {
@@ -78,7 +81,7 @@ impl<S: Service> PlainConnection<S> {
         };
         let mut connection = PlainConnection {
             kind,
-            point: PlainPoint::fetched(alloc, &numbers, bytes, head.fin),
+            point: PlainPoint::fetched(alloc, profile, &numbers, bytes, head.fin),
             made: Made::new(alloc, kind)?,
         };
         connection.read_again(&lengths)?;

@@ -10,7 +10,7 @@ ghost use Rattle.ft_model.specs.Point.{Point};
 ghost use Rattle.plain_packets.specs.Sent.{Appends};
 ghost use Rattle.plain_connection.specs.State.{IsServed};
 ghost use Rattle.plain_connection.specs.Before.{IsBefore};
-ghost use Rattle.plain_connection.specs.Since.{Sends, having_sent, syn_acks_since, resent_since, full_segments_since, is_ack_pending_since};
+ghost use Rattle.plain_connection.specs.Since.{Sends, having_sent, syn_acks_since, resent_since, full_segments_since, is_delayed_since, is_ack_due_since, is_ack_pending_since};
 
 use crate::before::Before;
 use crate::connection::PlainConnection;
@@ -245,9 +245,23 @@ impl<S: Service> PlainConnection<S> {
         self.send_fin_if_closed(alloc, server, sent)
     }
 
-    /// Returns whether an ACK is pending: the news requires a segment, more is known to be logged, or RCV.NXT or the advertised right edge has changed.
-    fn is_ack_pending(&self, before: &Before) -> bool
-        ensures { result ≡ is_ack_pending_since before.now self.now.point }
+    /// Returns whether the ACK of what is taken waits for the log: nothing is held after a gap, and the ACK would repeat the last acknowledgement and the last
+    /// window.
+    fn is_delayed(&self, before: &Before) -> bool
+        ensures { result ≡ is_delayed_since before.now self.now.point }
+    {
+        before.delays
+            && before.arrives
+            && before.units < self.point.taken_units()
+            && self.point.holds_no_text()
+            && self.point.holds_no_fin()
+            && before.acknowledged == self.point.acknowledgement()
+            && before.window == self.point.window()
+    }
+
+    /// Returns whether an ACK is due: the news requires a segment, more is known to be logged, or RCV.NXT or the advertised right edge has changed.
+    fn is_ack_due(&self, before: &Before) -> bool
+        ensures { result ≡ is_ack_due_since before.now self.now.point }
     {
         before.asks
             || before.answered < self.point.answered()
@@ -255,7 +269,14 @@ impl<S: Service> PlainConnection<S> {
             || before.edge != self.point.advertised_edge()
     }
 
-    /// Returns whether a pure ACK is due: an ACK is pending, and no other segment is sent.
+    /// Returns whether an ACK is pending: it is due, and doesn't wait.
+    fn is_ack_pending(&self, before: &Before) -> bool
+        ensures { result ≡ is_ack_pending_since before.now self.now.point }
+    {
+        !self.is_delayed(before) && self.is_ack_due(before)
+    }
+
+    /// Returns whether a pure ACK is sent: an ACK is pending, and no other segment is sent.
     fn is_bare_due(&self, any: bool, before: &Before) -> bool
         ensures { result ≡ (not any && is_ack_pending_since before.now self.now.point) }
     {

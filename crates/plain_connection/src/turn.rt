@@ -35,7 +35,7 @@ impl<S: Service> PlainConnection<S> {
     ghost use Rattle.ft_model.specs.Sending.{sent_after as sent_lem};
 
     /// Notes what the news brings, before the service reads. After `NoMemory` the connection may only be dropped.
-    #[tactic(auto, unfolding(ft_model::specs::Taken::taken_after, ft_model::specs::Taken::early_after, ft_model::specs::Taken::fin_after, ft_model::specs::Answered::answered_after, ft_model::specs::Answered::reads_answered_after, ft_model::specs::Sending::syn_acked_after, ft_model::specs::Sending::acknowledged_after, ft_model::specs::Sending::edge_after, ft_model::specs::Sending::wl1_after, ft_model::specs::Sending::wl2_after, ft_model::specs::Sending::congestion_after))]
+    #[tactic(auto, unfolding(ft_model::specs::Taken::taken_after, ft_model::specs::Taken::early_after, ft_model::specs::Taken::fin_after, ft_model::specs::Answered::answered_after, ft_model::specs::Answered::reads_answered_after, ft_model::specs::Sending::syn_acked_after, ft_model::specs::Sending::acknowledged_after, ft_model::specs::Sending::edge_after, ft_model::specs::Sending::wl1_after, ft_model::specs::Sending::wl2_after, ft_model::specs::Sending::congestion_after, ft_model::specs::Timer::timing_noted))]
     fn note(&mut self, alloc: Global, news: &News<'_>) -> Result<(), NoMemory>
         ensures kind { self.new.kind ≡ self.old.kind }
         ensures noted { OnOk result (self.new ≡ record self.old { point = noted (news_in news.now) self.old.point }) }
@@ -78,7 +78,8 @@ impl<S: Service> PlainConnection<S> {
         }
     }
 
-    /// Settles what is sent, the timer and the end ticks, once the service has read on. After `NoMemory` the connection may only be dropped.
+    /// Settles what is sent, the measurement of a round trip, the timer and the end ticks, once the service has read on. After `NoMemory` the connection may
+    /// only be dropped.
     fn settle(&mut self, news: &News<'_>, before: &Before) -> Result<(), NoMemory>
         requires { IsServed (machine (S.started self.old.kind) S.after) self.old }
         ensures kind { self.new.kind ≡ self.old.kind }
@@ -86,7 +87,9 @@ impl<S: Service> PlainConnection<S> {
             → OnOk result (self.new ≡ record self.old { point = settled_since (machine (S.started self.old.kind) S.after) (news_in news.now) p self.old.point }) }
     {
         let sent = self.sent_after(before)?;
+        let at_once = self.sent_at_once(before);
         let (target, ends) = (self.target(), self.is_end_tick(news));
+        self.point.time_sent(before.sent, at_once);
         self.point.set_sent(sent);
         let must_run = self.point.must_run(target);
         self.point.set_timer(before.timer, news.is_tick(), must_run);
@@ -132,7 +135,7 @@ impl<S: Service> PlainConnection<S> {
     }
 
     /// Takes the news of a connection that its client resets, or has reset: it only notes what is logged.
-    #[tactic(auto, unfolding(ft_model::specs::Taken::taken_after, ft_model::specs::Taken::early_after, ft_model::specs::Taken::fin_after, ft_model::specs::Answered::answered_after, ft_model::specs::Answered::reads_answered_after, ft_model::specs::Sending::syn_acked_after, ft_model::specs::Sending::acknowledged_after, ft_model::specs::Sending::edge_after, ft_model::specs::Sending::wl1_after, ft_model::specs::Sending::wl2_after, ft_model::specs::Sending::congestion_after))]
+    #[tactic(auto, unfolding(ft_model::specs::Taken::taken_after, ft_model::specs::Taken::early_after, ft_model::specs::Taken::fin_after, ft_model::specs::Answered::answered_after, ft_model::specs::Answered::reads_answered_after, ft_model::specs::Sending::syn_acked_after, ft_model::specs::Sending::acknowledged_after, ft_model::specs::Sending::edge_after, ft_model::specs::Sending::wl1_after, ft_model::specs::Sending::wl2_after, ft_model::specs::Sending::congestion_after, ft_model::specs::Timer::timing_noted))]
     fn note_reset(&mut self, news: &News<'_>)
         ensures { self.new ≡ record self.old { point = reset_noted (news_in news.now) self.old.point } }
     {

@@ -1,6 +1,6 @@
 //! Out-of-order data: text after a gap, and a FIN.
 
-ghost use Rattle.std.specs.Prelude.{◌≡◌, OnOk};
+ghost use Rattle.std.specs.Prelude.{◌≡◌, ◌==◌, OnOk, is_none, length};
 ghost use Rattle.tcp_rules.specs.Coming.{nothing_early, text_edge as edge_lem};
 
 use crate::places::{lay, run_count};
@@ -38,6 +38,20 @@ impl Held {
             text: Vec::new(alloc),
             fin: None,
         }
+    }
+
+    /// Returns whether no text is held.
+    pub fn has_no_text(&self) -> bool
+        ensures { result ≡ (length self.now.text == 0) }
+    {
+        self.text.is_empty()
+    }
+
+    /// Returns whether no FIN is held.
+    pub fn has_no_fin(&self) -> bool
+        ensures { result ≡ is_none self.now.fin }
+    {
+        self.fin.is_none()
     }
 
     /// Returns the offset below which text counts: the receive edge, or an earlier FIN that is held or taken.

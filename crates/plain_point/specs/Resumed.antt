@@ -1,14 +1,14 @@
 -- The point of an entry of the log, before its reads are made again and after.
 use Rattle.std.specs.Prelude.{ℕ, Bool, true, pos, ◌+◌, List, length}
 use Rattle.seq_arith.specs.Message.{Numbers}
-use Rattle.tcp_rules.specs.Profile.{plain}
+use Rattle.tcp_rules.specs.Profile.{Profile}
 use Rattle.ft_model.specs.Offset.{one_if}
 use Rattle.ft_model.specs.Opening.{point_opened}
 use Rattle.ft_model.specs.Point.{Point}
 
 -- all of the entry is taken and known to be logged, nothing is read, and one acknowledgement has counted
-abbrev pub point_fetched : Numbers → List ℕ → Bool → Point
-point_fetched numbers bytes fin = record (point_opened plain numbers) {
+abbrev pub point_fetched : Profile → Numbers → List ℕ → Bool → Point
+point_fetched profile numbers bytes fin = record (point_opened profile numbers) {
   fetched = length bytes;
   taken = bytes;
   fin = fin;

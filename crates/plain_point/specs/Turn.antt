@@ -1,14 +1,20 @@
 -- What the news of a turn changes at once, before the service reads, and what a turn compares with the point before it.
 use Rattle.limits.specs.Limits.{buffer_size, longest_stream}
 use Rattle.std.specs.Prelude.{◌≡◌, ℕ, Bool, ◌+◌, ◌-◌, ◌*◌, ◌^◌, ◌==◌, ◌&&◌, ◌||◌, not, nat_lt, nat_le, min, length, if◌then◌else◌}
+use Rattle.tcp_rules.specs.Timing.{Timing, with_sent}
 use Rattle.ft_model.specs.News.{News}
 use Rattle.ft_model.specs.Point.{Point}
 use Rattle.ft_model.specs.Taken.{taken_after, early_after, fin_after}
 use Rattle.ft_model.specs.Answered.{answered_after, reads_answered_after}
-use Rattle.ft_model.specs.Sending.{syn_acked_after, acknowledged_after, edge_after, wl1_after, wl2_after, congestion_after}
+use Rattle.ft_model.specs.Sending.{syn_acked_after, acknowledged_after, edge_after, wl1_after, wl2_after, congestion_after, resends}
+use Rattle.ft_model.specs.Timer.{timing_noted}
 use Rattle.plain_point.specs.declared.sending.Sending.{Sending}
 use Rattle.plain_point.specs.declared.ending.Timer.{Timer}
-use Rattle.plain_point.specs.Values.{congestion_in}
+use Rattle.plain_point.specs.Values.{congestion_in, timing_in}
+
+-- the estimate of the round-trip time after the news, before anything is sent
+abbrev pub timing_by : News → Point → Timing
+timing_by news p = timing_noted news (resends news p) p (acknowledged_after news p)
 
 abbrev pub noted : News → Point → Point
 noted news p = record p {
@@ -23,6 +29,7 @@ noted news p = record p {
   wl2 = wl2_after news p;
   congestion = congestion_after news p;
   syn_acked = syn_acked_after news p;
+  timing = timing_by news p;
 }
 
 -- what the sender knows after the news
@@ -33,6 +40,7 @@ pub record IsSendingAfter (news : News) (p : Point) (sending : Sending) : Type 0
   pub wl2 : sending.wl2 ≡ wl2_after news p
   pub congestion : congestion_in sending.congestion ≡ congestion_after news p
   pub syn_acked : sending.syn_acked ≡ syn_acked_after news p
+  pub timing : timing_in sending.timing ≡ timing_by news p
 
 -- whether the service may read on, after all its reads have made `made` bytes of output, and the answered ones `released` bytes
 abbrev pub may_read_at : (made released : ℕ) → Point → Bool
@@ -57,3 +65,7 @@ rest_since must_run ticks timer p =
     if must_run
     then (if is_set_anew_since timer p || expires_since ticks timer then interval_since ticks timer p else (if ticks then timer.rest - 1 else timer.rest))
     else 0
+
+-- the estimate of the round-trip time after a turn in which SND.NXT rises from `sent` to `at_once`, not counting a probe: the first new unit is timed
+abbrev pub timing_since : (sent at_once : ℕ) → Point → Timing
+timing_since sent at_once p = if nat_lt sent at_once then with_sent (sent + 1 - p.una) p.timing else p.timing

@@ -3,9 +3,7 @@
 ghost use Rattle.std.specs.Prelude.{◌≡◌, ◌+◌, min, if◌then◌else◌};
 
 use crate::point::PlainPoint;
-
-/// The longest interval of the timer, in ticks.
-const LONGEST_INTERVAL: u64 = 64;
+use crate::timing::LONGEST_INTERVAL;
 
 /// The number of end ticks that are counted.
 const END_TICKS: u64 = 4;
@@ -20,7 +18,7 @@ pub struct Timer {
 }
 
 impl PlainPoint {
-    ghost use Rattle.plain_point.specs.Turn.{timer_of, is_set_anew_since, interval_since, rest_since};
+    ghost use Rattle.plain_point.specs.Turn.{timer_of, is_set_anew_since, interval_since, rest_since, timing_since};
 
     /// Returns the timer before a turn.
     pub fn timer(&self) -> Timer
@@ -41,20 +39,12 @@ impl PlainPoint {
         timer.rest == 0 || timer.una < self.una || (self.syn_acked && !timer.syn_acked)
     }
 
-    /// Returns the interval with which the timer starts: one tick, since no round trip is measured.
-    fn first_interval(&self) -> u64
-        ensures { result ≡ self.now.timing.base }
-    {
-        let _interval = self.interval;
-        1
-    }
-
-    /// Returns the interval after a turn: the first one if the timer is restarted. At an expiry it is doubled, up to 64 ticks.
+    /// Returns the interval after a turn: the estimate's if the timer is restarted. At an expiry it is doubled, up to 64 ticks.
     fn interval_after(&self, timer: Timer, ticks: bool) -> u64
         ensures { result ≡ interval_since ticks timer self.now }
     {
         if self.is_set_anew(timer) {
-            self.first_interval()
+            self.timing.base
         } else if ticks && timer.rest == 1 {
             timer.interval.saturating_mul(2).min(LONGEST_INTERVAL)
         } else {
@@ -74,6 +64,16 @@ impl PlainPoint {
             return self.interval_after(timer, ticks);
         }
         timer.rest.saturating_sub(u64::from(ticks))
+    }
+
+    /// Times the first unit that is sent for the first time, if no unit is timed: SND.NXT rises from `sent` to `at_once`, not counting a probe.
+    pub fn time_sent(&mut self, sent: u64, at_once: u64)
+        ensures { self.new ≡ record self.old { timing = timing_since sent at_once self.old } }
+    {
+        if sent < at_once {
+            let ahead = (sent + 1).saturating_sub(self.una);
+            self.timing = self.timing.with_sent(ahead);
+        }
     }
 
     /// Sets the timer after a turn. `must_run` says whether it must run.

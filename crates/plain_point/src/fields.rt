@@ -1,15 +1,12 @@
 //! Read access to the point's fields.
 
-ghost use Rattle.std.specs.Prelude.{◌≡◌, ◌≤◌, ◌^◌, length};
-ghost use Rattle.segment_codec.specs.Value.{segment_of};
+ghost use Rattle.std.specs.Prelude.{◌≡◌, ◌≤◌, ◌==◌, ◌^◌, is_none, length};
 
 use crate::point::PlainPoint;
 use ft_io::Key;
-use segment_codec::PacketRef;
 
 impl PlainPoint {
-    ghost use Rattle.ft_model.specs.News.News.{Comes, Ticks};
-    ghost use Rattle.ft_model.specs.Sending.{is_third_duplicate as third_lem};
+    ghost use Rattle.ft_model.specs.News.News.{Ticks};
     ghost use Rattle.ft_model.specs.Timer.{expires, probes};
 
     /// Returns the client's address and port.
@@ -83,6 +80,27 @@ impl PlainPoint {
         self.syn_acked
     }
 
+    /// Returns whether the ACK of text that isn't logged yet waits for the log.
+    pub fn delays(&self) -> bool
+        ensures { result ≡ self.now.delays }
+    {
+        self.delays
+    }
+
+    /// Returns whether no text is held after a gap.
+    pub fn holds_no_text(&self) -> bool
+        ensures { result ≡ (length self.now.early.text == 0) }
+    {
+        self.held.has_no_text()
+    }
+
+    /// Returns whether no FIN is held after a gap.
+    pub fn holds_no_fin(&self) -> bool
+        ensures { result ≡ is_none self.now.early.fin }
+    {
+        self.held.has_no_fin()
+    }
+
     /// Returns the number of end ticks so far, up to four.
     pub fn end_ticks(&self) -> u64
         ensures { result ≡ self.now.end_ticks }
@@ -109,13 +127,5 @@ impl PlainPoint {
         ensures { result ≡ probes Ticks self.now }
     {
         self.expires_at_tick() && self.syn_acked && self.una >= self.sent
-    }
-
-    /// Returns whether a segment is the third duplicate acknowledgement in a row.
-    #[tactic(auto, unfolding(ft_model::specs::Sending::is_third_duplicate))]
-    pub fn is_third_duplicate(&self, segment: &PacketRef<'_>) -> bool
-        ensures { result ≡ third_lem (Comes (segment_of segment.now)) self.now }
-    {
-        self.is_duplicate(segment) && self.congestion.is_third()
     }
 }

@@ -7,6 +7,7 @@ pub use copying::Data;
 pub use ending::Timer;
 pub use point::PlainPoint;
 pub use sending::Sending;
+pub use timing::Timing;
 
 mod arriving;
 mod congestion;
@@ -21,3 +22,4 @@ mod segments;
 mod sending;
 mod settings;
 mod telling;
+mod timing;

@@ -6,11 +6,11 @@ ghost use Rattle.logger_wire.specs.Records.{numbers_said};
 
 use crate::congestion::Window;
 use crate::timing::Timing;
-use limits::{BUFFER, STREAM};
 use logger_wire::Numbers;
 use plain_packets::Held;
 use std::alloc::Global;
 use std::marker::Model;
+use tcp_rules::Profile;
 
 /// The point of a live connection. Counts are of bytes or units from the beginning of a stream.
 #[derive(Drop)]
@@ -46,6 +46,10 @@ pub struct PlainPoint {
     pub(crate) congestion: Window,
     /// Whether the SYN is acknowledged.
     pub(crate) syn_acked: bool,
+    /// The estimate of the round-trip time.
+    pub(crate) timing: Timing,
+    /// Whether the ACK of text that isn't logged yet waits for the log.
+    pub(crate) delays: bool,
     /// The timer's interval, in ticks.
     pub(crate) interval: u64,
     /// The ticks until the timer expires; 0 while it doesn't run.
@@ -61,11 +65,10 @@ pub struct PlainPoint {
 }
 
 impl Model for PlainPoint {
-    ghost use Rattle.std.specs.Prelude.{◌≡◌, ◌≤◌, ◌==◌, ◌^◌, false, length, sum};
+    ghost use Rattle.std.specs.Prelude.{◌≡◌, ◌≤◌, ◌==◌, ◌^◌, length, sum};
     ghost use Rattle.std.specs.List.{list_any};
-    ghost use Rattle.tcp_rules.specs.Timing.{initial_timing};
     ghost use Rattle.ft_model.specs.Point.{Point};
-    ghost use Rattle.plain_point.specs.Values.{congestion_in};
+    ghost use Rattle.plain_point.specs.Values.{congestion_in, timing_in};
 
     ghost Value = { Point };
 
@@ -89,8 +92,8 @@ impl Model for PlainPoint {
       wl2 = p.wl2;
       congestion = congestion_in p.congestion;
       syn_acked = p.syn_acked;
-      timing = initial_timing false;
-      delays = false;
+      timing = timing_in p.timing;
+      delays = p.delays;
       interval = p.interval;
       rest = p.rest;
       end_ticks = p.end_ticks;
@@ -104,13 +107,13 @@ impl Model for PlainPoint {
 impl PlainPoint {
     ghost use Rattle.ft_model.specs.Point.{taken_units as units_lem, acknowledgement as acknowledgement_lem, receive_edge as edge_lem, advertised_edge as advertised_lem, room as room_lem, window as window_lem};
     ghost use Rattle.ft_model.specs.Opening.{point_opened};
-    ghost use Rattle.tcp_rules.specs.Profile.{plain};
-    ghost use Rattle.ft_model.specs.Profiled.{HasProfile};
+    ghost use Rattle.tcp_rules.specs.Profiles.{profile_of};
 
     /// Creates the point of a new connection: nothing is taken, and nothing may be sent yet. Allocates nothing.
-    pub fn opened(alloc: Global, numbers: &Numbers) -> PlainPoint
-        ensures { result ≡ point_opened plain (numbers_said numbers.now) }
+    pub fn opened(alloc: Global, profile: Profile, numbers: &Numbers) -> PlainPoint
+        ensures { result ≡ point_opened (profile_of profile) (numbers_said numbers.now) }
     {
+        let timing = Timing::initial(profile.measures());
         PlainPoint {
             numbers: *numbers,
             fetched: 0,
@@ -126,22 +129,17 @@ impl PlainPoint {
             edge: 0,
             wl1: 0,
             wl2: 0,
-            congestion: Window::initial(numbers.mss),
+            congestion: Window::initial(profile.measures(), numbers.mss),
             syn_acked: false,
-            interval: 1,
+            timing,
+            delays: profile.delays(),
+            interval: timing.base,
             rest: 0,
             end_ticks: 0,
             reset: false,
             read: 0,
             closed: false,
         }
-    }
-
-    /// A fact for proofs: the point is one of a plain server.
-    pub fn is_plain(&self)
-        ensures { HasProfile plain self.now }
-    {
-        let _congestion = self.congestion;
     }
 
     /// Returns RCV.NXT as a number of units: those taken.

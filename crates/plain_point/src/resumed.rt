@@ -2,18 +2,26 @@
 
 ghost use Rattle.std.specs.Prelude.{◌≡◌, ◌≤◌, ◌^◌, length};
 ghost use Rattle.logger_wire.specs.Records.{numbers_said};
+ghost use Rattle.tcp_rules.specs.Profiles.{profile_of};
 ghost use Rattle.plain_point.specs.Resumed.{point_fetched, with_output_from};
 
 use crate::point::PlainPoint;
 use logger_wire::Numbers;
 use std::alloc::Global;
+use tcp_rules::Profile;
 
 impl PlainPoint {
     /// Creates the point of a connection whose logged bytes and FIN are taken and known to be logged. One acknowledgement has counted, with window 0.
     /// Nothing is read yet. Allocates nothing.
-    pub fn fetched(alloc: Global, numbers: &Numbers, bytes: Vec<u8>, fin: bool) -> PlainPoint
+    pub fn fetched(
+        alloc: Global,
+        profile: Profile,
+        numbers: &Numbers,
+        bytes: Vec<u8>,
+        fin: bool,
+    ) -> PlainPoint
         requires { length bytes.items ≤ 2 ^ 32 }
-        ensures { result ≡ point_fetched (numbers_said numbers.now) bytes.items fin }
+        ensures { result ≡ point_fetched (profile_of profile) (numbers_said numbers.now) bytes.items fin }
     {
         let len = bytes.len() as u64;
         PlainPoint {
@@ -23,7 +31,7 @@ impl PlainPoint {
             answered: len + u64::from(fin),
             wl1: len as i64,
             syn_acked: true,
-            ..PlainPoint::opened(alloc, numbers)
+            ..PlainPoint::opened(alloc, profile, numbers)
         }
     }
 

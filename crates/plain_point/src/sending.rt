@@ -1,17 +1,20 @@
-//! The law Sending: the effect of an acknowledgement (RFC 9293, 3.10.7.4, fifth check; RFC 5681, 2 and 3). All is computed from the point before the turn.
+//! The law Sending: the effect of an acknowledgement (RFC 9293, 3.10.7.4, fifth check; RFC 5681, 2 and 3; RFC 6298). All is computed from the point before the
+//! turn.
 
 ghost use Rattle.std.specs.Prelude.{◌≡◌, ◌<◌, ◌≤◌, ◌-◌, ◌^◌, OnOk, IfSome, nat_lt};
 ghost use Rattle.segment_codec.specs.Value.{segment_of};
-ghost use Rattle.plain_point.specs.Values.{congestion_in};
+ghost use Rattle.plain_point.specs.Values.{congestion_in, timing_in};
 
 use crate::congestion::Window;
 use crate::point::PlainPoint;
+use crate::timing::{LONGEST_INTERVAL, Timing};
 use ft_io::NoMemory;
 use plain_packets::{counted_text, counts_fin};
 use segment_codec::PacketRef;
 use std::alloc::Global;
 
-/// What the sender knows after a turn's news: SND.UNA, the right edge with SND.WL1 and SND.WL2, congestion control, and whether the SYN is acknowledged.
+/// What the sender knows after a turn's news: SND.UNA, the right edge with SND.WL1 and SND.WL2, congestion control, the estimate of the round-trip
+/// time, and whether the SYN is acknowledged.
 #[derive(Clone, Copy)]
 pub struct Sending {
     pub una: u64,
@@ -19,6 +22,7 @@ pub struct Sending {
     pub wl1: i64,
     pub wl2: u64,
     pub congestion: Window,
+    pub timing: Timing,
     pub syn_acked: bool,
 }
 
@@ -34,9 +38,9 @@ pub(crate) struct Acknowledged {
 impl PlainPoint {
     ghost use Rattle.tcp_rules.specs.Arrival.{updates_window as updates_lem};
     ghost use Rattle.ft_model.specs.News.News.{Comes, Ticks};
-    ghost use Rattle.ft_model.specs.Sending.{acknowledges, acknowledges_new, acknowledged_by, moves_edge, is_duplicate as duplicate_lem, is_lost as lost_lem, flight as flight_lem, send_edge as send_edge_lem, acknowledged_after, edge_after, wl1_after, wl2_after, congestion_after};
+    ghost use Rattle.ft_model.specs.Sending.{acknowledges, acknowledges_new, acknowledged_by, moves_edge, is_duplicate as duplicate_lem, is_third_duplicate as third_lem, is_partial_ack as partial_lem, resends as resends_lem, is_lost as lost_lem, is_first_expiry as first_lem, flight as flight_lem, send_edge as send_edge_lem, acknowledged_after, edge_after, wl1_after, wl2_after, congestion_after};
     ghost use Rattle.plain_point.specs.Values.{IsAcknowledged};
-    ghost use Rattle.plain_point.specs.Turn.{noted, IsSendingAfter};
+    ghost use Rattle.plain_point.specs.Turn.{noted, timing_by, IsSendingAfter};
 
     /// Returns the acknowledgement of a segment, if it is used.
     pub(crate) fn acknowledged(&self, segment: &PacketRef<'_>) -> Option<Acknowledged>
@@ -112,6 +116,30 @@ impl PlainPoint {
         }
     }
 
+    /// Returns whether a segment is the third duplicate acknowledgement in a row.
+    #[tactic(auto, unfolding(ft_model::specs::Sending::is_third_duplicate))]
+    fn is_third_duplicate(&self, segment: &PacketRef<'_>) -> bool
+        ensures { result ≡ third_lem (Comes (segment_of segment.now)) self.now }
+    {
+        self.is_duplicate(segment) && self.congestion.is_third()
+    }
+
+    /// Returns whether a segment acknowledges only a part of what was in flight when a loss was noticed.
+    #[tactic(auto, unfolding(ft_model::specs::Sending::is_partial_ack))]
+    fn is_partial_ack(&self, segment: &PacketRef<'_>) -> bool
+        ensures { result ≡ partial_lem (Comes (segment_of segment.now)) self.now }
+    {
+        let units = self.new_units(segment);
+        units > 0 && self.congestion.is_partial(units)
+    }
+
+    /// Returns whether a segment shows a loss, so that something is retransmitted at once.
+    pub fn resends(&self, segment: &PacketRef<'_>) -> bool
+        ensures { result ≡ resends_lem (Comes (segment_of segment.now)) self.now }
+    {
+        self.is_third_duplicate(segment) || self.is_partial_ack(segment)
+    }
+
     /// Returns the state of congestion control after a segment.
     #[tactic(auto, unfolding(ft_model::specs::Sending::congestion_after))]
     fn congestion_after(&self, segment: &PacketRef<'_>) -> Window
@@ -135,6 +163,17 @@ impl PlainPoint {
         self.rest == 1 && self.una < self.sent && self.una < self.edge
     }
 
+    /// Returns whether an expiry of the timer is the first one since its interval was computed.
+    fn is_first_expiry(&self) -> bool
+        ensures { result ≡ first_lem self.now }
+    {
+        if self.timing.measures {
+            !self.timing.backed_off
+        } else {
+            self.interval == 1
+        }
+    }
+
     /// Returns the state of congestion control after a tick.
     #[tactic(auto, unfolding(ft_model::specs::Sending::congestion_after))]
     pub(crate) fn congestion_after_tick(&self) -> Window
@@ -142,7 +181,7 @@ impl PlainPoint {
     {
         if self.is_lost() {
             self.congestion
-                .with_expiry(self.numbers.mss, self.flight(), self.interval == 1)
+                .with_expiry(self.numbers.mss, self.flight(), self.is_first_expiry())
         } else {
             self.congestion
         }
@@ -163,6 +202,33 @@ impl PlainPoint {
         match self.acknowledged(segment) {
             Some(acknowledged) => self.una.max(acknowledged.acked),
             None => self.una,
+        }
+    }
+
+    /// Returns the estimate of the round-trip time after a segment.
+    #[tactic(auto, unfolding(ft_model::specs::Timer::timing_noted))]
+    fn timing_after(&self, segment: &PacketRef<'_>) -> Timing
+        ensures { timing_in result ≡ timing_by (Comes (segment_of segment.now)) self.now }
+    {
+        let units = self.una_after(segment).saturating_sub(self.una);
+        let timing = self.timing.with_acknowledged(units);
+        if self.resends(segment) {
+            timing.without_trip()
+        } else {
+            timing
+        }
+    }
+
+    /// Returns the estimate of the round-trip time after a tick.
+    #[tactic(auto, unfolding(ft_model::specs::Timer::timing_noted))]
+    pub(crate) fn timing_after_tick(&self) -> Timing
+        ensures { timing_in result ≡ timing_by Ticks self.now }
+    {
+        if self.rest == 1 {
+            let doubled = self.interval.saturating_mul(2).min(LONGEST_INTERVAL);
+            self.timing.with_backoff(doubled)
+        } else {
+            self.timing.with_tick()
         }
     }
 
@@ -197,6 +263,7 @@ impl PlainPoint {
             wl1,
             wl2,
             congestion: self.congestion_after(segment),
+            timing: self.timing_after(segment),
             syn_acked: self.syn_acked || self.counts(segment),
         }
     }
@@ -213,6 +280,7 @@ impl PlainPoint {
         self.wl1 = sending.wl1;
         self.wl2 = sending.wl2;
         self.congestion = sending.congestion;
+        self.timing = sending.timing;
         self.syn_acked = sending.syn_acked;
         Ok(())
     }

@@ -3,7 +3,6 @@ use Rattle.std.proofs.Common.{◌≡◌, ◌∙◌, sym, ap, ap₂, subst, refl,
 use Rattle.std.proofs.Math.ListN.{set}
 use Rattle.std.proofs.lemmas.Bool.{leb-false}
 use Rattle.server_trait.specs.Service.{Machine}
-use Rattle.tcp_rules.specs.Profile.{plain}
 use Rattle.ft_model.specs.Client.{Client, Move, move_asked, mover_of, move_of, window_of, refusal_of_move, segment_of, moved}
 use Rattle.ft_model.specs.Client.{Move as moves}
 use Rattle.ft_model.specs.Lawful.{hello}
@@ -36,9 +35,10 @@ pub record Keeps {State : Type 0} (before after : WorldState State) : Type 0 whe
   pub kind : after.kind ≡ before.kind
   pub turns : after.turns ≡ before.turns
   pub server : after.server ≡ before.server
+  pub profile : after.profile ≡ before.profile
 
 pub keeps_all : {State : Type 0} (before after : WorldState State) → after ≡ before → Keeps before after
-keeps_all before after same = record { kind = ap (λ w. w.kind) same; turns = ap (λ w. w.turns) same; server = ap (λ w. w.server) same }
+keeps_all before after same = record { kind = ap (λ w. w.kind) same; turns = ap (λ w. w.turns) same; server = ap (λ w. w.server) same; profile = ap (λ w. w.profile) same }
 
 may_start : (a b : Bool) → (if a then Some why.Up else (if b then Some why.Boot else None)) ≡ None → (a ≡ false) × (b ≡ false)
 may_start true b e = none_is_some why.Up (sym e)
@@ -73,15 +73,19 @@ follows Says before after sent is s = record {
 
 module _ {State : Type 0} where
   -- the world after is that of the actors
-  world_is : (before after : WorldState State) (ps : List Packet) → after.server ≡ before.server → after.boot ≡ before.boot → world_with before.server before.boot ps (actors_of after) ≡ world_of after ps
-  world_is before after ps server boot = ap₂ (λ s b. world_with s b ps (actors_of after)) (sym server) (sym boot)
+  world_is : (before after : WorldState State) (ps : List Packet) → after.server ≡ before.server → after.profile ≡ before.profile → after.boot ≡ before.boot
+      → world_with before.server before.profile before.boot ps (actors_of after) ≡ world_of after ps
+  world_is before after ps server profile boot =
+      ap₂ (λ s b. world_with s before.profile b ps (actors_of after)) (sym server) (sym boot)
+      ∙ ap (λ p. world_with after.server p after.boot ps (actors_of after)) (sym profile)
 
   -- .. and where only the server's state changes
-  only_node : (before after : WorldState State) (ps : List Packet) → after.server ≡ before.server → after.boot ≡ before.boot → after.clients ≡ before.clients → after.log ≡ before.log
-      → world_of after ps ≡ record (world_of before ps) { node = node_of after.node }
-  only_node before after ps server boot clients log =
-      ap₂ (λ s b. let w : World = record { server = s; profile = plain; clients = after.clients; log = after.log; packets = ps; boot = b; node = node_of after.node } in w) server boot
-      ∙ ap₂ (λ c l. let w : World = record { server = before.server; profile = plain; clients = c; log = l; packets = ps; boot = before.boot; node = node_of after.node } in w) clients log
+  only_node : (before after : WorldState State) (ps : List Packet) → after.server ≡ before.server → after.profile ≡ before.profile → after.boot ≡ before.boot → after.clients ≡ before.clients
+      → after.log ≡ before.log → world_of after ps ≡ record (world_of before ps) { node = node_of after.node }
+  only_node before after ps server profile boot clients log =
+      ap (λ p. let w : World = record { server = after.server; profile = p; clients = after.clients; log = after.log; packets = ps; boot = after.boot; node = node_of after.node } in w) profile
+      ∙ ap₂ (λ s b. let w : World = record { server = s; profile = before.profile; clients = after.clients; log = after.log; packets = ps; boot = b; node = node_of after.node } in w) server boot
+      ∙ ap₂ (λ c l. let w : World = record { server = before.server; profile = before.profile; clients = c; log = l; packets = ps; boot = before.boot; node = node_of after.node } in w) clients log
 
 module _ {State : Type 0} (service : ℕ → Machine State) (before after : WorldState State) where
   -- nothing changes where the event isn't allowed
@@ -123,13 +127,13 @@ module _ {State : Type 0} (service : ℕ → Machine State) (before after : Worl
     advances = λ packets of is premises free fits.
         let w : World = world_of before packets in
         let p = named (packet_at packets number) why.Packet free in
-        let s = brings.reaches before.kind before.server before.boot packets p.0 of (wire_named before.packets packets number wire p.0 at is p.1)
+        let s = brings.reaches before.kind before.server before.profile before.boot packets p.0 of (wire_named before.packets packets number wire p.0 at is p.1)
         (all_sent HasWire w p.0 premises.wires (number, p.1)) (passes w premises number p.0 p.1) in
         follows (Advances (service before.kind) (Deliver number) w after) before.packets after.packets sent follow
         (record {
           sent = s.sent;
           lawful = record {
-            happens = (p.0, p.1, subst (Delivered (service before.kind) w p.0 s.sent) (world_is before after (packets ++ s.sent) keeps.server boot) s.lawful);
+            happens = (p.0, p.1, subst (Delivered (service before.kind) w p.0 s.sent) (world_is before after (packets ++ s.sent) keeps.server keeps.profile boot) s.lawful);
             scripted = quiet_event w (Deliver number) s.sent (world_of after (packets ++ s.sent)) refl;
           };
           packets = s.packets;
@@ -148,13 +152,13 @@ module _ {State : Type 0} (service : ℕ → Machine State) (before after : Worl
     advances = λ packets of is premises free fits.
         let w : World = world_of before packets in
         let p = named_with_bit (packet_at packets number) bit free in
-        let s = brings.reaches before.kind before.server before.boot packets p.0 bit of (wire_named before.packets packets number wire p.0 at is p.1)
+        let s = brings.reaches before.kind before.server before.profile before.boot packets p.0 bit of (wire_named before.packets packets number wire p.0 at is p.1)
         (all_sent HasWire w p.0 premises.wires (number, p.1)) p.2 in
         follows (Advances (service before.kind) (Flip number bit) w after) before.packets after.packets sent follow
         (record {
           sent = s.sent;
           lawful = record {
-            happens = (p.0, p.1, subst (Flipped (service before.kind) w p.0 bit s.sent) (world_is before after (packets ++ s.sent) keeps.server boot) s.lawful);
+            happens = (p.0, p.1, subst (Flipped (service before.kind) w p.0 bit s.sent) (world_is before after (packets ++ s.sent) keeps.server keeps.profile boot) s.lawful);
             scripted = quiet_event w (Flip number bit) s.sent (world_of after (packets ++ s.sent)) refl;
           };
           packets = s.packets;
@@ -176,7 +180,7 @@ module _ {State : Type 0} (service : ℕ → Machine State) (before after : Worl
         record {
           sent = s.sent;
           lawful = record {
-            happens = (is_up (is_some w.node) free, (s.lawful, only_node before after (packets ++ s.sent) keeps.server boot clients log));
+            happens = (is_up (is_some w.node) free, (s.lawful, only_node before after (packets ++ s.sent) keeps.server keeps.profile boot clients log));
             scripted = quiet_event w Tick s.sent (world_of after (packets ++ s.sent)) refl;
           };
           packets = s.packets;
@@ -201,7 +205,7 @@ module _ {State : Type 0} (service : ℕ → Machine State) (before after : Worl
             happens = (
               is_up (is_some w.node) free,
               refl,
-              only_node before after (packets ++ []) keeps.server boot clients log ∙ ap (λ n. let x : World = record w { node = n; packets = packets ++ [] } in x) none,
+              only_node before after (packets ++ []) keeps.server keeps.profile boot clients log ∙ ap (λ n. let x : World = record w { node = n; packets = packets ++ [] } in x) none,
             );
             scripted = quiet_event w Crash [] (world_of after (packets ++ [])) refl;
           };
@@ -211,7 +215,7 @@ module _ {State : Type 0} (service : ℕ → Machine State) (before after : Worl
 
   -- the server starts
   pub starts : (boot isn : ℕ) (n : NodeState State) → Keeps before after → after.boot ≡ boot → after.clients ≡ before.clients → after.log ≡ before.log → after.node ≡ Some n
-      → n.kind ≡ before.kind → node_in n ≡ booted before.server plain boot isn → IsServedNode (service before.kind) n → opened_in n ≡ 0
+      → n.kind ≡ before.kind → node_in n ≡ booted before.server before.profile boot isn → IsServedNode (service before.kind) n → opened_in n ≡ 0
       → Appends before.packets after.packets (hello (node_in n)) → Does service (Boot boot isn) before after
   starts boot isn n keeps now clients log up kind is served none sends = record {
     kind = keeps.kind;
@@ -222,7 +226,7 @@ module _ {State : Type 0} (service : ℕ → Machine State) (before after : Worl
     advances = λ packets of same premises free fits.
         let w : World = world_of before packets in
         let may = may_start (is_some w.node) (nat_le boot before.boot) free in
-        let sent : List Packet = hello (booted before.server plain boot isn) in
+        let sent : List Packet = hello (booted before.server before.profile boot isn) in
         record {
           sent = sent;
           lawful = record {
@@ -238,11 +242,12 @@ module _ {State : Type 0} (service : ℕ → Machine State) (before after : Worl
         };
   }
     where
-      started : (packets sent : List Packet) → world_of after (packets ++ sent) ≡ record (world_of before packets) { boot = boot; node = Some (booted before.server plain boot isn); packets = packets ++ sent }
+      started : (packets sent : List Packet) → world_of after (packets ++ sent) ≡ record (world_of before packets) { boot = boot; node = Some (booted before.server before.profile boot isn); packets = packets ++ sent }
       started packets sent =
-          ap₂ (λ s b. let w : World = record { server = s; profile = plain; clients = after.clients; log = after.log; packets = packets ++ sent; boot = b; node = node_of after.node } in w) keeps.server now
-          ∙ ap₂ (λ c l. let w : World = record { server = before.server; profile = plain; clients = c; log = l; packets = packets ++ sent; boot = boot; node = node_of after.node } in w) clients log
-          ∙ ap (λ m. let w : World = record { server = before.server; profile = plain; clients = before.clients; log = before.log; packets = packets ++ sent; boot = boot; node = m } in w)
+          ap (λ p. let w : World = record { server = after.server; profile = p; clients = after.clients; log = after.log; packets = packets ++ sent; boot = after.boot; node = node_of after.node } in w) keeps.profile
+          ∙ ap₂ (λ s b. let w : World = record { server = s; profile = before.profile; clients = after.clients; log = after.log; packets = packets ++ sent; boot = b; node = node_of after.node } in w) keeps.server now
+          ∙ ap₂ (λ c l. let w : World = record { server = before.server; profile = before.profile; clients = c; log = l; packets = packets ++ sent; boot = boot; node = node_of after.node } in w) clients log
+          ∙ ap (λ m. let w : World = record { server = before.server; profile = before.profile; clients = before.clients; log = before.log; packets = packets ++ sent; boot = boot; node = m } in w)
           (ap node_of up ∙ ap (λ m. Some m) is)
 
 refusal_asked : (w : World) (event : Event) (number : ℕ) → mover_of event ≡ Some number → refusal w event ≡ refusal_of_asked w.clients (move_asked event)
@@ -331,6 +336,7 @@ module _ {State : Type 0} (service : ℕ → Machine State) (before after : Worl
     where
       next : (ps : List Packet) (cs : List Client) → after.clients ≡ cs → world_of after ps ≡ record (world_of before ps) { clients = cs }
       next ps cs e =
-          ap₂ (λ s b. let w : World = record { server = s; profile = plain; clients = after.clients; log = after.log; packets = ps; boot = b; node = node_of after.node } in w) keeps.server boot
-          ∙ ap₂ (λ xs l. let w : World = record { server = before.server; profile = plain; clients = xs; log = l; packets = ps; boot = before.boot; node = node_of after.node } in w) e moves.log
-          ∙ ap (λ n. let w : World = record { server = before.server; profile = plain; clients = cs; log = before.log; packets = ps; boot = before.boot; node = n } in w) (ap node_of moves.node)
+          ap (λ p. let w : World = record { server = after.server; profile = p; clients = after.clients; log = after.log; packets = ps; boot = after.boot; node = node_of after.node } in w) keeps.profile
+          ∙ ap₂ (λ s b. let w : World = record { server = s; profile = before.profile; clients = after.clients; log = after.log; packets = ps; boot = b; node = node_of after.node } in w) keeps.server boot
+          ∙ ap₂ (λ xs l. let w : World = record { server = before.server; profile = before.profile; clients = xs; log = l; packets = ps; boot = before.boot; node = node_of after.node } in w) e moves.log
+          ∙ ap (λ n. let w : World = record { server = before.server; profile = before.profile; clients = cs; log = before.log; packets = ps; boot = before.boot; node = n } in w) (ap node_of moves.node)

@@ -13,7 +13,7 @@ use Rattle.seq_arith.proofs.Spelling.{spelling_is_read}
 use Rattle.seq_arith.proofs.MessageSpelling.{message_is_read}
 use Rattle.seq_arith.proofs.Refused.{flipped_packet_is_refused, flipped_message_is_refused}
 use Rattle.server_trait.specs.Service.{Machine}
-use Rattle.tcp_rules.specs.Profile.{plain}
+use Rattle.tcp_rules.specs.Profile.{Profile}
 use Rattle.ft_model.specs.Client.{Client, received}
 use Rattle.ft_model.specs.Lawful.{fence}
 use Rattle.ft_model.specs.Log.{Log, log_after, answer_to}
@@ -76,10 +76,10 @@ message_read : (wire : Wire) (message m : Message) → messages.reading wire.byt
 message_read wire message m read is can = ok_message message m (sym read ∙ ap messages.reading is ∙ message_is_read m can.0)
 
 -- the world in which only these are other
-others_stay : {State : Type 0} (server : Addr) (boot : ℕ) (ps : List Packet) (before after : ActorsState State) → after.clients ≡ before.clients → after.log ≡ before.log
-    → world_with server boot ps after ≡ record (world_with server boot ps before) { node = node_of after.node }
-others_stay server boot ps before after clients log =
-    ap₂ (λ cs l. let w : World = record { server = server; profile = plain; clients = cs; log = l; packets = ps; boot = boot; node = node_of after.node } in w) clients log
+others_stay : {State : Type 0} (server : Addr) (profile : Profile) (boot : ℕ) (ps : List Packet) (before after : ActorsState State) → after.clients ≡ before.clients → after.log ≡ before.log
+    → world_with server profile boot ps after ≡ record (world_with server profile boot ps before) { node = node_of after.node }
+others_stay server profile boot ps before after clients log =
+    ap₂ (λ cs l. let w : World = record { server = server; profile = profile; clients = cs; log = l; packets = ps; boot = boot; node = node_of after.node } in w) clients log
 
 -- a server that does nothing is as ready as before
 pub stays_ready : {State : Type 0} (service : ℕ → Machine State) (before after : Option (NodeState State)) → after ≡ before → IsServedUp service before → StaysReady service before after
@@ -96,12 +96,12 @@ passed_over service input before n wires is served fences = record {
 
 module _ {State : Type 0} (service : ℕ → Machine State) (wire : Wire) (before after : ActorsState State) (old new : List Wire) where
   -- the server takes its turn on it
-  moves_on : (kind : ℕ) (server : Addr) (boot : ℕ) (packets : List Packet) (input : Input) → after.clients ≡ before.clients → after.log ≡ before.log
+  moves_on : (kind : ℕ) (server : Addr) (profile : Profile) (boot : ℕ) (packets : List Packet) (input : Input) → after.clients ≡ before.clients → after.log ≡ before.log
       → SendsBy (λ sent. ServerTurn (service kind) input (node_of before.node) sent (node_of after.node)) old new
-      → SendsBy (λ sent. ServerMoves (service kind) input (world_with server boot packets before) sent (world_with server boot (packets ++ sent) after)) old new
-  moves_on kind server boot packets input clients log s = record {
+      → SendsBy (λ sent. ServerMoves (service kind) input (world_with server profile boot packets before) sent (world_with server profile boot (packets ++ sent) after)) old new
+  moves_on kind server profile boot packets input clients log s = record {
     sent = s.sent;
-    lawful = (s.lawful, others_stay server boot (packets ++ s.sent) before after clients log);
+    lawful = (s.lawful, others_stay server profile boot (packets ++ s.sent) before after clients log);
     packets = s.packets;
   }
 
@@ -109,14 +109,14 @@ module _ {State : Type 0} (service : ℕ → Machine State) (wire : Wire) (befor
       → Serves service (Packet_comes segment) before.node after.node old new → Brings service wire before after old new
   to_server key segment from read clients log serves = record {
     ready = serves.ready;
-    reaches = λ kind server boot packets packet of is can passes.
+    reaches = λ kind server profile boot packets packet of is can passes.
         sent_by_client
-        (λ p. HasWire p → PassesBy p (node_of before.node) → SendsBy (λ sent. Delivered (service kind) (world_with server boot packets before) p sent (world_with server boot (packets ++ sent) after)) old new)
+        (λ p. HasWire p → PassesBy p (node_of before.node) → SendsBy (λ sent. Delivered (service kind) (world_with server profile boot packets before) p sent (world_with server profile boot (packets ++ sent) after)) old new)
         wire key packet from is
         (λ s same sendable free.
         let e : segment ≡ s = segment_read wire segment s read (ap (λ w. w.bytes) same) sendable in
-        subst (λ x. SendsBy (λ sent. ServerMoves (service kind) (Packet_comes x) (world_with server boot packets before) sent (world_with server boot (packets ++ sent) after)) old new) e
-        (moves_on kind server boot packets (Packet_comes segment) clients log (serves.turn kind of (subst (λ x. IsFree (Packet_comes x) (node_of before.node)) (sym e) free))))
+        subst (λ x. SendsBy (λ sent. ServerMoves (service kind) (Packet_comes x) (world_with server profile boot packets before) sent (world_with server profile boot (packets ++ sent) after)) old new) e
+        (moves_on kind server profile boot packets (Packet_comes segment) clients log (serves.turn kind of (subst (λ x. IsFree (Packet_comes x) (node_of before.node)) (sym e) free))))
         can passes;
   }
 
@@ -124,14 +124,14 @@ module _ {State : Type 0} (service : ℕ → Machine State) (wire : Wire) (befor
       → Serves service (Message_comes message) before.node after.node old new → Brings service wire before after old new
   from_logger message from read clients log serves = record {
     ready = serves.ready;
-    reaches = λ kind server boot packets packet of is can passes.
+    reaches = λ kind server profile boot packets packet of is can passes.
         sent_by_logger
-        (λ p. HasWire p → PassesBy p (node_of before.node) → SendsBy (λ sent. Delivered (service kind) (world_with server boot packets before) p sent (world_with server boot (packets ++ sent) after)) old new)
+        (λ p. HasWire p → PassesBy p (node_of before.node) → SendsBy (λ sent. Delivered (service kind) (world_with server profile boot packets before) p sent (world_with server profile boot (packets ++ sent) after)) old new)
         wire packet from is
         (λ m same sendable free.
         let e : message ≡ m = message_read wire message m read (ap (λ w. w.bytes) same) sendable in
-        subst (λ x. SendsBy (λ sent. ServerMoves (service kind) (Message_comes x) (world_with server boot packets before) sent (world_with server boot (packets ++ sent) after)) old new) e
-        (moves_on kind server boot packets (Message_comes message) clients log (serves.turn kind of (subst (λ x. IsFree (Message_comes x) (node_of before.node)) (sym e) free))))
+        subst (λ x. SendsBy (λ sent. ServerMoves (service kind) (Message_comes x) (world_with server profile boot packets before) sent (world_with server profile boot (packets ++ sent) after)) old new) e
+        (moves_on kind server profile boot packets (Message_comes message) clients log (serves.turn kind of (subst (λ x. IsFree (Message_comes x) (node_of before.node)) (sym e) free))))
         can passes;
   }
 
@@ -139,8 +139,8 @@ module _ {State : Type 0} (service : ℕ → Machine State) (wire : Wire) (befor
       → after.log ≡ before.log → after.node ≡ before.node → IsServedUp service before.node → new ≡ old → Brings service wire before after old new
   to_client key segment to read clients log node served same = record {
     ready = stays_ready service before.node after.node node served;
-    reaches = λ kind server boot packets packet of is can passes.
-        goes_to_client (λ p. HasWire p → SendsBy (λ sent. Delivered (service kind) (world_with server boot packets before) p sent (world_with server boot (packets ++ sent) after)) old new) wire key packet to is
+    reaches = λ kind server profile boot packets packet of is can passes.
+        goes_to_client (λ p. HasWire p → SendsBy (λ sent. Delivered (service kind) (world_with server profile boot packets before) p sent (world_with server profile boot (packets ++ sent) after)) old new) wire key packet to is
         (λ s here sendable.
         let e : segment ≡ s = segment_read wire segment s read (ap (λ w. w.bytes) here) sendable in
         let whose : A_client key ≡ A_client (destination_of s) = to ∙ ap (λ w. w.to) here in
@@ -148,45 +148,45 @@ module _ {State : Type 0} (service : ℕ → Machine State) (wire : Wire) (befor
         let now : after.clients ≡ with_client (destination_of s) (λ c. received c s) before.clients = clients ∙ ap₂ (λ x y. with_client x (λ c. received c y) before.clients) k e in
         record {
           sent = [];
-          lawful = (refl, all_three server boot (packets ++ []) _ now log (ap node_of node));
+          lawful = (refl, all_three server profile boot (packets ++ []) _ now log (ap node_of node));
           packets = appends_same old new same;
         })
         can;
   }
     where
-      all_three : (server : Addr) (boot : ℕ) (ps : List Packet) (cs : List Client) → after.clients ≡ cs → after.log ≡ before.log → node_of after.node ≡ node_of before.node
-          → world_with server boot ps after ≡ record (world_with server boot ps before) { clients = cs }
-      all_three server boot ps cs c l n =
-          ap₂ (λ xs y. let w : World = record { server = server; profile = plain; clients = xs; log = y; packets = ps; boot = boot; node = node_of after.node } in w) c l
-          ∙ ap (λ z. let w : World = record { server = server; profile = plain; clients = cs; log = before.log; packets = ps; boot = boot; node = z } in w) n
+      all_three : (server : Addr) (profile : Profile) (boot : ℕ) (ps : List Packet) (cs : List Client) → after.clients ≡ cs → after.log ≡ before.log → node_of after.node ≡ node_of before.node
+          → world_with server profile boot ps after ≡ record (world_with server profile boot ps before) { clients = cs }
+      all_three server profile boot ps cs c l n =
+          ap₂ (λ xs y. let w : World = record { server = server; profile = profile; clients = xs; log = y; packets = ps; boot = boot; node = node_of after.node } in w) c l
+          ∙ ap (λ z. let w : World = record { server = server; profile = profile; clients = cs; log = before.log; packets = ps; boot = boot; node = z } in w) n
 
   pub to_logger : (message : Message) → The_logger ≡ wire.to → messages.reading wire.bytes ≡ Ok message → after.log ≡ log_after before.log message → after.clients ≡ before.clients
       → after.node ≡ before.node → IsServedUp service before.node → Appends old new (option_to_list (option_map From_logger (answer_to before.log message))) → Brings service wire before after old new
   to_logger message to read log clients node served answers = record {
     ready = stays_ready service before.node after.node node served;
-    reaches = λ kind server boot packets packet of is can passes.
-        goes_to_logger (λ p. HasWire p → SendsBy (λ sent. Delivered (service kind) (world_with server boot packets before) p sent (world_with server boot (packets ++ sent) after)) old new) wire packet to is
+    reaches = λ kind server profile boot packets packet of is can passes.
+        goes_to_logger (λ p. HasWire p → SendsBy (λ sent. Delivered (service kind) (world_with server profile boot packets before) p sent (world_with server profile boot (packets ++ sent) after)) old new) wire packet to is
         (λ m here sendable.
         let e : message ≡ m = message_read wire message m read (ap (λ w. w.bytes) here) sendable in
         record {
           sent = option_to_list (option_map From_logger (answer_to before.log m));
-          lawful = (refl, all_three server boot _ _ (log ∙ ap (log_after before.log) e) clients (ap node_of node));
+          lawful = (refl, all_three server profile boot _ _ (log ∙ ap (log_after before.log) e) clients (ap node_of node));
           packets = subst (λ x. Appends old new (option_to_list (option_map From_logger (answer_to before.log x)))) e answers;
         })
         can;
   }
     where
-      all_three : (server : Addr) (boot : ℕ) (ps : List Packet) (l : Log) → after.log ≡ l → after.clients ≡ before.clients → node_of after.node ≡ node_of before.node
-          → world_with server boot ps after ≡ record (world_with server boot ps before) { log = l }
-      all_three server boot ps l e c n =
-          ap₂ (λ xs y. let w : World = record { server = server; profile = plain; clients = xs; log = y; packets = ps; boot = boot; node = node_of after.node } in w) c e
-          ∙ ap (λ z. let w : World = record { server = server; profile = plain; clients = before.clients; log = l; packets = ps; boot = boot; node = z } in w) n
+      all_three : (server : Addr) (profile : Profile) (boot : ℕ) (ps : List Packet) (l : Log) → after.log ≡ l → after.clients ≡ before.clients → node_of after.node ≡ node_of before.node
+          → world_with server profile boot ps after ≡ record (world_with server profile boot ps before) { log = l }
+      all_three server profile boot ps l e c n =
+          ap₂ (λ xs y. let w : World = record { server = server; profile = profile; clients = xs; log = y; packets = ps; boot = boot; node = node_of after.node } in w) c e
+          ∙ ap (λ z. let w : World = record { server = server; profile = profile; clients = before.clients; log = l; packets = ps; boot = boot; node = z } in w) n
 
   -- what can't be read was never sent
   never : ((packet : Packet) → wire ≡ wire_of packet → HasWire packet → ⊥) → after ≡ before → IsServedUp service before.node → Brings service wire before after old new
   never out same served = record {
     ready = stays_ready service before.node after.node (ap (λ a. a.node) same) served;
-    reaches = λ kind server boot packets packet of is can passes. absurd (out packet is can);
+    reaches = λ kind server profile boot packets packet of is can passes. absurd (out packet is can);
   }
 
   pub no_segment_from : (key : Key) (bad : BadPacket) → A_client key ≡ wire.from → segments.reading wire.bytes ≡ Err bad → after ≡ before → IsServedUp service before.node
@@ -228,29 +228,29 @@ module _ {State : Type 0} (service : ℕ → Machine State) (wire : Wire) (befor
   message_lost : (m : Message) (bit : ℕ) → CanBeTold m → bit < 8 * length (messages.spelling m) → IsErr (messages.reading (flipped bit (messages.spelling m)))
   message_lost m bit can within = flipped_message_is_refused bit (messages.spelling m) m (message_is_read m can.0) within
 
-  flips_so : (kind : ℕ) (server : Addr) (boot : ℕ) (packets : List Packet) (packet : Packet) (bit : ℕ) → HasWire packet → bit < 8 * length (wire_of packet).bytes
-      → SendsBy (λ sent. DeliveredAs (service kind) (world_with server boot packets before) packet (flipped bit (wire_of packet).bytes) sent (world_with server boot (packets ++ sent) after)) old new
-      → SendsBy (λ sent. Flipped (service kind) (world_with server boot packets before) packet bit sent (world_with server boot (packets ++ sent) after)) old new
-  flips_so kind server boot packets packet bit can within s = record { sent = s.sent; lawful = record { wire = can; within = within; comes = s.lawful }; packets = s.packets }
+  flips_so : (kind : ℕ) (server : Addr) (profile : Profile) (boot : ℕ) (packets : List Packet) (packet : Packet) (bit : ℕ) → HasWire packet → bit < 8 * length (wire_of packet).bytes
+      → SendsBy (λ sent. DeliveredAs (service kind) (world_with server profile boot packets before) packet (flipped bit (wire_of packet).bytes) sent (world_with server profile boot (packets ++ sent) after)) old new
+      → SendsBy (λ sent. Flipped (service kind) (world_with server profile boot packets before) packet bit sent (world_with server profile boot (packets ++ sent) after)) old new
+  flips_so kind server profile boot packets packet bit can within s = record { sent = s.sent; lawful = record { wire = can; within = within; comes = s.lawful }; packets = s.packets }
 
-  noise_moves : (kind : ℕ) (server : Addr) (boot : ℕ) (packets : List Packet) (input : Input) → input ≡ Noise_comes → after.clients ≡ before.clients → after.log ≡ before.log
+  noise_moves : (kind : ℕ) (server : Addr) (profile : Profile) (boot : ℕ) (packets : List Packet) (input : Input) → input ≡ Noise_comes → after.clients ≡ before.clients → after.log ≡ before.log
       → OfKind kind before.node → Serves service Noise_comes before.node after.node old new
-      → SendsBy (λ sent. ServerMoves (service kind) input (world_with server boot packets before) sent (world_with server boot (packets ++ sent) after)) old new
-  noise_moves kind server boot packets input is clients log of serves =
-      subst (λ x. SendsBy (λ sent. ServerMoves (service kind) x (world_with server boot packets before) sent (world_with server boot (packets ++ sent) after)) old new) (sym is)
-      (moves_on kind server boot packets Noise_comes clients log (serves.turn kind of (λ node up. refl)))
+      → SendsBy (λ sent. ServerMoves (service kind) input (world_with server profile boot packets before) sent (world_with server profile boot (packets ++ sent) after)) old new
+  noise_moves kind server profile boot packets input is clients log of serves =
+      subst (λ x. SendsBy (λ sent. ServerMoves (service kind) x (world_with server profile boot packets before) sent (world_with server profile boot (packets ++ sent) after)) old new) (sym is)
+      (moves_on kind server profile boot packets Noise_comes clients log (serves.turn kind of (λ node up. refl)))
 
   pub noise_to_server : (key : Key) → A_client key ≡ wire.from → after.clients ≡ before.clients → after.log ≡ before.log
       → Serves service Noise_comes before.node after.node old new → BringsFlipped service wire before after old new
   noise_to_server key from clients log serves = record {
     ready = serves.ready;
-    reaches = λ kind server boot packets packet bit of is can within.
+    reaches = λ kind server profile boot packets packet bit of is can within.
         sent_by_client
-        (λ p. HasWire p → bit < 8 * length (wire_of p).bytes → SendsBy (λ sent. Flipped (service kind) (world_with server boot packets before) p bit sent (world_with server boot (packets ++ sent) after)) old new)
+        (λ p. HasWire p → bit < 8 * length (wire_of p).bytes → SendsBy (λ sent. Flipped (service kind) (world_with server profile boot packets before) p bit sent (world_with server profile boot (packets ++ sent) after)) old new)
         wire key packet from is
         (λ s here sendable inside.
-        flips_so kind server boot packets (To_server s) bit sendable inside
-        (noise_moves kind server boot packets (segment_or_noise (segments.reading (flipped bit (segments.spelling s)))) (segment_is_noise _ (segment_lost s bit sendable inside)) clients log of serves))
+        flips_so kind server profile boot packets (To_server s) bit sendable inside
+        (noise_moves kind server profile boot packets (segment_or_noise (segments.reading (flipped bit (segments.spelling s)))) (segment_is_noise _ (segment_lost s bit sendable inside)) clients log of serves))
         can within;
   }
 
@@ -258,48 +258,48 @@ module _ {State : Type 0} (service : ℕ → Machine State) (wire : Wire) (befor
       → Serves service Noise_comes before.node after.node old new → BringsFlipped service wire before after old new
   noise_from_logger from clients log serves = record {
     ready = serves.ready;
-    reaches = λ kind server boot packets packet bit of is can within.
+    reaches = λ kind server profile boot packets packet bit of is can within.
         sent_by_logger
-        (λ p. HasWire p → bit < 8 * length (wire_of p).bytes → SendsBy (λ sent. Flipped (service kind) (world_with server boot packets before) p bit sent (world_with server boot (packets ++ sent) after)) old new)
+        (λ p. HasWire p → bit < 8 * length (wire_of p).bytes → SendsBy (λ sent. Flipped (service kind) (world_with server profile boot packets before) p bit sent (world_with server profile boot (packets ++ sent) after)) old new)
         wire packet from is
         (λ m here sendable inside.
-        flips_so kind server boot packets (From_logger m) bit sendable inside
-        (noise_moves kind server boot packets (message_or_noise (messages.reading (flipped bit (messages.spelling m)))) (message_is_noise _ (message_lost m bit sendable inside)) clients log of serves))
+        flips_so kind server profile boot packets (From_logger m) bit sendable inside
+        (noise_moves kind server profile boot packets (message_or_noise (messages.reading (flipped bit (messages.spelling m)))) (message_is_noise _ (message_lost m bit sendable inside)) clients log of serves))
         can within;
   }
 
-  client_lost : (kind : ℕ) (server : Addr) (boot : ℕ) (packets : List Packet) (key : Key) (r : Result Segment BadPacket) → IsErr r → after ≡ before
-      → ClientReads key r (world_with server boot packets before) [] (world_with server boot (packets ++ []) after)
-  client_lost kind server boot packets key (Err bad) h same = (refl, ap (world_with server boot (packets ++ [])) same)
-  client_lost kind server boot packets key (Ok segment) h same = absurd (true≢false (sym h))
+  client_lost : (kind : ℕ) (server : Addr) (profile : Profile) (boot : ℕ) (packets : List Packet) (key : Key) (r : Result Segment BadPacket) → IsErr r → after ≡ before
+      → ClientReads key r (world_with server profile boot packets before) [] (world_with server profile boot (packets ++ []) after)
+  client_lost kind server profile boot packets key (Err bad) h same = (refl, ap (world_with server profile boot (packets ++ [])) same)
+  client_lost kind server profile boot packets key (Ok segment) h same = absurd (true≢false (sym h))
 
-  log_lost : (kind : ℕ) (server : Addr) (boot : ℕ) (packets : List Packet) (r : Result Message BadMsg) → IsErr r → after ≡ before
-      → LogReads r (world_with server boot packets before) [] (world_with server boot (packets ++ []) after)
-  log_lost kind server boot packets (Err bad) h same = (refl, ap (world_with server boot (packets ++ [])) same)
-  log_lost kind server boot packets (Ok message) h same = absurd (true≢false (sym h))
+  log_lost : (kind : ℕ) (server : Addr) (profile : Profile) (boot : ℕ) (packets : List Packet) (r : Result Message BadMsg) → IsErr r → after ≡ before
+      → LogReads r (world_with server profile boot packets before) [] (world_with server profile boot (packets ++ []) after)
+  log_lost kind server profile boot packets (Err bad) h same = (refl, ap (world_with server profile boot (packets ++ [])) same)
+  log_lost kind server profile boot packets (Ok message) h same = absurd (true≢false (sym h))
 
   pub noise_to_client : (key : Key) → A_client key ≡ wire.to → after ≡ before → IsServedUp service before.node → new ≡ old → BringsFlipped service wire before after old new
   noise_to_client key to same served quiet = record {
     ready = stays_ready service before.node after.node (ap (λ a. a.node) same) served;
-    reaches = λ kind server boot packets packet bit of is can within.
+    reaches = λ kind server profile boot packets packet bit of is can within.
         goes_to_client
-        (λ p. HasWire p → bit < 8 * length (wire_of p).bytes → SendsBy (λ sent. Flipped (service kind) (world_with server boot packets before) p bit sent (world_with server boot (packets ++ sent) after)) old new)
+        (λ p. HasWire p → bit < 8 * length (wire_of p).bytes → SendsBy (λ sent. Flipped (service kind) (world_with server profile boot packets before) p bit sent (world_with server profile boot (packets ++ sent) after)) old new)
         wire key packet to is
         (λ s here sendable inside.
-        flips_so kind server boot packets (To_client s) bit sendable inside
-        (record { sent = []; lawful = client_lost kind server boot packets (destination_of s) _ (segment_lost s bit sendable inside) same; packets = appends_same old new quiet }))
+        flips_so kind server profile boot packets (To_client s) bit sendable inside
+        (record { sent = []; lawful = client_lost kind server profile boot packets (destination_of s) _ (segment_lost s bit sendable inside) same; packets = appends_same old new quiet }))
         can within;
   }
 
   pub noise_to_logger : The_logger ≡ wire.to → after ≡ before → IsServedUp service before.node → new ≡ old → BringsFlipped service wire before after old new
   noise_to_logger to same served quiet = record {
     ready = stays_ready service before.node after.node (ap (λ a. a.node) same) served;
-    reaches = λ kind server boot packets packet bit of is can within.
+    reaches = λ kind server profile boot packets packet bit of is can within.
         goes_to_logger
-        (λ p. HasWire p → bit < 8 * length (wire_of p).bytes → SendsBy (λ sent. Flipped (service kind) (world_with server boot packets before) p bit sent (world_with server boot (packets ++ sent) after)) old new)
+        (λ p. HasWire p → bit < 8 * length (wire_of p).bytes → SendsBy (λ sent. Flipped (service kind) (world_with server profile boot packets before) p bit sent (world_with server profile boot (packets ++ sent) after)) old new)
         wire packet to is
         (λ m here sendable inside.
-        flips_so kind server boot packets (To_logger m) bit sendable inside
-        (record { sent = []; lawful = log_lost kind server boot packets _ (message_lost m bit sendable inside) same; packets = appends_same old new quiet }))
+        flips_so kind server profile boot packets (To_logger m) bit sendable inside
+        (record { sent = []; lawful = log_lost kind server profile boot packets _ (message_lost m bit sendable inside) same; packets = appends_same old new quiet }))
         can within;
   }

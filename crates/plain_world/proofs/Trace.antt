@@ -3,7 +3,7 @@ use Rattle.std.proofs.Common.{◌≡◌, ◌∙◌, sym, ap, ap₂, subst, refl,
 use Rattle.std.specs.List.{AllByRecursion}
 use Rattle.std.proofs.lemmas.List.{map-append}
 use Rattle.server_trait.specs.Service.{Machine}
-use Rattle.tcp_rules.specs.Profile.{plain}
+use Rattle.tcp_rules.specs.Profiles.{profile_of}
 use Rattle.ft_model.specs.Image.{HasWires}
 use Rattle.ft_model.specs.Lawful.{fence}
 use Rattle.ft_model.specs.Legal.{start_of, refusal, IsScripted}
@@ -31,9 +31,9 @@ pub record AreLaws {State : Type 0} (service : ℕ → Machine State) : Type 0 w
 -- the world of the definitions is that of the plain one, with its packets
 pub same_world : {State : Type 0} (state : WorldState State) (w : World) → Represents state w → world_of state w.packets ≡ w
 same_world state w r =
-    ap₂ (λ s b. let x : World = record { server = s; profile = plain; clients = state.clients; log = state.log; packets = w.packets; boot = b; node = (world_of state w.packets).node } in x) r.server r.boot
-    ∙ ap₂ (λ c l. let x : World = record { server = w.server; profile = plain; clients = c; log = l; packets = w.packets; boot = w.boot; node = (world_of state w.packets).node } in x) r.clients r.log
-    ∙ ap (λ n. let x : World = record { server = w.server; profile = plain; clients = w.clients; log = w.log; packets = w.packets; boot = w.boot; node = n } in x) r.node
+    ap₂ (λ s b. let x : World = record { server = s; profile = state.profile; clients = state.clients; log = state.log; packets = w.packets; boot = b; node = (world_of state w.packets).node } in x) r.server r.boot
+    ∙ ap₂ (λ c l. let x : World = record { server = w.server; profile = state.profile; clients = c; log = l; packets = w.packets; boot = w.boot; node = (world_of state w.packets).node } in x) r.clients r.log
+    ∙ ap (λ n. let x : World = record { server = w.server; profile = state.profile; clients = w.clients; log = w.log; packets = w.packets; boot = w.boot; node = n } in x) r.node
     ∙ ap (λ p. let x : World = record { server = w.server; profile = p; clients = w.clients; log = w.log; packets = w.packets; boot = w.boot; node = w.node } in x) r.profile
 
 module _ {State : Type 0} (service : ℕ → Machine State) where
@@ -81,7 +81,7 @@ module _ {State : Type 0} (service : ℕ → Machine State) where
           };
           represents = record {
             server = ap (λ x. x.server) now;
-            profile = refl;
+            profile = ap (λ x. x.profile) now;
             clients = ap (λ x. x.clients) now;
             log = ap (λ x. x.log) now;
             packets = ap (λ x. x.packets) now ∙ grown ∙ ap (λ ws. ws ++ map wire_of s.sent) at.represents.packets ∙ sym (map-append wire_of w.packets s.sent);
@@ -100,12 +100,12 @@ module _ {State : Type 0} (service : ℕ → Machine State) where
       }
 
   -- before the first event
-  pub starts_there : (schedule : Schedule) (state : WorldState State) → IsStart (start_of schedule) → state.server ≡ schedule.server
+  pub starts_there : (schedule : Schedule) (state : WorldState State) → IsStart (start_of schedule) → state.server ≡ schedule.server → state.profile ≡ profile_of schedule.profile
       → state.clients ≡ clients_of schedule.server schedule.clients → state.log ≡ empty_log → state.packets ≡ [] → state.boot ≡ 0 → state.node ≡ None → state.turns ≡ 0
       → state.kind ≡ kind_of schedule.service → IsAt service schedule [] state
-  starts_there schedule state start server clients log packets boot node turns kind = record {
+  starts_there schedule state start server profile clients log packets boot node turns kind = record {
     legal = record { joint = start; events_are = refl; allowed = tt };
-    represents = record { server = server; profile = refl; clients = clients; log = log; packets = packets; boot = boot; node = ap (λ n. (world_of (record state { node = n }) []).node) node };
+    represents = record { server = server; profile = profile; clients = clients; log = log; packets = packets; boot = boot; node = ap (λ n. (world_of (record state { node = n }) []).node) node };
     turns = turns;
     kind = kind;
     ready = record {

@@ -2,6 +2,7 @@
 use Rattle.std.specs.Prelude.{◌≡◌, ℕ, ◌+◌, ◌-◌, ◌*◌, ◌<◌, ◌≤◌, max, Option, Some, None, List, [], ◌∷◌, ◌++◌, map, length, slice_set}
 use Rattle.ft_io.specs.declared.Addr.{Addr}
 use Rattle.server_trait.specs.Service.{Machine}
+use Rattle.tcp_rules.specs.Profile.{Profile}
 use Rattle.ft_model.specs.Client.{Client, Move, move_of, window_of, refusal_of_move, segment_of, moved}
 use Rattle.ft_model.specs.Legal.{refusal, IsScripted}
 use Rattle.ft_model.specs.Network.{Packet}
@@ -48,16 +49,18 @@ pub record MovesClient {State : Type 0} (number : ℕ) (event : Event) (before a
 -- a packet reaches its addressee
 pub record Brings {State : Type 0} (service : ℕ → Machine State) (wire : Wire) (before after : ActorsState State) (old new : List Wire) : Type 0 where
   pub ready : StaysReady service before.node after.node
-  pub reaches : (kind : ℕ) (server : Addr) (boot : ℕ) (packets : List Packet) (packet : Packet) → OfKind kind before.node → wire ≡ wire_of packet → HasWire packet
-      → PassesBy packet (node_of before.node)
-      → SendsBy (λ sent. Delivered (service kind) (world_with server boot packets before) packet sent (world_with server boot (packets ++ sent) after)) old new
+  pub reaches : (kind : ℕ) (server : Addr) (profile : Profile) (boot : ℕ) (packets : List Packet) (packet : Packet) → OfKind kind before.node
+      → wire ≡ wire_of packet → HasWire packet → PassesBy packet (node_of before.node)
+      → SendsBy (λ sent. Delivered (service kind) (world_with server profile boot packets before) packet sent
+      (world_with server profile boot (packets ++ sent) after)) old new
 
 -- a packet reaches its addressee with a changed bit
 pub record BringsFlipped {State : Type 0} (service : ℕ → Machine State) (wire : Wire) (before after : ActorsState State) (old new : List Wire) : Type 0 where
   pub ready : StaysReady service before.node after.node
-  pub reaches : (kind : ℕ) (server : Addr) (boot : ℕ) (packets : List Packet) (packet : Packet) (bit : ℕ) → OfKind kind before.node → wire ≡ wire_of packet → HasWire packet
-      → bit < 8 * length (wire_of packet).bytes
-      → SendsBy (λ sent. Flipped (service kind) (world_with server boot packets before) packet bit sent (world_with server boot (packets ++ sent) after)) old new
+  pub reaches : (kind : ℕ) (server : Addr) (profile : Profile) (boot : ℕ) (packets : List Packet) (packet : Packet) (bit : ℕ) → OfKind kind before.node
+      → wire ≡ wire_of packet → HasWire packet → bit < 8 * length (wire_of packet).bytes
+      → SendsBy (λ sent. Flipped (service kind) (world_with server profile boot packets before) packet bit sent
+      (world_with server profile boot (packets ++ sent) after)) old new
 
 -- an event happens as the script asks for it: these packets are sent, and then the plain world corresponds to the next one
 pub record Advances {State : Type 0} (service : Machine State) (event : Event) (before : World) (after : WorldState State) (sent : List Packet) : Type 0 where

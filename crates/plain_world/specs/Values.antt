@@ -3,7 +3,8 @@ use Rattle.std.specs.Prelude.{ℕ, Bool, true, false, List, [], ◌∷◌, map}
 use Rattle.ft_io.specs.declared.Addr.{Addr}
 use Rattle.logger_wire.specs.Value.{message_of, IsSendable}
 use Rattle.segment_codec.specs.Value.{segment_of}
-use Rattle.tcp_rules.specs.Profile.{plain}
+use Rattle.tcp_rules.specs.Profile.{Profile}
+use Rattle.tcp_rules.specs.Profiles.{profile_of}
 use Rattle.ft_model.specs.Node as law
 use Rattle.logger_wire.specs.Records.{numbers_said}
 use Rattle.plain_world.specs.declared.incarnation.Incarnation.{Incarnation}
@@ -45,18 +46,19 @@ stage_in (stage.Serving serving) = law.Stage.Serving serving.opened (places_in s
 
 -- an incarnation in a stage
 abbrev pub node_of : Incarnation → law.Stage → law.Node
-node_of who stage = record { server = who.server; profile = plain; boot = who.boot; isn = who.isn; stage = stage }
+node_of who stage = record { server = who.server; profile = profile_of who.profile; boot = who.boot; isn = who.isn; stage = stage }
 
 -- a node as its contracts see it
 pub record NodeState (S : Type 0) : Type 0 where
   pub kind : ℕ
   pub server : Addr
+  pub profile : Profile
   pub boot : ℕ
   pub isn : ℕ
   pub stage : PlainStage S
 
 abbrev pub node_in : {S : Type 0} → NodeState S → law.Node
-node_in n = record { server = n.server; profile = plain; boot = n.boot; isn = n.isn; stage = stage_in n.stage }
+node_in n = record { server = n.server; profile = n.profile; boot = n.boot; isn = n.isn; stage = stage_in n.stage }
 
 -- how many initial sequence numbers are used up
 abbrev pub opened_at : {S : Type 0} → PlainStage S → ℕ

@@ -2,7 +2,7 @@
 use Rattle.std.specs.Prelude.{◌≡◌, ℕ, ◌+◌, ◌≤◌, Option, Some, None, option_map, List, ◌∷◌, ◌++◌, map, length}
 use Rattle.ft_io.specs.declared.Addr.{Addr}
 use Rattle.server_trait.specs.Service.{Machine}
-use Rattle.tcp_rules.specs.Profile.{plain}
+use Rattle.tcp_rules.specs.Profile.{Profile}
 use Rattle.ft_model.specs.Client.{Client}
 use Rattle.ft_model.specs.Legal.{IsLegalFor, start_of}
 use Rattle.ft_model.specs.Log.{Log}
@@ -25,6 +25,7 @@ pub record ActorsState (State : Type 0) : Type 0 where
 pub record WorldState (State : Type 0) : Type 0 where
   pub kind : ℕ  -- of the service
   pub server : Addr
+  pub profile : Profile
   pub clients : List Client
   pub log : Log
   pub packets : List Wire
@@ -37,10 +38,10 @@ abbrev pub node_of : {State : Type 0} → Option (NodeState State) → Option No
 node_of node = option_map node_in node
 
 -- these actors in the world of the definitions
-abbrev pub world_with : {State : Type 0} → (server : Addr) (boot : ℕ) → List Packet → ActorsState State → World
-world_with server boot packets actors = record {
+abbrev pub world_with : {State : Type 0} → (server : Addr) (profile : Profile) (boot : ℕ) → List Packet → ActorsState State → World
+world_with server profile boot packets actors = record {
   server = server;
-  profile = plain;
+  profile = profile;
   clients = actors.clients;
   log = actors.log;
   packets = packets;
@@ -53,12 +54,12 @@ actors_of state = record { clients = state.clients; log = state.log; node = stat
 
 -- the world of the definitions with these packets
 abbrev pub world_of : {State : Type 0} → WorldState State → List Packet → World
-world_of state packets = world_with state.server state.boot packets (actors_of state)
+world_of state packets = world_with state.server state.profile state.boot packets (actors_of state)
 
 -- the plain world has the contents of a world of the definitions, with each packet as its wire
 pub record Represents {State : Type 0} (state : WorldState State) (w : World) : Type 0 where
   pub server : state.server ≡ w.server
-  pub profile : plain ≡ w.profile
+  pub profile : state.profile ≡ w.profile
   pub clients : state.clients ≡ w.clients
   pub log : state.log ≡ w.log
   pub packets : state.packets ≡ map wire_of w.packets

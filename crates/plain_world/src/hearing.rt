@@ -5,7 +5,7 @@ ghost use Rattle.server_trait.specs.Service.{Machine, machine};
 ghost use Rattle.seq_arith.specs.Message.Body.{OpenedMsg, StableMsg, ReadsMsg, EndedMsg, FullMsg};
 ghost use Rattle.logger_wire.specs.Value.{body_of};
 ghost use Rattle.ft_io.specs.declared.Key.{Key as key_type};
-ghost use Rattle.tcp_rules.specs.Profile.{plain};
+ghost use Rattle.tcp_rules.specs.Profiles.{profile_of};
 ghost use Rattle.ft_model.specs.Node as law;
 ghost use Rattle.ft_model.specs.News.News.{Begins};
 ghost use Rattle.ft_model.specs.Node.Place.{Lives};
@@ -34,10 +34,10 @@ fn begin<S: Service>(
     sent: &mut PlainPackets,
 ) -> Result<PlainConnection<S>, NoMemory>
     ensures turn { IfOk result (λ c. (stage : law.Stage) → SendsBy (LivesOn (machine (S.started who.kind) S.after) (node_of who stage) Begins
-        (point_opened plain (numbers_said numbers.now)) (Lives c.point ∷ [])) sent.old sent.new) }
+        (point_opened (profile_of who.profile) (numbers_said numbers.now)) (Lives c.point ∷ [])) sent.old sent.new) }
     ensures served { IfOk result (λ c. IsServedLive who.kind (machine (S.started who.kind) S.after) c) }
 {
-    let mut connection = PlainConnection::opened(alloc, who.kind, numbers)?;
+    let mut connection = PlainConnection::opened(alloc, who.profile, who.kind, numbers)?;
     turn_live(alloc, who, &mut connection, &News::Begins, sent)?;
     Ok(connection)
 }

@@ -1,6 +1,7 @@
 //! What never changes in one incarnation.
 
 use ft_io::Addr;
+use tcp_rules::Profile;
 
 /// One incarnation of a server.
 #[derive(Clone, Copy)]
@@ -9,6 +10,8 @@ pub(crate) struct Incarnation {
     pub(crate) kind: u8,
     /// Its address and port.
     pub(crate) server: Addr,
+    /// Its profile.
+    pub(crate) profile: Profile,
     /// Its boot number.
     pub(crate) boot: u64,
     /// The first initial sequence number that it chooses.

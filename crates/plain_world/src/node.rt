@@ -2,7 +2,7 @@
 
 ghost use Rattle.std.specs.Prelude.{◌≡◌, ◌≤◌, ◌+◌, ◌^◌, max, None, OnOk};
 ghost use Rattle.server_trait.specs.Service.{machine};
-ghost use Rattle.tcp_rules.specs.Profile.{plain};
+ghost use Rattle.tcp_rules.specs.Profiles.{profile_of};
 ghost use Rattle.ft_model.specs.Lawful.{hello, fence};
 ghost use Rattle.ft_model.specs.Node as law;
 ghost use Rattle.plain_packets.specs.Sent.{Appends};
@@ -19,6 +19,7 @@ use plain_packets::PlainPackets;
 use server_trait::Service;
 use std::alloc::Global;
 use std::marker::Model;
+use tcp_rules::Profile;
 
 /// One incarnation of the server, from its boot to its crash.
 #[derive(Drop)]
@@ -28,17 +29,31 @@ pub struct PlainNode<S: Service> {
 }
 
 impl<S: Service> Model for PlainNode<S> {
+    ghost use Rattle.tcp_rules.specs.Profiles.{profile_of};
     ghost use Rattle.plain_world.specs.Values.{NodeState};
 
     ghost Value = { NodeState S };
 
-    ghost view = { λ n. record { kind = n.who.kind; server = n.who.server; boot = n.who.boot; isn = n.who.isn; stage = n.stage } };
+    ghost view = { λ n. record {
+      kind = n.who.kind;
+      server = n.who.server;
+      profile = profile_of n.who.profile;
+      boot = n.who.boot;
+      isn = n.who.isn;
+      stage = n.stage;
+    } };
 }
 
 impl<S: Service> PlainNode<S> {
     /// Creates an incarnation at its boot. Allocates nothing.
-    pub fn booted(kind: u8, server: Addr, boot: u64, isn: u32) -> PlainNode<S>
-        ensures node { node_in result ≡ law.booted server plain boot isn }
+    pub fn booted(
+        kind: u8,
+        server: Addr,
+        profile: Profile,
+        boot: u64,
+        isn: u32,
+    ) -> PlainNode<S>
+        ensures node { node_in result ≡ law.booted server (profile_of profile) boot isn }
         ensures kind { result.kind ≡ kind }
         ensures served { IsServedNode (machine (S.started kind) S.after) result }
         ensures few { opened_in result ≡ 0 }
@@ -47,6 +62,7 @@ impl<S: Service> PlainNode<S> {
             who: Incarnation {
                 kind,
                 server,
+                profile,
                 boot,
                 isn,
             },

@@ -2,7 +2,7 @@
 
 ghost use Rattle.std.specs.Prelude.{◌≡◌, ◌<◌, ◌≤◌, ◌+◌, ◌∷◌, [], ◌^◌, true, IfOk, OnOk, length};
 ghost use Rattle.server_trait.specs.Service.{machine};
-ghost use Rattle.tcp_rules.specs.Profile.{plain};
+ghost use Rattle.tcp_rules.specs.Profiles.{profile_of};
 ghost use Rattle.ft_model.specs.Lawful.{Revives, restored, restored_count};
 ghost use Rattle.ft_model.specs.Node as law;
 ghost use Rattle.ft_model.specs.Restart.{is_whole};
@@ -31,14 +31,14 @@ fn restored_place<S: Service>(
 ) -> Result<PlainPlace<S>, NoMemory>
     requires { is_whole entry ≡ true }
     ensures turn { IfOk result (λ place. (stage : law.Stage) → SendsBy (Revives (machine (S.started who.kind) S.after) (node_of who stage)
-        (restored (machine (S.started who.kind) S.after) plain entry) (place_in place ∷ [])) sent.old sent.new) }
+        (restored (machine (S.started who.kind) S.after) (profile_of who.profile) entry) (place_in place ∷ [])) sent.old sent.new) }
     ensures served { IfOk result (λ place. IsServedPlace who.kind (machine (S.started who.kind) S.after) place) }
 {
     let head = entry.head();
     if head.done {
         return Ok(PlainPlace::Ended(head.key));
     }
-    let mut connection = PlainConnection::resumed(alloc, who.kind, entry)?;
+    let mut connection = PlainConnection::resumed(alloc, who.profile, who.kind, entry)?;
     turn_live(alloc, who, &mut connection, &News::Begins, sent)?;
     Ok(PlainPlace::Lives(connection))
 }

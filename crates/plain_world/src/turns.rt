@@ -23,7 +23,7 @@ impl<S: Service> PlainWorld<S> {
     fn start(&mut self, alloc: Global, boot: u64, isn: u32) -> Result<(), NoMemory>
         ensures { OnOk result (Does (machines S.started S.after) (Boot boot isn) self.old self.new) }
     {
-        let node = PlainNode::booted(self.kind, self.server, boot, isn);
+        let node = PlainNode::booted(self.kind, self.server, self.profile, boot, isn);
         node.send_hello(alloc, &mut self.packets)?;
         self.boot = boot;
         self.actors.node = Some(node);

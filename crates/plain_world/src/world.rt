@@ -24,6 +24,7 @@ use plain_packets::PlainPackets;
 use server_trait::Service;
 use std::alloc::Global;
 use std::marker::Model;
+use tcp_rules::Profile;
 
 /// The world of a schedule's run.
 #[derive(Drop)]
@@ -32,6 +33,8 @@ pub struct PlainWorld<S: Service> {
     pub(crate) kind: u8,
     /// The server's address and port.
     pub(crate) server: Addr,
+    /// The server's profile.
+    pub(crate) profile: Profile,
     pub(crate) actors: Actors<S>,
     /// All packets that were sent.
     pub(crate) packets: PlainPackets,
@@ -42,6 +45,7 @@ pub struct PlainWorld<S: Service> {
 }
 
 impl<S: Service> Model for PlainWorld<S> {
+    ghost use Rattle.tcp_rules.specs.Profiles.{profile_of};
     ghost use Rattle.plain_world.specs.WorldState.{WorldState};
 
     ghost Value = { WorldState S };
@@ -49,6 +53,7 @@ impl<S: Service> Model for PlainWorld<S> {
     ghost view = { λ w. record {
       kind = w.kind;
       server = w.server;
+      profile = profile_of w.profile;
       clients = w.actors.clients;
       log = w.actors.log;
       packets = w.packets;
@@ -69,6 +74,7 @@ impl<S: Service> PlainWorld<S> {
         Ok(PlainWorld {
             kind: schedule.service.number(),
             server: schedule.server,
+            profile: schedule.profile,
             actors: Actors {
                 clients,
                 log: PlainLog::new(alloc),

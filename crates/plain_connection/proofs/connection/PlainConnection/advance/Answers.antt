@@ -1,4 +1,4 @@
-use Rattle.std.proofs.Common.{◌∙◌, refl, sym, ap, subst}
+use Rattle.std.proofs.Common.{◌∙◌, sym, ap, subst}
 use Rattle.std.proofs.lemmas.Result.{on_ok_weaker}
 use Rattle.server_trait.specs.Service.{machine}
 use Rattle.plain_point.specs.Turn.{noted}
@@ -26,6 +26,6 @@ returns-clause-turn g c = λ server boot.
     let before = subst (λ k. IsBefore (machine (g.S.Service.started k) g.S.Service.after) news p c.args.before.now) (sym reads.kind) c.requires.before in
     on_ok_weaker c.settle.result
     (λ e. advanced service server boot news p c.read_on.new.self.point c.settle.new.self.point reads.news
-    (was_not_reset news p (sym c.requires.before.reset ∙ c.requires.live)) (before.profile.timing refl) reads.point reads.makes
+    (was_not_reset news p (sym c.requires.before.reset ∙ c.requires.live)) reads.point reads.makes
     (ap (λ x. x.point) e ∙ ap (λ k. settled_since (machine (g.S.Service.started k) g.S.Service.after) news p c.read_on.new.self.point) reads.kind))
     (c.settle.ensures.settled p before)

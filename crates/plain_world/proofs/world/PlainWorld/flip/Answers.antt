@@ -14,7 +14,7 @@ returns g c =
     on_ok_weaker c.append.result
     (λ follow bit. flips service c.args.self.now _ c.args.number bit c.in-Some.wire.now c.bring_flipped.new.sent
     (c.in-Some.ensures ∙ ap (λ w. wire_at w.packets c.args.number) c.self.view_is)
-    (record { kind = ap (λ w. w.kind) c.self.view_is; turns = ap (λ w. w.turns) c.self.view_is; server = ap (λ w. w.server) c.self.view_is })
+    (record { kind = ap (λ w. w.kind) c.self.view_is; turns = ap (λ w. w.turns) c.self.view_is; server = ap (λ w. w.server) c.self.view_is; profile = ap (λ w. w.profile) c.self.view_is })
     (ap (λ w. w.boot) c.self.view_is)
     (subst (λ w. BringsFlipped service c.in-Some.wire.now (actors_of w) c.bring_flipped.new.self [] c.bring_flipped.new.sent) c.self.view_is brings)
     (follow ∙ ap (λ w. w.packets ++ c.bring_flipped.new.sent) c.self.view_is))

@@ -11,7 +11,7 @@ returns g c =
     let service = machines g.S.Service.started g.S.Service.after in
     on_ok_weaker c.tick.result
     (λ serves. ticks service c.args.self.now _
-    (record { kind = ap (λ w. w.kind) c.self.view_is; turns = ap (λ w. w.turns) c.self.view_is; server = ap (λ w. w.server) c.self.view_is })
+    (record { kind = ap (λ w. w.kind) c.self.view_is; turns = ap (λ w. w.turns) c.self.view_is; server = ap (λ w. w.server) c.self.view_is; profile = ap (λ w. w.profile) c.self.view_is })
     (ap (λ w. w.boot) c.self.view_is)
     (c.tick.ensures.clients ∙ ap (λ w. w.clients) c.self.view_is)
     (c.tick.ensures.log ∙ ap (λ w. w.log) c.self.view_is)
