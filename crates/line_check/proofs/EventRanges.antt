@@ -4,7 +4,7 @@ use Rattle.std.specs.Prelude.{cond, nat_le, ◌&&◌}
 use Rattle.std.specs.Option.{ok_or, option_and_then}
 use Rattle.std.proofs.lemmas.Bool.{leb-true}
 use Rattle.ft_io.proofs.Booleans.{left_true, right_true}
-use Rattle.ft_model.specs.Grammar.{◌>>=◌, number, boot_number, packet_number, client_number, window, long_number, part_number, boot_line, bare_line, deliver_line, flip_line, client_and_window, send_line, client_alone, stop_line, marks_line, event_line, client_line, service_line, server_line, line_from, line_of_words, line_behind, line_of, keyword_of, names_no_service, may_stand, is_printable}
+use Rattle.ft_model.specs.Grammar.{◌>>=◌, number, boot_number, packet_number, client_number, window, long_number, part_number, boot_line, bare_line, deliver_line, flip_line, client_and_window, send_line, client_alone, stop_line, profile_line, marks_line, event_line, client_line, service_line, server_line, line_from, line_of_words, line_behind, line_of, keyword_of, is_misnamed, may_stand, is_printable}
 use Rattle.ft_model.specs.Spelling.{numeral, number_of, within}
 use Rattle.ft_model.specs.Words.{words_of}
 use Rattle.ft_model.specs.Readable.{FitsEvent}
@@ -139,6 +139,7 @@ event_askable verb.Stop words e h = stop_askable words e h
 says_event : (draft : Draft) (k : Keyword) (words : List (List ℕ)) (e : Event) → line_from draft k words ≡ Ok (line.Event e) → IsAskable e
 says_event draft keyword.Service words e h = let b = bind_ok (service_line words) (λ kind. Ok (line.Service kind)) (line.Event e) h in absurd (cc b.2)
 says_event draft keyword.Server words e h = let b = bind_ok (server_line words) (λ addr. Ok (line.Server addr)) (line.Event e) h in absurd (cc b.2)
+says_event draft keyword.Profile words e h = let b = bind_ok (profile_line words) (λ profile. Ok (line.Profile profile)) (line.Event e) h in absurd (cc b.2)
 says_event draft keyword.Twin words e h = absurd (bare_says line.Twin words (line.Event e) (λ f. cc) h)
 says_event draft keyword.Marks words e h = let b = bind_ok (marks_line words) (λ every. Ok (line.Marks every)) (line.Event e) h in absurd (cc b.2)
 says_event draft keyword.Client words e h = let b = bind_ok (client_line draft words) (λ client. Ok (line.Client client)) (line.Event e) h in absurd (cc b.2)
@@ -156,7 +157,7 @@ unfolding line_behind
 words_say draft [] l e = absurd (cc)
 words_say draft (word ∷ words) l e =
     let at = bind_ok (ok_or (keyword_of word) why.Word) (λ k. line_behind draft k words) l e in
-    let named = unless (names_no_service at.0 words) why.Word (cond (may_stand draft at.0 words) (line_from draft at.0 words) (Err why.Place)) l at.2 in
+    let named = unless (is_misnamed at.0 words) why.Word (cond (may_stand draft at.0 words) (line_from draft at.0 words) (Err why.Place)) l at.2 in
     (at.0, words, provided (may_stand draft at.0 words) why.Place (line_from draft at.0 words) l named.1)
 
 pub line_says : (draft : Draft) (text : List ℕ) (l : Line) → line_of draft text ≡ Ok l → (k : Keyword) × (behind : List (List ℕ)) × (line_from draft k behind ≡ Ok l)

@@ -8,9 +8,11 @@ use Rattle.std.proofs.lemmas.Bool.{leb-true}
 use Rattle.std.proofs.lemmas.List.{append_cancel_left, take-append-drop, length-take, length-drop}
 use Rattle.std.proofs.Math.Seq.{take-append-add, drop-append_seam}
 use Rattle.ft_io.proofs.Booleans.{left_true, right_true, not_true}
-use Rattle.ft_model.specs.Grammar.{◌>>=◌, Refusal, no_objection, unless_objected, keyword_of, names_no_service, service_line, line_behind, line_of, with_line, is_full, is_passed_over, is_printable, is_too_much, after_line, at_line, read_lines, read_with, read_text}
+use Rattle.tcp_rules.specs.declared.profile.Profile.{Profile}
+use Rattle.tcp_rules.specs.declared.profile.Profile.TheVariants.{Plain, Wan}
+use Rattle.ft_model.specs.Grammar.{◌>>=◌, Refusal, no_objection, unless_objected, keyword_of, is_misnamed, service_line, line_behind, line_of, with_line, is_full, is_passed_over, is_printable, is_too_much, after_line, at_line, read_lines, read_with, read_text}
 use Rattle.ft_model.specs.Grammar.Refusal.{TooLong}
-use Rattle.ft_model.specs.Report.{header, schedule_line, twin_line, marks_line, schedule_lines}
+use Rattle.ft_model.specs.Report.{header, schedule_line, profile_line, twin_line, marks_line, schedule_lines}
 use Rattle.ft_model.specs.Spelling.{service_of}
 use Rattle.ft_model.specs.Texts.{service_text}
 use Rattle.ft_model.specs.Words.{lines_of, words_of}
@@ -28,10 +30,11 @@ use Rattle.ft_model.specs.declared.schedule.ServiceKind.TheVariants as services
 use Rattle.schedule_text.specs.EventLines.{asked_line}
 use Rattle.report_laws.specs.declared.Law.TheVariants as law
 use Rattle.report_laws.specs.Canonical.{EventsAccepted, FitsLimit, HeaderAccepted, Follows, IsCanonical, canonical_line, schedule_bytes}
-use Rattle.report_laws.specs.Transitions.{HeaderLine}
+use Rattle.report_laws.specs.Transitions.{SaysMore, HeaderLine}
 use Rattle.report_laws.specs.Transitions.Position.{InHeader}
 use Rattle.report_laws.specs.Transitions.Step.{Continues, Rejects}
 use Rattle.report_laws.proofs.Accepted.{client_text, server_text}
+use Rattle.report_laws.proofs.ProfileLines.{IsNaming, profile_stands, profile_text}
 use Rattle.report_laws.proofs.Fronts.{HasFront, front_of, no_feed, printable_of, cut_last}
 use Rattle.report_laws.proofs.ReadLines.{Reads, IsClean, joined, joined_more, all_more, more_read, within_read, lines_back, spelled_by}
 use Rattle.line_check.specs.HeaderText.{IsHeaderSoFar, header_so_far, own_text, is_header_of, if_header, header_in, service_text_line, service_among, all_services, service_in}
@@ -39,7 +42,7 @@ use Rattle.line_check.proofs.Spelled.{same_bytes, bytes_same}
 
 -- what the lines so far lead the grammar to
 pub service_follows : (kind : ServiceKind) → Follows Empty (says.Service kind)
-unfolding line_of line_behind is_printable words_of keyword_of names_no_service service_line service_of service_text
+unfolding line_of line_behind is_printable words_of keyword_of is_misnamed service_line service_of service_text
 service_follows services.Echo = record { spelled = refl; accepted = refl; short = omega arith }
 service_follows services.Line = record { spelled = refl; accepted = refl; short = omega arith }
 service_follows services.Transfer = record { spelled = refl; accepted = refl; short = omega arith }
@@ -71,9 +74,10 @@ unfolding header
 header_is schedule one unmarked none =
     let a : List ℕ = canonical_line Empty (says.Service schedule.service) in
     let b : List ℕ = canonical_line (Named schedule.service) (says.Server schedule.server) in
+    let p : List ℕ = profile_line schedule.profile in
     let c : List ℕ = schedule_lines 1 schedule.clients in
-    ap₂ (λ t m. codes "ftreplay 1\n" ++ (a ++ (b ++ (twin_line t ++ (marks_line m ++ c))))) one unmarked
-    ∙ ap (λ t. codes "ftreplay 1\n" ++ (a ++ (b ++ t))) (sym (append-nil c) ∙ ap (λ es. c ++ flat_map (λ e. asked_line e ++ 10 ∷ []) es) (sym none))
+    ap₂ (λ t m. codes "ftreplay 1\n" ++ (a ++ (b ++ (p ++ (twin_line t ++ (marks_line m ++ c)))))) one unmarked
+    ∙ ap (λ t. codes "ftreplay 1\n" ++ (a ++ (b ++ (p ++ t)))) (sym (append-nil c) ∙ ap (λ es. c ++ flat_map (λ e. asked_line e ++ 10 ∷ []) es) (sym none))
 
 -- without its last byte, the text behind the first line is the lines so far and the front of the last one
 own_is : (bytes line : List ℕ) → own_text (codes "ftreplay 1\n" ++ (bytes ++ line)) ≡ take (length (bytes ++ line) - 1) (bytes ++ line)
@@ -189,12 +193,13 @@ named_told kind line schedule some r = by_line (after_told r.number (Named kind)
         → HeaderLine (Named kind) line (Continues (InHeader (Begun schedule)))
     by_line (inl e) = absurd (cc)
     by_line (inr (says.Service other, f, e)) = absurd (cc)
+    by_line (inr (says.Profile profile, f, e)) = absurd (cc)
     by_line (inr (says.Twin, f, e)) = absurd (cc)
     by_line (inr (says.Marks every, f, e)) = absurd (cc)
     by_line (inr (says.Client c, f, e)) = absurd (cc)
     by_line (inr (says.Event x, f, e)) = absurd (cc)
     by_line (inr (says.Server at, f, e)) =
-        let own : Schedule = record { service = kind; server = at; twin = false; marks = None; clients = []; events = [] } in
+        let own : Schedule = record { service = kind; server = at; profile = Plain; twin = false; marks = None; clients = []; events = [] } in
         let same : schedule ≡ own = cc in
         let a : List ℕ = canonical_line Empty (says.Service kind) in
         let b : List ℕ = canonical_line (Named kind) (says.Server at) in
@@ -210,7 +215,7 @@ no_events : (before : Schedule) (x : Event) → header (record before { events =
 unfolding header
 no_events before x = refl
 
--- a client's line
+-- the line of a profile or of a client
 begun_told : (before : Schedule) (line : List ℕ) (schedule : Schedule) → HeaderAccepted before → before.events ≡ [] → 0 < length line → IsRead (Begun before) line schedule
     → HeaderLine (Begun before) line (Continues (InHeader (Begun schedule)))
 begun_told before line schedule h none some r = by_line (after_told r.number (Begun before) (Begun schedule) (take (length line - 1) line) r.after)
@@ -249,7 +254,23 @@ begun_told before line schedule h none some r = by_line (after_told r.number (Be
         let own : codes "ftreplay 1\n" ++ schedule_bytes (Begun later) ≡ codes "ftreplay 1\n" ++ (bytes ++ line) = sym (header_is later h.one_logger h.unmarked none) ∙ (ap header (sym same) ∙ r.written) in
         let size : length (schedule_bytes (Begun later)) ≡ length (bytes ++ line) = ap length (append_cancel_left (codes "ftreplay 1\n") (schedule_bytes (Begun later)) (bytes ++ line) own) in
         let canonical : IsCanonical (Begun before) (says.Client c) line = record { spelled = spelled; accepted = f; short = fits bytes line (schedule_bytes (Begun later)) some size r.short } in
-        inl (c, canonical, ap (λ d. Continues (InHeader d)) e)
+        inl (says.Client c, (tt, canonical), ap (λ d. Continues (InHeader d)) e)
+    by_line (inr (says.Profile profile, f, e)) =
+        let naming : IsNaming before profile = profile_stands before (take (length line - 1) line) profile f in
+        let wide : IsNaming before Wan = record { named = refl; unnamed = naming.unnamed; alone = naming.alone } in
+        let later : Schedule = record before { profile = Wan } in
+        let said : schedule ≡ record before { profile = profile } = cc in
+        let same : schedule ≡ later = said ∙ ap (λ p. let s : Schedule = record before { profile = p } in s) naming.named in
+        let b : List ℕ = profile_line Wan in
+        let written : codes "ftreplay 1\n" ++ (bytes ++ line) ≡ codes "ftreplay 1\n" ++ (bytes ++ b) =
+        sym r.written ∙ (ap header same ∙ (sym (profile_text before (codes "ftreplay 1\n" ++ bytes) b wide h.one_logger h.unmarked (sym (header_is before h.one_logger h.unmarked none)) refl)
+        ∙ append_assoc (codes "ftreplay 1\n") bytes b)) in
+        let spelled : line ≡ b = append_cancel_left bytes line b (append_cancel_left (codes "ftreplay 1\n") (bytes ++ line) (bytes ++ b) written) in
+        let own : codes "ftreplay 1\n" ++ schedule_bytes (Begun later) ≡ codes "ftreplay 1\n" ++ (bytes ++ line) = sym (header_is later h.one_logger h.unmarked none) ∙ (ap header (sym same) ∙ r.written) in
+        let size : length (schedule_bytes (Begun later)) ≡ length (bytes ++ line) = ap length (append_cancel_left (codes "ftreplay 1\n") (schedule_bytes (Begun later)) (bytes ++ line) own) in
+        let accepted : line_of (Begun before) (take (length line - 1) line) ≡ Ok (says.Profile Wan) = f ∙ ap (λ p. Ok (says.Profile p)) naming.named in
+        let canonical : IsCanonical (Begun before) (says.Profile Wan) line = record { spelled = spelled; accepted = accepted; short = fits bytes line (schedule_bytes (Begun later)) some size r.short } in
+        inl (says.Profile Wan, (tt, canonical), ap (λ s. Continues (InHeader (Begun s))) same)
 
 line_told : (draft : Draft) (line : List ℕ) (schedule : Schedule) → IsHeaderSoFar draft → 0 < length line → IsRead draft line schedule
     → HeaderLine draft line (Continues (InHeader (Begun schedule)))
@@ -260,13 +281,13 @@ line_told (Begun before) line schedule h some r = begun_told before line schedul
 -- the lines that may follow
 abbrev IsNext : Draft → Line → Type 0
 IsNext (Named kind) (says.Server at) = Unit {0}
-IsNext (Begun schedule) (says.Client c) = Unit {0}
+IsNext (Begun schedule) l = SaysMore l
 IsNext _ _ = ⊥
 
 no_line : (draft : Draft) (line : List ℕ) → IsHeaderSoFar draft → ((l : Line) → IsNext draft l → IsCanonical draft l line → ⊥) → HeaderLine draft line (Rejects law.Text)
 no_line Empty line h never = absurd h
 no_line (Named kind) line h never = inr ((λ at c. never (says.Server at) tt c), refl)
-no_line (Begun schedule) line h never = inr ((λ client c. never (says.Client client) tt c), refl)
+no_line (Begun schedule) line h never = inr ((λ l c. never l c.0 c.1), refl)
 
 -- a line that may follow is read with the header before it
 whole_read : (bytes line : List ℕ) (draft : Draft) (l : Line) (schedule : Schedule) → Reads bytes draft → is_full draft ≡ false → IsCanonical draft l line
@@ -286,12 +307,13 @@ some_schedule : (draft : Draft) (line : List ℕ) (l : Line) → IsHeaderSoFar d
     → is_some (header_in (codes "ftreplay 1\n" ++ (schedule_bytes draft ++ line))) ≡ true
 some_schedule Empty line l h n c = absurd h
 some_schedule (Named kind) line (says.Service other) h n c = absurd n
+some_schedule (Named kind) line (says.Profile profile) h n c = absurd n
 some_schedule (Named kind) line says.Twin h n c = absurd n
 some_schedule (Named kind) line (says.Marks every) h n c = absurd n
 some_schedule (Named kind) line (says.Client client) h n c = absurd n
 some_schedule (Named kind) line (says.Event x) h n c = absurd n
 some_schedule (Named kind) line (says.Server at) h n c =
-    let own : Schedule = record { service = kind; server = at; twin = false; marks = None; clients = []; events = [] } in
+    let own : Schedule = record { service = kind; server = at; profile = Plain; twin = false; marks = None; clients = []; events = [] } in
     let a : List ℕ = canonical_line Empty (says.Service kind) in
     let written : header own ≡ codes "ftreplay 1\n" ++ (a ++ line) = sym (server_text kind at (codes "ftreplay 1\n" ++ a) line refl c.spelled) ∙ append_assoc (codes "ftreplay 1\n") a line in
     ap is_some (whole_read a line (Named kind) (says.Server at) own (named_read kind) refl c refl refl refl refl written)
@@ -306,6 +328,16 @@ some_schedule (Begun before) line (says.Client client) h n c =
     let written : header later ≡ codes "ftreplay 1\n" ++ (bytes ++ line) =
     sym (client_text before client (codes "ftreplay 1\n" ++ bytes) line (sym (header_is before h.0.one_logger h.0.unmarked h.1)) c.spelled) ∙ append_assoc (codes "ftreplay 1\n") bytes line in
     ap is_some (whole_read bytes line (Begun before) (says.Client client) later (begun_read before h.0 h.1) (not_full (Begun before) h) c refl h.0.one_logger h.0.unmarked h.1 written)
+some_schedule (Begun before) line (says.Profile profile) h n c =
+    let naming : IsNaming before profile = profile_stands before (take (length line - 1) line) profile c.accepted in
+    let wide : IsNaming before Wan = record { named = refl; unnamed = naming.unnamed; alone = naming.alone } in
+    let named : IsCanonical (Begun before) (says.Profile Wan) line = subst (λ p. IsCanonical (Begun before) (says.Profile p) line) naming.named c in
+    let later : Schedule = record before { profile = Wan } in
+    let bytes : List ℕ = schedule_bytes (Begun before) in
+    let written : header later ≡ codes "ftreplay 1\n" ++ (bytes ++ line) =
+    sym (profile_text before (codes "ftreplay 1\n" ++ bytes) line wide h.0.one_logger h.0.unmarked (sym (header_is before h.0.one_logger h.0.unmarked h.1)) named.spelled)
+    ∙ append_assoc (codes "ftreplay 1\n") bytes line in
+    ap is_some (whole_read bytes line (Begun before) (says.Profile Wan) later (begun_read before h.0 h.1) (not_full (Begun before) h) named refl h.0.one_logger h.0.unmarked h.1 written)
 
 -- the text, cut where the line begins
 text_is : (text : List ℕ) (start : ℕ) (draft : Draft) → take start text ≡ header_so_far draft → text ≡ codes "ftreplay 1\n" ++ (schedule_bytes draft ++ drop start text)

@@ -46,13 +46,7 @@ impl<S: Service> Model for PlainNode<S> {
 
 impl<S: Service> PlainNode<S> {
     /// Creates an incarnation at its boot. Allocates nothing.
-    pub fn booted(
-        kind: u8,
-        server: Addr,
-        profile: Profile,
-        boot: u64,
-        isn: u32,
-    ) -> PlainNode<S>
+    pub fn booted(kind: u8, server: Addr, profile: Profile, boot: u64, isn: u32) -> PlainNode<S>
         ensures node { node_in result ≡ law.booted server (profile_of profile) boot isn }
         ensures kind { result.kind ≡ kind }
         ensures served { IsServedNode (machine (S.started kind) S.after) result }

@@ -7,10 +7,11 @@ use Rattle.std.proofs.lemmas.Slice.Eq.{bytes_eq-Decides}
 use Rattle.ft_io.proofs.Booleans.{right_false}
 use Rattle.ft_io.specs.declared.Addr.{Addr}
 use Rattle.server_trait.specs.Service.{Machine}
+use Rattle.tcp_rules.specs.declared.profile.Profile.TheVariants.{Plain, Wan}
 use Rattle.ft_model.specs.Client.{Client}
 use Rattle.ft_model.specs.Legal.{Legal, start_of, refusal}
 use Rattle.ft_model.specs.Network.{Packet}
-use Rattle.ft_model.specs.Report.{header, twin_line, marks_line, schedule_line, schedule_lines, event_line, event_lines, packet_line, packet_lines, packet_count, way_of, closing_lines}
+use Rattle.ft_model.specs.Report.{header, profile_line, twin_line, marks_line, schedule_line, schedule_lines, event_line, event_lines, packet_line, packet_lines, packet_count, way_of, closing_lines}
 use Rattle.ft_model.specs.Grammar.{read_text, with_line}
 use Rattle.ft_model.specs.World.{World, Moment, IsStart, world_after}
 use Rattle.ft_model.specs.declared.event.Event.{Event}
@@ -23,7 +24,7 @@ use Rattle.ft_model.specs.declared.schedule.ServiceKind.{ServiceKind}
 use Rattle.report_laws.specs.declared.Law.{Law}
 use Rattle.report_laws.specs.declared.Law.TheVariants as law
 use Rattle.report_laws.specs.Lines.{lines_in}
-use Rattle.report_laws.specs.Canonical.{IsCanonical, Follows, ClientsAccepted, EventsAccepted, HeaderAccepted, IsWithinLimits, bare, canonical_line, schedule_bytes}
+use Rattle.report_laws.specs.Canonical.{IsCanonical, Follows, ClientsAccepted, EventsAccepted, HeaderAccepted, IsWithinLimits, profiled, canonical_line, schedule_bytes}
 use Rattle.report_laws.specs.Transitions.{Position, LineGives, HeaderLine, ClosingLine, AfterTurn, EventLine, IsReport, clients_in, report_so_far, turn_so_far, begins_with, actor, is_header_line, pieces}
 use Rattle.report_laws.specs.Transitions.Position.{AtStart, InHeader, InTurn, InClosing}
 use Rattle.report_laws.specs.Transitions.Step.{Continues, Rejects, Accepts}
@@ -31,6 +32,7 @@ use Rattle.report_laws.specs.Verdict.{AcceptedFrom}
 use Rattle.report_laws.proofs.Rejection.{kind_of, position_in}
 use Rattle.report_laws.proofs.EventLines.{event_is_spelled}
 use Rattle.report_laws.proofs.LineLemmas.{lines_join, events_count}
+use Rattle.report_laws.proofs.ProfileLines.{IsNaming, profile_stands, profile_text, profile_accepted}
 use Rattle.report_laws.proofs.ReadLines.{own_text_read}
 use Rattle.ft_model.proofs.PlayableLemmas.{playable, starts}
 
@@ -116,11 +118,18 @@ client_accepted s (x ∷ clients) c h last =
 pub more_accepted : (schedule : Schedule) (client : ClientLine) → HeaderAccepted schedule → schedule.events ≡ [] → Follows (Begun schedule) (says.Client client)
     → HeaderAccepted (record schedule { clients = schedule.clients ++ client ∷ [] })
 more_accepted schedule client h none follows =
-    let bare_too : Follows (Begun (record (bare schedule) { clients = schedule.clients })) (says.Client client) =
+    let bare_too : Follows (Begun (record (profiled schedule) { clients = schedule.clients })) (says.Client client) =
     subst (λ es. Follows (Begun (record schedule { twin = false; marks = None; events = es })) (says.Client client)) none
     (subst (λ m. Follows (Begun (record schedule { twin = false; marks = m })) (says.Client client)) h.unmarked
     (subst (λ t. Follows (Begun (record schedule { twin = t })) (says.Client client)) h.one_logger follows)) in
-    record { one_logger = h.one_logger; unmarked = h.unmarked; service = h.service; server = h.server; clients = client_accepted (bare schedule) schedule.clients client h.clients bare_too }
+    record {
+      one_logger = h.one_logger;
+      unmarked = h.unmarked;
+      service = h.service;
+      server = h.server;
+      profile = h.profile;
+      clients = client_accepted (profiled schedule) schedule.clients client h.clients bare_too;
+    }
 
 schedule_lines_more : (n : ℕ) (clients : List ClientLine) (c : ClientLine) → schedule_lines n (clients ++ c ∷ []) ≡ schedule_lines n clients ++ schedule_line (n + length clients) c
 schedule_lines_more n [] c =
@@ -137,6 +146,7 @@ unfolding header
 client_text schedule client text line is spelled =
     let a : List ℕ = canonical_line Empty (says.Service schedule.service) in
     let b : List ℕ = canonical_line (Named schedule.service) (says.Server schedule.server) in
+    let p : List ℕ = profile_line schedule.profile in
     let t : List ℕ = twin_line schedule.twin in
     let m : List ℕ = marks_line schedule.marks in
     let c : List ℕ = schedule_lines 1 schedule.clients in
@@ -144,13 +154,14 @@ client_text schedule client text line is spelled =
     let last : c ++ line ≡ schedule_lines 1 (schedule.clients ++ client ∷ []) =
     ap (λ l. c ++ l) (spelled ∙ ap (λ k. schedule_line k client) number) ∙ sym (schedule_lines_more 1 schedule.clients client) in
     ap (λ s. s ++ line) is
-    ∙ (append_assoc name_line (a ++ (b ++ (t ++ (m ++ c)))) line
-    ∙ ap (λ s. name_line ++ s) (append_assoc a (b ++ (t ++ (m ++ c))) line
-    ∙ ap (λ s. a ++ s) (append_assoc b (t ++ (m ++ c)) line
-    ∙ ap (λ s. b ++ s) (append_assoc t (m ++ c) line ∙ ap (λ s. t ++ s) (append_assoc m c line ∙ ap (λ s. m ++ s) last)))))
+    ∙ (append_assoc name_line (a ++ (b ++ (p ++ (t ++ (m ++ c))))) line
+    ∙ ap (λ s. name_line ++ s) (append_assoc a (b ++ (p ++ (t ++ (m ++ c)))) line
+    ∙ ap (λ s. a ++ s) (append_assoc b (p ++ (t ++ (m ++ c))) line
+    ∙ ap (λ s. b ++ s) (append_assoc p (t ++ (m ++ c)) line
+    ∙ ap (λ s. p ++ s) (append_assoc t (m ++ c) line ∙ ap (λ s. t ++ s) (append_assoc m c line ∙ ap (λ s. m ++ s) last))))))
 
 pub server_text : (kind : ServiceKind) (at : Addr) (text line : List ℕ) → text ≡ name_line ++ canonical_line Empty (says.Service kind) → line ≡ canonical_line (Named kind) (says.Server at)
-    → text ++ line ≡ header (record { service = kind; server = at; twin = false; marks = None; clients = []; events = [] })
+    → text ++ line ≡ header (record { service = kind; server = at; profile = Plain; twin = false; marks = None; clients = []; events = [] })
 unfolding header
 server_text kind at text line is spelled =
     let a : List ℕ = canonical_line Empty (says.Service kind) in
@@ -201,7 +212,7 @@ module _ {State : Type 0} (service : ℕ → Machine State) where
       let below : length trace < 100000 = leb-false 100000 (length trace) not_full in
       let canonical : Follows (Begun schedule) (says.Event event) = subst (IsCanonical (Begun schedule) (says.Event event)) l.canonical.spelled l.canonical in
       let later : IsWithinLimits (record schedule { events = schedule.events ++ event ∷ [] }) = record {
-        header = record { one_logger = within.header.one_logger; unmarked = within.header.unmarked; service = within.header.service; server = within.header.server; clients = within.header.clients };
+        header = record { one_logger = within.header.one_logger; unmarked = within.header.unmarked; service = within.header.service; server = within.header.server; profile = within.header.profile; clients = within.header.clients };
         events = event_accepted (record schedule { events = [] }) schedule.events event within.events canonical;
         few = omega (arith, more, same, below);
       } in
@@ -268,23 +279,37 @@ module _ {State : Type 0} (service : ℕ → Machine State) where
   header_on (Named kind) line text next h (inr (none, e)) = on_fails next law.Text e
   header_on (Named kind) line text next h (inl (at, l, e)) =
       let follows : Follows (Named kind) (says.Server at) = subst (IsCanonical (Named kind) (says.Server at)) l.spelled l in
-      let accepted : HeaderAccepted (record { service = kind; server = at; twin = false; marks = None; clients = []; events = [] }) =
-      record { one_logger = refl; unmarked = refl; service = h.1; server = follows; clients = tt } in
+      let accepted : HeaderAccepted (record { service = kind; server = at; profile = Plain; twin = false; marks = None; clients = []; events = [] }) =
+      record { one_logger = refl; unmarked = refl; service = h.1; server = follows; profile = tt; clients = tt } in
       subst (λ s. Holds service s (text ++ line)) (sym (on_same next (InHeader (with_line (Named kind) (says.Server at))) e))
       (server_text kind at text line h.0 l.spelled, accepted, refl)
   header_on (Begun schedule) line text next h b =
       tested (is_header_line schedule (pieces line)) (HeaderLine (Begun schedule) line (Continues next)) (AfterTurn schedule [] (Some line) (Continues next)) (Holds service next (text ++ line))
-      (λ t c. client_on c)
+      (λ t c. more_on c)
       (λ t c. let played : IsWithinLimits schedule × Legal service schedule [] × (text ≡ report_so_far schedule []) = nothing_played schedule text h.0 h.1 h.2 in
       let none : packet_count [] ≤ 200000 = omega arith in
       behind_on schedule [] line text next played.1 played.0 none played.2 c) b
     where
-      client_on : HeaderLine (Begun schedule) line (Continues next) → Holds service next (text ++ line)
-      client_on (inr (none, e)) = on_fails next law.Text e
-      client_on (inl (client, l, e)) =
-          let follows : Follows (Begun schedule) (says.Client client) = subst (IsCanonical (Begun schedule) (says.Client client)) l.spelled l in
+      more_on : HeaderLine (Begun schedule) line (Continues next) → Holds service next (text ++ line)
+      more_on (inr (none, e)) = on_fails next law.Text e
+      more_on (inl (says.Service kind, l, e)) = absurd l.0
+      more_on (inl (says.Server at, l, e)) = absurd l.0
+      more_on (inl (says.Twin, l, e)) = absurd l.0
+      more_on (inl (says.Marks every, l, e)) = absurd l.0
+      more_on (inl (says.Event x, l, e)) = absurd l.0
+      more_on (inl (says.Client client, l, e)) =
+          let follows : Follows (Begun schedule) (says.Client client) = subst (IsCanonical (Begun schedule) (says.Client client)) l.1.spelled l.1 in
           subst (λ s. Holds service s (text ++ line)) (sym (on_same next (InHeader (with_line (Begun schedule) (says.Client client))) e))
-          (client_text schedule client text line h.0 l.spelled, more_accepted schedule client h.1 h.2 follows, h.2)
+          (client_text schedule client text line h.0 l.1.spelled, more_accepted schedule client h.1 h.2 follows, h.2)
+      more_on (inl (says.Profile profile, l, e)) =
+          let naming : IsNaming schedule profile = profile_stands schedule (take (length line - 1) line) profile l.1.accepted in
+          let wide : IsNaming schedule Wan = record { named = refl; unnamed = naming.unnamed; alone = naming.alone } in
+          let c : IsCanonical (Begun schedule) (says.Profile Wan) line = subst (λ p. IsCanonical (Begun schedule) (says.Profile p) line) naming.named l.1 in
+          let follows : Follows (Begun schedule) (says.Profile Wan) = subst (IsCanonical (Begun schedule) (says.Profile Wan)) c.spelled c in
+          let goes : Continues next ≡ Continues (InHeader (Begun (record schedule { profile = Wan }))) =
+          e ∙ ap (λ p. Continues (InHeader (Begun (record schedule { profile = p })))) naming.named in
+          subst (λ s. Holds service s (text ++ line)) (sym (on_same next (InHeader (Begun (record schedule { profile = Wan }))) goes))
+          (profile_text schedule text line wide h.1.one_logger h.1.unmarked h.0 c.spelled, profile_accepted schedule h.1 wide h.2 follows, h.2)
 
   header_ends : (draft : Draft) (text : List ℕ) → Holds service (InHeader draft) text → LineGives service (InHeader draft) None Accepts → IsReport service text
   header_ends Empty text h e = ends_fails law.End e

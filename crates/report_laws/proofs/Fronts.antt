@@ -4,6 +4,7 @@ use Rattle.std.specs.List.{AllByRecursion}
 use Rattle.std.proofs.lemmas.Bool.{leb-true}
 use Rattle.std.proofs.Math.Seq.{take-append_seam}
 use Rattle.ft_io.proofs.Booleans.{left_true, right_true}
+use Rattle.tcp_rules.specs.declared.profile.Profile.TheVariants.{Plain, Wan}
 use Rattle.ft_model.specs.Grammar.{line_of, line_of_words, is_printable}
 use Rattle.ft_model.specs.Report.{schedule_line}
 use Rattle.ft_model.specs.Texts.{spaced, key_text, address_text, service_text, script_text}
@@ -62,6 +63,8 @@ unfolding schedule_line
 feed_last n (says.Service kind) = inl (codes "service" ++ spaced (service_text kind ∷ []), sym (append_assoc (codes "service") (spaced (service_text kind ∷ [])) (10 ∷ [])))
 feed_last n (says.Server at) =
     inl (codes "server" ++ spaced (address_text at.ip at.port ∷ []), sym (append_assoc (codes "server") (spaced (address_text at.ip at.port ∷ [])) (10 ∷ [])))
+feed_last n (says.Profile Plain) = inr refl
+feed_last n (says.Profile Wan) = inl (codes "profile wan", refl)
 feed_last n says.Twin = inr refl
 feed_last n (says.Marks every) = inr refl
 feed_last n (says.Client c) =

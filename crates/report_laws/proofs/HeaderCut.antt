@@ -1,13 +1,15 @@
 -- A header's text is cut into its lines.
 use Rattle.std.proofs.Common.{◌≡◌, ℕ, ◌+◌, refl, sym, ap, ap₂, ◌∙◌, List, [], ◌∷◌, ◌++◌, codes, length, length-append, append_assoc}
-use Rattle.ft_model.specs.Report.{header, twin_line, marks_line, schedule_line, schedule_lines}
+use Rattle.tcp_rules.specs.declared.profile.Profile.{Profile}
+use Rattle.tcp_rules.specs.declared.profile.Profile.TheVariants.{Plain, Wan}
+use Rattle.ft_model.specs.Report.{header, profile_line, twin_line, marks_line, schedule_line, schedule_lines}
 use Rattle.ft_model.specs.declared.line.Draft.{Draft}
 use Rattle.ft_model.specs.declared.line.Draft.TheVariants.{Empty, Named, Begun}
 use Rattle.ft_model.specs.declared.line.Line.{Line}
 use Rattle.ft_model.specs.declared.line.Line.TheVariants as says
 use Rattle.ft_model.specs.declared.schedule.ClientLine.{ClientLine}
 use Rattle.ft_model.specs.declared.schedule.Schedule.{Schedule}
-use Rattle.report_laws.specs.Canonical.{IsCanonical, ClientsAccepted, HeaderAccepted, bare, canonical_line, client_header_lines, header_lines}
+use Rattle.report_laws.specs.Canonical.{IsCanonical, ClientsAccepted, ProfileAccepted, HeaderAccepted, bare, profiled, canonical_line, client_header_lines, profile_header_lines, header_lines}
 use Rattle.report_laws.specs.Lines.{lines_in}
 use Rattle.report_laws.proofs.CutLines.{lines_cut}
 use Rattle.report_laws.proofs.Fronts.{HasFront, front_of}
@@ -30,6 +32,11 @@ clients_cut s (c ∷ more) rest h =
     ap lines_in (append_assoc line (schedule_lines (n + 1) more) rest)
     ∙ (canonical_cut (Begun s) (says.Client c) line (schedule_lines (n + 1) more ++ rest) h.0 ∙ ap (λ ls. line ∷ ls) behind)
 
+profile_cut : (schedule : Schedule) (profile : Profile) (rest : List ℕ) → ProfileAccepted (bare schedule) profile
+    → lines_in (profile_line profile ++ rest) ≡ profile_header_lines profile ++ lines_in rest
+profile_cut schedule Plain rest h = refl
+profile_cut schedule Wan rest h = canonical_cut (Begun (bare schedule)) (says.Profile Wan) (profile_line Wan) rest h
+
 first_cut : (rest : List ℕ) → lines_in (codes "ftreplay 1\n" ++ rest) ≡ codes "ftreplay 1\n" ∷ lines_in rest
 unfolding lines_in
 first_cut rest = refl
@@ -40,14 +47,19 @@ header_cut schedule rest h =
     let name : List ℕ = codes "ftreplay 1\n" in
     let a : List ℕ = canonical_line Empty (says.Service schedule.service) in
     let b : List ℕ = canonical_line (Named schedule.service) (says.Server schedule.server) in
+    let p : List ℕ = profile_line schedule.profile in
     let c : List ℕ = schedule_lines 1 schedule.clients in
-    let single : name ++ (a ++ (b ++ (twin_line schedule.twin ++ (marks_line schedule.marks ++ c)))) ≡ name ++ (a ++ (b ++ c)) =
-    ap₂ (λ t m. name ++ (a ++ (b ++ (twin_line t ++ (marks_line m ++ c))))) h.one_logger h.unmarked in
-    let apart : (name ++ (a ++ (b ++ c))) ++ rest ≡ name ++ (a ++ (b ++ (c ++ rest))) =
-    append_assoc name (a ++ (b ++ c)) rest ∙ ap (λ t. name ++ t) (append_assoc a (b ++ c) rest ∙ ap (λ t. a ++ t) (append_assoc b c rest)) in
+    let single : name ++ (a ++ (b ++ (p ++ (twin_line schedule.twin ++ (marks_line schedule.marks ++ c))))) ≡ name ++ (a ++ (b ++ (p ++ c))) =
+    ap₂ (λ t m. name ++ (a ++ (b ++ (p ++ (twin_line t ++ (marks_line m ++ c)))))) h.one_logger h.unmarked in
+    let apart : (name ++ (a ++ (b ++ (p ++ c)))) ++ rest ≡ name ++ (a ++ (b ++ (p ++ (c ++ rest)))) =
+    append_assoc name (a ++ (b ++ (p ++ c))) rest
+    ∙ ap (λ t. name ++ t) (append_assoc a (b ++ (p ++ c)) rest ∙ ap (λ t. a ++ t) (append_assoc b (p ++ c) rest ∙ ap (λ t. b ++ t) (append_assoc p c rest))) in
+    let clients : List (List ℕ) = client_header_lines 1 schedule.clients in
     ap (λ t. lines_in (t ++ rest)) single
     ∙ (ap lines_in apart
-    ∙ (first_cut (a ++ (b ++ (c ++ rest)))
-    ∙ ap (λ ls. name ∷ ls) (canonical_cut Empty (says.Service schedule.service) a (b ++ (c ++ rest)) h.service
-    ∙ ap (λ ls. a ∷ ls) (canonical_cut (Named schedule.service) (says.Server schedule.server) b (c ++ rest) h.server
-    ∙ ap (λ ls. b ∷ ls) (clients_cut (bare schedule) schedule.clients rest h.clients)))))
+    ∙ (first_cut (a ++ (b ++ (p ++ (c ++ rest))))
+    ∙ ap (λ ls. name ∷ ls) (canonical_cut Empty (says.Service schedule.service) a (b ++ (p ++ (c ++ rest))) h.service
+    ∙ ap (λ ls. a ∷ ls) (canonical_cut (Named schedule.service) (says.Server schedule.server) b (p ++ (c ++ rest)) h.server
+    ∙ ap (λ ls. b ∷ ls) (profile_cut schedule schedule.profile (c ++ rest) h.profile
+    ∙ (ap (λ ls. profile_header_lines schedule.profile ++ ls) (clients_cut (profiled schedule) schedule.clients rest h.clients)
+    ∙ sym (append_assoc (profile_header_lines schedule.profile) clients (lines_in rest))))))))

@@ -7,7 +7,9 @@ use Rattle.std.proofs.lemmas.List.Elements.{All-nil, All-cons}
 use Rattle.std.proofs.lemmas.List.Splits.{slice_split_at}
 use Rattle.std.proofs.lemmas.Slice.Eq.{bytes_eq-Decides}
 use Rattle.server_trait.specs.Service.{Machine}
-use Rattle.ft_model.specs.Report.{schedule_line}
+use Rattle.tcp_rules.specs.declared.profile.Profile.{Profile}
+use Rattle.tcp_rules.specs.declared.profile.Profile.TheVariants.{Plain, Wan}
+use Rattle.ft_model.specs.Report.{profile_line, schedule_line}
 use Rattle.ft_model.specs.Texts.{spaced, key_text, script_text}
 use Rattle.ft_model.specs.Words.{is}
 use Rattle.ft_model.specs.declared.line.Draft.TheVariants.{Empty, Named, Begun}
@@ -19,7 +21,7 @@ use Rattle.report_laws.specs.Transitions.{Position, LineGives, is_header_line, p
 use Rattle.report_laws.specs.Transitions.Position.{AtStart, InHeader}
 use Rattle.report_laws.specs.Transitions.Step.{Continues}
 use Rattle.report_laws.specs.Verdict.{LeadsTo}
-use Rattle.report_laws.specs.Canonical.{canonical_line, IsCanonical, bare, ClientsAccepted, HeaderAccepted, client_header_lines, header_lines}
+use Rattle.report_laws.specs.Canonical.{canonical_line, IsCanonical, Follows, bare, profiled, ClientsAccepted, ProfileAccepted, HeaderAccepted, client_header_lines, profile_header_lines, header_lines}
 use Rattle.report_laws.proofs.Turns.{if_true}
 
 -- a word has no space and no line feed
@@ -60,7 +62,7 @@ module _ {State : Type 0} (service : ℕ → Machine State) where
       → IsCanonical (Begun schedule) (says.Client c) (canonical_line (Begun schedule) (says.Client c))
       → LineGives service (InHeader (Begun schedule)) (Some (schedule_line (length schedule.clients + 1) c)) (Continues (InHeader (Begun (record schedule { clients = schedule.clients ++ c ∷ [] }))))
   client_read schedule c more cut accepted =
-      if_true (is_header_line schedule (pieces (schedule_line (length schedule.clients + 1) c))) _ _ (ap (is_header_line schedule) cut ∙ heads_of schedule more) (inl (c, accepted, refl))
+      if_true (is_header_line schedule (pieces (schedule_line (length schedule.clients + 1) c))) _ _ (ap (is_header_line schedule) cut ∙ heads_of schedule more) (inl (says.Client c, (tt, accepted), refl))
 
   first_lines : (schedule : Schedule) → HeaderAccepted schedule
       → (lines : List (List ℕ)) (last : Position) → LeadsTo service (InHeader (Begun (bare schedule))) lines last
@@ -74,6 +76,16 @@ module _ {State : Type 0} (service : ℕ → Machine State) where
       (InHeader (Begun (bare schedule)), inl (schedule.server, h.server, refl), leads),
     ),
   )
+
+  -- .. and so does that of a profile
+  profile_read : (schedule : Schedule) → Follows (Begun schedule) (says.Profile Wan)
+      → LineGives service (InHeader (Begun schedule)) (Some (profile_line Wan)) (Continues (InHeader (Begun (record schedule { profile = Wan }))))
+  profile_read schedule accepted = if_true (is_header_line schedule (pieces (profile_line Wan))) _ _ refl (inl (says.Profile Wan, (tt, accepted), refl))
+
+  profile_leads : (schedule : Schedule) (profile : Profile) → ProfileAccepted (bare schedule) profile → (lines : List (List ℕ)) (last : Position)
+      → LeadsTo service (InHeader (Begun (record (bare schedule) { profile = profile }))) lines last → LeadsTo service (InHeader (Begun (bare schedule))) (profile_header_lines profile ++ lines) last
+  profile_leads schedule Plain h lines last leads = leads
+  profile_leads schedule Wan h lines last leads = (InHeader (Begun (record (bare schedule) { profile = Wan })), profile_read (bare schedule) h, leads)
 
   clients_lead : (schedule : Schedule) (clients : List ClientLine) → ClientsAccepted schedule clients → length schedule.clients + length clients < 2 ^ 63
       → LeadsTo service (InHeader (Begun schedule)) (client_header_lines (length schedule.clients + 1) clients) (InHeader (Begun (record schedule { clients = schedule.clients ++ clients })))
@@ -97,7 +109,8 @@ module _ {State : Type 0} (service : ℕ → Machine State) where
       → LeadsTo service AtStart (header_lines schedule) (InHeader (Begun (record schedule { events = [] })))
   header_leads schedule h few =
       let count : length (bare schedule).clients + length schedule.clients < 2 ^ 63 = omega (arith, few) in
+      let last : Position = InHeader (Begun (record schedule { twin = false; marks = None; events = [] })) in
       subst (λ t. LeadsTo service AtStart (header_lines schedule) (InHeader (Begun (record schedule { twin = t; events = [] })))) (sym h.one_logger)
       (subst (λ m. LeadsTo service AtStart (header_lines schedule) (InHeader (Begun (record schedule { twin = false; marks = m; events = [] })))) (sym h.unmarked)
-      (first_lines schedule h (client_header_lines 1 schedule.clients) (InHeader (Begun (record schedule { twin = false; marks = None; events = [] })))
-      (clients_lead (bare schedule) schedule.clients h.clients count)))
+      (first_lines schedule h (profile_header_lines schedule.profile ++ client_header_lines 1 schedule.clients) last
+      (profile_leads schedule schedule.profile h.profile (client_header_lines 1 schedule.clients) last (clients_lead (profiled schedule) schedule.clients h.clients count))))

@@ -3,6 +3,7 @@ pub mod Rejection
 pub mod LineLemmas
 pub mod Fronts
 pub mod ReadLines
+pub mod ProfileLines
 pub mod Accepted
 pub mod EventLines
 pub mod Turns

@@ -15,7 +15,6 @@ use Rattle.ft_model.specs.declared.line.Draft.TheVariants.{Empty, Named, Begun}
 use Rattle.ft_model.specs.declared.line.Line.{Line}
 use Rattle.ft_model.specs.declared.line.Line.TheVariants as says
 use Rattle.ft_model.specs.declared.schedule.LineWhy.{LineWhy}
-use Rattle.ft_model.specs.declared.schedule.ClientLine.{ClientLine}
 use Rattle.ft_model.specs.declared.schedule.Schedule.{Schedule}
 use Rattle.ft_model.specs.declared.schedule.ServiceKind.{ServiceKind}
 use Rattle.ft_io.specs.declared.Addr.{Addr}
@@ -23,7 +22,7 @@ use Rattle.ft_model.proofs.OneTrace.{legal_once}
 use Rattle.ft_model.proofs.ReportPackets.{packet_same}
 use Rattle.report_laws.specs.declared.Law.TheVariants as law
 use Rattle.report_laws.specs.Lines.{lines_in}
-use Rattle.report_laws.specs.Transitions.{Position, Step, IfExists, IsEventLine, IsPacketLine, begins_with, ClosingLine, EventLine, AfterTurn, HeaderLine, is_header_line, pieces, LineGives, actor}
+use Rattle.report_laws.specs.Transitions.{Position, Step, IfExists, IsEventLine, IsPacketLine, begins_with, ClosingLine, EventLine, AfterTurn, SaysMore, HeaderLine, is_header_line, pieces, LineGives, actor}
 use Rattle.report_laws.specs.Canonical.{IsCanonical}
 use Rattle.report_laws.specs.Transitions.Position.{AtStart, InHeader, InTurn, InClosing}
 use Rattle.report_laws.specs.Transitions.Step.{Continues, Rejects, Accepts}
@@ -124,10 +123,6 @@ abbrev server_in : Line → Addr → Addr
 server_in (says.Server at) other = at
 server_in _ other = other
 
-abbrev client_in : Line → ClientLine → ClientLine
-client_in (says.Client client) other = client
-client_in _ other = other
-
 header_once : (draft : Draft) (text : List ℕ) (a b : Step) → HeaderLine draft text a → HeaderLine draft text b → a ≡ b
 header_once Empty text a b p q =
     if_once (λ kind. IsCanonical Empty (says.Service kind) text) _ _ (a ≡ Rejects law.Text) (b ≡ Rejects law.Text) (a ≡ b)
@@ -137,9 +132,8 @@ header_once (Named kind) text a b p q =
     (λ x y i j. ap (λ l. server_in l x) (plain_once (Named kind) text (says.Server x) (says.Server y) i j))
     (λ at i. alike (Continues (InHeader (with_line (Named kind) (says.Server at)))) a b) (alike (Rejects law.Text) a b) p q
 header_once (Begun schedule) text a b p q =
-    if_once (λ client. IsCanonical (Begun schedule) (says.Client client) text) _ _ (a ≡ Rejects law.Text) (b ≡ Rejects law.Text) (a ≡ b)
-    (λ x y i j. ap (λ l. client_in l x) (plain_once (Begun schedule) text (says.Client x) (says.Client y) i j))
-    (λ client i. alike (Continues (InHeader (with_line (Begun schedule) (says.Client client)))) a b) (alike (Rejects law.Text) a b) p q
+    if_once (λ l. SaysMore l × IsCanonical (Begun schedule) l text) _ _ (a ≡ Rejects law.Text) (b ≡ Rejects law.Text) (a ≡ b)
+    (λ x y i j. plain_once (Begun schedule) text x y i.1 j.1) (λ l i. alike (Continues (InHeader (with_line (Begun schedule) l))) a b) (alike (Rejects law.Text) a b) p q
 
 pub step_once : {State : Type 0} (service : ℕ → Machine State) (position : Position) (text : Option (List ℕ)) (a b : Step)
     → LineGives service position text a → LineGives service position text b → a ≡ b

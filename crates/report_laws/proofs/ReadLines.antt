@@ -7,8 +7,10 @@ use Rattle.std.proofs.lemmas.List.Elements.{All-nil, All-cons}
 use Rattle.std.proofs.lemmas.List.Splits.{slice_split_at, slice_split_none}
 use Rattle.std.proofs.Math.Seq.{take-append-add}
 use Rattle.std.proofs.lemmas.List.{length-take}
+use Rattle.tcp_rules.specs.declared.profile.Profile.{Profile}
+use Rattle.tcp_rules.specs.declared.profile.Profile.TheVariants.{Plain, Wan}
 use Rattle.ft_model.specs.Grammar.{no_objection, line_of, line_of_words, with_line, is_comment, is_passed_over, is_full, is_too_much, after_line, read_lines, read_with, read_text}
-use Rattle.ft_model.specs.Report.{schedule_line, schedule_lines}
+use Rattle.ft_model.specs.Report.{profile_line, schedule_line, schedule_lines}
 use Rattle.ft_model.specs.Words.{is, is_empty, lines_of, words_of, without_empty_last}
 use Rattle.ft_model.specs.declared.event.Event.{Event}
 use Rattle.ft_model.specs.declared.event.Event.TheVariants.{Boot, Crash, Tick, Deliver, Flip, Begin, Send, Fin, Ack, Reset, Stop}
@@ -21,7 +23,7 @@ use Rattle.ft_model.specs.declared.schedule.LineWhy.TheVariants as why
 use Rattle.ft_model.specs.declared.schedule.Schedule.{Schedule}
 use Rattle.schedule_text.specs.EventLines.{asked_line}
 use Rattle.schedule_text.proofs.Pieces.{lines_of_first, lines_of_last}
-use Rattle.report_laws.specs.Canonical.{IsCanonical, IsWithinLimits, ClientsAccepted, EventsAccepted, FitsLimit, bare, line_for, next_client, canonical_line, schedule_bytes}
+use Rattle.report_laws.specs.Canonical.{IsCanonical, IsWithinLimits, ClientsAccepted, EventsAccepted, ProfileAccepted, FitsLimit, bare, profiled, line_for, next_client, canonical_line, schedule_bytes}
 use Rattle.report_laws.proofs.CutLines.{HasNoFeed}
 use Rattle.report_laws.proofs.Fronts.{HasFront, front_of, is_ok, cut_last}
 
@@ -44,6 +46,8 @@ not_comment : (n : ℕ) (l : Line) → is_comment (line_for n l) ≡ false
 unfolding schedule_line
 not_comment n (says.Service kind) = refl
 not_comment n (says.Server at) = refl
+not_comment n (says.Profile Plain) = refl
+not_comment n (says.Profile Wan) = refl
 not_comment n says.Twin = refl
 not_comment n (says.Marks every) = refl
 not_comment n (says.Client c) = refl
@@ -187,27 +191,40 @@ with_one : (schedule : Schedule) (P : Schedule → Type 0) → schedule.twin ≡
 with_one schedule P one unmarked p =
     subst (λ t. P (record schedule { twin = t })) (sym one) (subst (λ m. P (record schedule { twin = false; marks = m })) (sym unmarked) p)
 
+profile_read : (schedule : Schedule) (text : List ℕ) (profile : Profile) → Reads text (Begun (bare schedule)) → ProfileAccepted (bare schedule) profile
+    → Reads (text ++ profile_line profile) (Begun (record (bare schedule) { profile = profile }))
+profile_read schedule text Plain r h = subst (λ t. Reads t (Begun (bare schedule))) (sym (append-nil text)) r
+profile_read schedule text Wan r h = more_read text (profile_line Wan) (Begun (bare schedule)) (says.Profile Wan) r h refl
+
 pub within_read : (schedule : Schedule) → IsWithinLimits schedule → Reads (schedule_bytes (Begun schedule)) (Begun schedule)
 within_read schedule w =
     let a : List ℕ = canonical_line Empty (says.Service schedule.service) in
     let b : List ℕ = canonical_line (Named schedule.service) (says.Server schedule.server) in
+    let p : List ℕ = profile_line schedule.profile in
     let c : List ℕ = schedule_lines 1 schedule.clients in
     let d : List ℕ = flat_map (λ e. asked_line e ++ 10 ∷ []) schedule.events in
     let start : Reads [] Empty = record { lines = []; cut = refl; clean = tt; number = 1; reads = λ more. refl } in
     let service : Reads ([] ++ a) (Named schedule.service) = more_read [] a Empty (says.Service schedule.service) start w.header.service refl in
     let server : Reads (([] ++ a) ++ b) (Begun (bare schedule)) = more_read ([] ++ a) b (Named schedule.service) (says.Server schedule.server) service w.header.server refl in
-    let clients : Reads ((([] ++ a) ++ b) ++ c) (Begun (record schedule { twin = false; marks = None; events = [] })) =
-    clients_read (bare schedule) (([] ++ a) ++ b) schedule.clients server w.header.clients refl in
-    let single : Reads ((([] ++ a) ++ b) ++ c) (Begun (record schedule { events = [] })) =
-    with_one (record schedule { events = [] }) (λ s. Reads ((([] ++ a) ++ b) ++ c) (Begun s)) w.header.one_logger w.header.unmarked clients in
+    let profile : Reads ((([] ++ a) ++ b) ++ p) (Begun (profiled schedule)) = profile_read schedule (([] ++ a) ++ b) schedule.profile server w.header.profile in
+    let clients : Reads (((([] ++ a) ++ b) ++ p) ++ c) (Begun (record schedule { twin = false; marks = None; events = [] })) =
+    clients_read (profiled schedule) ((([] ++ a) ++ b) ++ p) schedule.clients profile w.header.clients refl in
+    let single : Reads (((([] ++ a) ++ b) ++ p) ++ c) (Begun (record schedule { events = [] })) =
+    with_one (record schedule { events = [] }) (λ s. Reads (((([] ++ a) ++ b) ++ p) ++ c) (Begun s)) w.header.one_logger w.header.unmarked clients in
     let few : length {A = Event} [] + length schedule.events ≤ 100000 = omega (arith, w.few) in
-    let events : Reads (((([] ++ a) ++ b) ++ c) ++ d) (Begun schedule) =
-    events_read (record schedule { events = [] }) ((([] ++ a) ++ b) ++ c) schedule.events single w.events few in
-    subst (λ t. Reads t (Begun schedule)) (append_assoc (a ++ b) c d ∙ append_assoc a b (c ++ d)) events
+    let events : Reads ((((([] ++ a) ++ b) ++ p) ++ c) ++ d) (Begun schedule) =
+    events_read (record schedule { events = [] }) (((([] ++ a) ++ b) ++ p) ++ c) schedule.events single w.events few in
+    subst (λ t. Reads t (Begun schedule)) (append_assoc ((a ++ b) ++ p) c d ∙ (append_assoc (a ++ b) p (c ++ d) ∙ append_assoc a b (p ++ (c ++ d)))) events
+
+profile_short : (schedule : Schedule) (profile : Profile) → FitsLimit (Begun (bare schedule)) → ProfileAccepted (bare schedule) profile
+    → FitsLimit (Begun (record (bare schedule) { profile = profile }))
+profile_short schedule Plain short h = short
+profile_short schedule Wan short h = h.short
 
 within_short : (schedule : Schedule) → IsWithinLimits schedule → FitsLimit (Begun schedule)
 within_short schedule w =
-    let clients : FitsLimit (Begun (record schedule { twin = false; marks = None; events = [] })) = clients_short (bare schedule) schedule.clients w.header.server.short w.header.clients in
+    let clients : FitsLimit (Begun (record schedule { twin = false; marks = None; events = [] })) =
+    clients_short (profiled schedule) schedule.clients (profile_short schedule schedule.profile w.header.server.short w.header.profile) w.header.clients in
     let single : FitsLimit (Begun (record schedule { events = [] })) = with_one (record schedule { events = [] }) (λ s. FitsLimit (Begun s)) w.header.one_logger w.header.unmarked clients in
     events_short (record schedule { events = [] }) schedule.events single w.events
 

@@ -3,9 +3,11 @@
 -- spelling here.
 use Rattle.std.specs.Prelude.{◌≡◌, ℕ, false, None, ◌+◌, ◌-◌, ◌≤◌, Ok, codes, List, [], ◌∷◌, ◌++◌, length, take}
 use Rattle.std.specs.List.{flat_map}
+use Rattle.tcp_rules.specs.declared.profile.Profile.{Profile}
+use Rattle.tcp_rules.specs.declared.profile.Profile.TheVariants.{Plain, Wan}
 use Rattle.ft_model.specs.Grammar.{line_of, with_line}
 use Rattle.ft_model.specs.Texts.{line, address_text, service_text}
-use Rattle.ft_model.specs.Report.{schedule_line, schedule_lines}
+use Rattle.ft_model.specs.Report.{profile_line, schedule_line, schedule_lines}
 use Rattle.ft_model.specs.declared.event.Event.{Event}
 use Rattle.ft_model.specs.declared.line.Draft.{Draft}
 use Rattle.ft_model.specs.declared.line.Draft.TheVariants.{Empty, Named, Begun}
@@ -19,6 +21,7 @@ use Rattle.schedule_text.specs.EventLines.{asked_line}
 abbrev pub line_for : ℕ → Line → List ℕ
 line_for n (says.Service kind) = line (codes "service") (service_text kind ∷ [])
 line_for n (says.Server at) = line (codes "server") (address_text at.ip at.port ∷ [])
+line_for n (says.Profile profile) = profile_line profile
 line_for n says.Twin = []
 line_for n (says.Marks every) = []
 line_for n (says.Client asked) = schedule_line n asked
@@ -39,7 +42,8 @@ schedule_bytes (Named kind) = line (codes "service") (service_text kind ∷ [])
 schedule_bytes (Begun schedule) =
     line (codes "service") (service_text schedule.service ∷ [])
     ++ (line (codes "server") (address_text schedule.server.ip schedule.server.port ∷ [])
-    ++ (schedule_lines 1 schedule.clients ++ flat_map (λ e. asked_line e ++ 10 ∷ []) schedule.events))
+    ++ (profile_line schedule.profile
+    ++ (schedule_lines 1 schedule.clients ++ flat_map (λ e. asked_line e ++ 10 ∷ []) schedule.events)))
 
 -- a draft's canonical lines have at most 8,388,608 bytes, not counting the last line feed
 abbrev pub FitsLimit : Draft → Type 0
@@ -67,7 +71,16 @@ EventsAccepted schedule (e ∷ more) = Follows (Begun schedule) (says.Event e) �
 
 -- the schedule with only a service and a server's address
 abbrev pub bare : Schedule → Schedule
-bare schedule = record schedule { twin = false; marks = None; clients = []; events = [] }
+bare schedule = record schedule { profile = Plain; twin = false; marks = None; clients = []; events = [] }
+
+-- .. and with its profile
+abbrev pub profiled : Schedule → Schedule
+profiled schedule = record (bare schedule) { profile = schedule.profile }
+
+-- a profile that isn't the plain one, in a line of its own that is accepted after those before it
+abbrev pub ProfileAccepted : Schedule → Profile → Type 0
+ProfileAccepted schedule Plain = Unit {0}
+ProfileAccepted schedule Wan = Follows (Begun schedule) (says.Profile Wan)
 
 -- the lines of a header, each accepted after those before it
 pub record HeaderAccepted (schedule : Schedule) : Type 0 where
@@ -75,7 +88,8 @@ pub record HeaderAccepted (schedule : Schedule) : Type 0 where
   pub unmarked : schedule.marks ≡ None
   pub service : Follows Empty (says.Service schedule.service)
   pub server : Follows (Named schedule.service) (says.Server schedule.server)
-  pub clients : ClientsAccepted (bare schedule) schedule.clients
+  pub profile : ProfileAccepted (bare schedule) schedule.profile
+  pub clients : ClientsAccepted (profiled schedule) schedule.clients
 
 -- A schedule within the limits: it has one logger and no marks, the grammar accepts its lines one after another, and it has at most 100,000 events.
 pub record IsWithinLimits (schedule : Schedule) : Type 0 where
@@ -88,8 +102,13 @@ abbrev pub client_header_lines : ℕ → List ClientLine → List (List ℕ)
 client_header_lines n [] = []
 client_header_lines n (c ∷ more) = schedule_line n c ∷ client_header_lines (n + 1) more
 
+-- the line of a profile, unless it is the plain one
+abbrev pub profile_header_lines : Profile → List (List ℕ)
+profile_header_lines Plain = []
+profile_header_lines Wan = profile_line Wan ∷ []
+
 -- the lines of a schedule's header, including the report's first line
 abbrev pub header_lines : Schedule → List (List ℕ)
 header_lines schedule =
     codes "ftreplay 1\n" ∷ canonical_line Empty (says.Service schedule.service) ∷ canonical_line (Named schedule.service) (says.Server schedule.server)
-    ∷ client_header_lines 1 schedule.clients
+    ∷ (profile_header_lines schedule.profile ++ client_header_lines 1 schedule.clients)

@@ -27,6 +27,7 @@ use Rattle.ft_model.specs.declared.event.Event.{Event}
 use Rattle.ft_model.specs.declared.event.Event.TheVariants.{Deliver, Flip}
 use Rattle.ft_model.specs.declared.line.Draft.{Draft}
 use Rattle.ft_model.specs.declared.line.Draft.TheVariants.{Empty, Named, Begun}
+use Rattle.ft_model.specs.declared.line.Line.{Line}
 use Rattle.ft_model.specs.declared.line.Line.TheVariants as says
 use Rattle.ft_model.specs.declared.schedule.Schedule.{Schedule}
 use Rattle.report_laws.specs.declared.Law.{Law}
@@ -115,27 +116,33 @@ AfterTurn schedule trace (Some text) step =
     (MatchBool (begins_with (codes "event ") text) (EventLine schedule trace text step) (ClosingLine (closing_of schedule trace) (Some text) step))
 AfterTurn schedule trace None step = ClosingLine (closing_of schedule trace) None step
 
--- The effect of a line of the header: the service's, the server's, or the next client's
+-- a line of the header after the server's names the profile or a client
+abbrev pub SaysMore : Line → Type 0
+SaysMore (says.Profile profile) = Unit {0}
+SaysMore (says.Client client) = Unit {0}
+SaysMore _ = ⊥
+
+-- The effect of a line of the header: the service's, the server's, then the profile's or the next client's
 abbrev pub HeaderLine : Draft → List ℕ → Step → Type 0
 HeaderLine Empty text step =
     IfExists (λ kind. IsCanonical Empty (says.Service kind) text) (λ kind. step ≡ Continues (InHeader (Named kind))) (step ≡ Rejects law.Text)
 HeaderLine (Named kind) text step =
     IfExists (λ at. IsCanonical (Named kind) (says.Server at) text) (λ at. step ≡ Continues (InHeader (with_line (Named kind) (says.Server at)))) (step ≡ Rejects law.Text)
 HeaderLine (Begun schedule) text step =
-    IfExists (λ client. IsCanonical (Begun schedule) (says.Client client) text)
-    (λ client. step ≡ Continues (InHeader (with_line (Begun schedule) (says.Client client)))) (step ≡ Rejects law.Text)
+    IfExists (λ l. SaysMore l × IsCanonical (Begun schedule) l text) (λ l. step ≡ Continues (InHeader (with_line (Begun schedule) l))) (step ≡ Rejects law.Text)
 
 -- the words of a line, each before a space or the line feed
 abbrev pub pieces : List ℕ → List (List ℕ)
 pieces text = slice_split (λ c. is 32 c || is 10 c) text
 
--- After the server's line, a line belongs to the header if it is one for the next client, or has the word `profile`. Schedules with the words `twin` and
--- `marks` aren't checked, so a line with one of these belongs to the header too, and is rejected there
+-- After the server's line, a line belongs to the header if it is one for the next client, or has the word `profile`. Schedules with the words `twin` and `marks`
+-- aren't checked, so a line with one of these belongs to the header too, and is rejected there
 abbrev pub is_header_line : Schedule → List (List ℕ) → Bool
 is_header_line schedule [] = false
-is_header_line schedule (first ∷ []) = bytes_eq first (codes "twin") || bytes_eq first (codes "marks")
+is_header_line schedule (first ∷ []) = bytes_eq first (codes "profile") || bytes_eq first (codes "twin") || bytes_eq first (codes "marks")
 is_header_line schedule (first ∷ second ∷ more) =
-    bytes_eq first (codes "twin") || bytes_eq first (codes "marks") || bytes_eq first (codes "client") && bytes_eq second (decimal (length schedule.clients + 1))
+    bytes_eq first (codes "profile") || bytes_eq first (codes "twin") || bytes_eq first (codes "marks")
+    || bytes_eq first (codes "client") && bytes_eq second (decimal (length schedule.clients + 1))
 
 -- The effect of a line at a position.
 abbrev pub LineGives : {State : Type 0} → (ℕ → Machine State) → Position → Option (List ℕ) → Step → Type 0

@@ -1,8 +1,9 @@
 -- Each line of a header leads on, or decides about the text.
-use Rattle.std.proofs.Common.{◌≡◌, ℕ, suc, ◌+◌, ◌<◌, ◌≤◌, true, false, inl, inr, None, Some, List, [], ◌∷◌, ◌++◌, codes, take, drop, length, length-append, append_assoc, append-nil, refl, sym, ap, ap₂, ◌∙◌, subst, arith}
+use Rattle.std.proofs.Common.{◌≡◌, ℕ, suc, ◌+◌, ◌-◌, ◌<◌, ◌≤◌, true, false, inl, inr, None, Some, List, [], ◌∷◌, ◌++◌, codes, take, drop, length, length-append, append_assoc, append-nil, refl, sym, ap, ap₂, ◌∙◌, subst, arith}
 use Rattle.std.specs.Str.{bytes_eq}
 use Rattle.std.proofs.lemmas.List.{take-append-drop, length-take-le, take-take}
 use Rattle.server_trait.specs.Service.{Machine}
+use Rattle.tcp_rules.specs.declared.profile.Profile.TheVariants.{Plain, Wan}
 use Rattle.ft_model.specs.declared.line.Draft.{Draft}
 use Rattle.ft_model.specs.declared.line.Draft.TheVariants.{Empty, Named, Begun}
 use Rattle.ft_model.specs.declared.line.Line.TheVariants as says
@@ -18,6 +19,7 @@ use Rattle.report_laws.specs.Transitions.Step.{Continues, Rejects}
 use Rattle.report_laws.specs.Verdict.{RejectedFrom, IsRejected}
 use Rattle.report_laws.proofs.Turns.{if_true, if_false}
 use Rattle.report_laws.proofs.Accepted.{more_accepted, client_text}
+use Rattle.report_laws.proofs.ProfileLines.{IsNaming, profile_stands, profile_text, profile_accepted}
 use Rattle.line_check.specs.HeaderText.{IsHeaderSoFar, header_so_far}
 use Rattle.line_check.proofs.HeaderLines.{header_is, service_follows}
 use Rattle.trace_check.specs.After.{first_of, IsAfter}
@@ -35,7 +37,7 @@ grows Empty line schedule h gives = absurd h
 grows (Named kind) line schedule h (inr (never, e)) = absurd (cc)
 grows (Begun before) line schedule h (inr (never, e)) = absurd (cc)
 grows (Named kind) line schedule h (inl (at, c, e)) =
-    let own : Schedule = record { service = kind; server = at; twin = false; marks = None; clients = []; events = [] } in
+    let own : Schedule = record { service = kind; server = at; profile = Plain; twin = false; marks = None; clients = []; events = [] } in
     let same : schedule ≡ own = cc in
     let a : List ℕ = canonical_line Empty (says.Service kind) in
     let b : List ℕ = canonical_line (Named kind) (says.Server at) in
@@ -44,17 +46,35 @@ grows (Named kind) line schedule h (inl (at, c, e)) =
       unmarked = refl;
       service = service_follows kind;
       server = subst (IsCanonical (Named kind) (says.Server at)) c.spelled c;
+      profile = tt;
       clients = tt;
     } in
     let text : header_so_far (Begun own) ≡ header_so_far (Named kind) ++ line =
     ap (λ t. codes "ftreplay 1\n" ++ (a ++ t)) (append-nil b ∙ sym c.spelled) ∙ sym (append_assoc (codes "ftreplay 1\n") a line) in
     subst (λ s. IsHeaderSoFar (Begun s) × (header_so_far (Begun s) ≡ header_so_far (Named kind) ++ line)) (sym same) ((accepted, refl), text)
-grows (Begun before) line schedule h (inl (client, c, e)) =
+grows (Begun before) line schedule h (inl (says.Service kind, c, e)) = absurd c.0
+grows (Begun before) line schedule h (inl (says.Server at, c, e)) = absurd c.0
+grows (Begun before) line schedule h (inl (says.Twin, c, e)) = absurd c.0
+grows (Begun before) line schedule h (inl (says.Marks every, c, e)) = absurd c.0
+grows (Begun before) line schedule h (inl (says.Event x, c, e)) = absurd c.0
+grows (Begun before) line schedule h (inl (says.Profile profile, c, e)) =
+    let naming : IsNaming before profile = profile_stands before (take (length line - 1) line) profile c.1.accepted in
+    let wide : IsNaming before Wan = record { named = refl; unnamed = naming.unnamed; alone = naming.alone } in
+    let named : IsCanonical (Begun before) (says.Profile Wan) line = subst (λ p. IsCanonical (Begun before) (says.Profile p) line) naming.named c.1 in
+    let later : Schedule = record before { profile = Wan } in
+    let said : schedule ≡ record before { profile = profile } = cc in
+    let same : schedule ≡ later = said ∙ ap (λ p. let s : Schedule = record before { profile = p } in s) naming.named in
+    let accepted : HeaderAccepted later = profile_accepted before h.0 wide h.1 (subst (IsCanonical (Begun before) (says.Profile Wan)) named.spelled named) in
+    let text : header_so_far (Begun later) ≡ header_so_far (Begun before) ++ line =
+    sym (header_is later h.0.one_logger h.0.unmarked h.1)
+    ∙ sym (profile_text before (header_so_far (Begun before)) line wide h.0.one_logger h.0.unmarked (sym (header_is before h.0.one_logger h.0.unmarked h.1)) named.spelled) in
+    subst (λ s. IsHeaderSoFar (Begun s) × (header_so_far (Begun s) ≡ header_so_far (Begun before) ++ line)) (sym same) ((accepted, h.1), text)
+grows (Begun before) line schedule h (inl (says.Client client, c, e)) =
     let later : Schedule = record before { clients = before.clients ++ client ∷ [] } in
     let same : schedule ≡ later = cc in
-    let accepted : HeaderAccepted later = more_accepted before client h.0 h.1 (subst (IsCanonical (Begun before) (says.Client client)) c.spelled c) in
+    let accepted : HeaderAccepted later = more_accepted before client h.0 h.1 (subst (IsCanonical (Begun before) (says.Client client)) c.1.spelled c.1) in
     let text : header_so_far (Begun later) ≡ header_so_far (Begun before) ++ line =
-    sym (header_is later h.0.one_logger h.0.unmarked h.1) ∙ sym (client_text before client (header_so_far (Begun before)) line (sym (header_is before h.0.one_logger h.0.unmarked h.1)) c.spelled) in
+    sym (header_is later h.0.one_logger h.0.unmarked h.1) ∙ sym (client_text before client (header_so_far (Begun before)) line (sym (header_is before h.0.one_logger h.0.unmarked h.1)) c.1.spelled) in
     subst (λ s. IsHeaderSoFar (Begun s) × (header_so_far (Begun s) ≡ header_so_far (Begun before) ++ line)) (sym same) ((accepted, h.1), text)
 
 module _ {State : Type 0} (service : ℕ → Machine State) where

@@ -70,14 +70,14 @@ pub nothing_after : (text : List ℕ) (at : ℕ) → at ≡ length text → line
 nothing_after text at e = ap lines_in (ap (λ k. drop k text) e ∙ drop-length text) ∙ no_lines
 
 -- the pieces of a line decide whether it belongs to a header
-pub one_piece : (schedule : Schedule) (line : List ℕ) (test : Bool) → pieces line ≡ line ∷ [] → test ≡ (bytes_eq line (codes "twin") || bytes_eq line (codes "marks"))
+pub one_piece : (schedule : Schedule) (line : List ℕ) (test : Bool) → pieces line ≡ line ∷ [] → test ≡ (bytes_eq line (codes "profile") || bytes_eq line (codes "twin") || bytes_eq line (codes "marks"))
     → test ≡ is_header_line schedule (pieces line)
 one_piece schedule line test cut e = e ∙ sym (ap (is_header_line schedule) cut)
 
 pub two_pieces : (schedule : Schedule) (line first rest second : List ℕ) (n : ℕ) (test : Bool) → pieces line ≡ first ∷ pieces rest
     → (more : List (List ℕ)) × (pieces rest ≡ second ∷ more) → n ≡ length schedule.clients + 1
-    → test ≡ (bytes_eq first (codes "twin") || bytes_eq first (codes "marks") || bytes_eq first (codes "client") && bytes_eq second (decimal n))
+    → test ≡ (bytes_eq first (codes "profile") || bytes_eq first (codes "twin") || bytes_eq first (codes "marks") || bytes_eq first (codes "client") && bytes_eq second (decimal n))
     → test ≡ is_header_line schedule (pieces line)
 two_pieces schedule line first rest second n test cut (more, behind) count e =
-    e ∙ (ap (λ k. bytes_eq first (codes "twin") || bytes_eq first (codes "marks") || bytes_eq first (codes "client") && bytes_eq second (decimal k)) count
+    e ∙ (ap (λ k. bytes_eq first (codes "profile") || bytes_eq first (codes "twin") || bytes_eq first (codes "marks") || bytes_eq first (codes "client") && bytes_eq second (decimal k)) count
     ∙ sym (ap (is_header_line schedule) (cut ∙ ap (λ ps. first ∷ ps) behind)))

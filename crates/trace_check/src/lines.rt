@@ -108,11 +108,11 @@ fn is_number(n: usize, word: &[u8]) -> bool
     word == buffer.format(n).as_bytes()
 }
 
-/// Returns whether a word begins a line that no report of one logger has.
-fn is_unchecked(word: &[u8]) -> bool
-    ensures { result ≡ (bytes_eq word.now (codes "twin") || bytes_eq word.now (codes "marks")) }
+/// Returns whether a word begins the line of a profile, or a line that no report of one logger has.
+fn is_single(word: &[u8]) -> bool
+    ensures { result ≡ (bytes_eq word.now (codes "profile") || bytes_eq word.now (codes "twin") || bytes_eq word.now (codes "marks")) }
 {
-    word == b"twin".as_slice() || word == b"marks".as_slice()
+    word == b"profile".as_slice() || word == b"twin".as_slice() || word == b"marks".as_slice()
 }
 
 /// Returns whether these pieces begin the line of client `n`.
@@ -124,9 +124,10 @@ fn is_client(n: usize, first: &[u8], second: &[u8]) -> bool
 
 /// Returns whether these pieces begin a line of a header in which client `n` is the next.
 fn begins_header_line(n: usize, first: &[u8], second: &[u8]) -> bool
-    ensures { result ≡ (bytes_eq first.now (codes "twin") || bytes_eq first.now (codes "marks") || bytes_eq first.now (codes "client") && bytes_eq second.now (decimal n)) }
+    ensures { result ≡ (bytes_eq first.now (codes "profile") || bytes_eq first.now (codes "twin") || bytes_eq first.now (codes "marks")
+        || bytes_eq first.now (codes "client") && bytes_eq second.now (decimal n)) }
 {
-    is_unchecked(first) || is_client(n, first, second)
+    is_single(first) || is_client(n, first, second)
 }
 
 /// Returns whether a line belongs to the header that so far spells a schedule.
@@ -135,7 +136,7 @@ pub(crate) fn belongs_to_header(schedule: &Schedule, line: &[u8]) -> bool
     ensures { result ≡ is_header_line schedule.now (pieces line.now) }
 {
     let Some((first, rest)) = next_piece(line) else {
-        return is_unchecked(line);
+        return is_single(line);
     };
     begins_header_line(
         schedule.clients.as_slice().len() + 1,
