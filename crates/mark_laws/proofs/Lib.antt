@@ -1,4 +1,4 @@
-mod Runs
+pub mod Runs
 pub mod Closing
 pub mod MarksSent
 mod Answered
@@ -21,8 +21,8 @@ mod WorkedTrace
 mod WorkedLegal
 mod WrongMarks
 mod LawOfMarks
-mod Premises
+pub mod Premises
 mod SeenTurns
 mod Formed
 mod Counted
-mod Written
+pub mod Written

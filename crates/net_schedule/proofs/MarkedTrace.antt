@@ -16,7 +16,17 @@ use Rattle.mark_laws.specs.MarkedNode.{Marker, MarkedNode}
 use Rattle.mark_laws.specs.MarkedWorld.{MarkedWorld, MarkedMoment, MarkedJoint, MarkedHappens, CanBeRead, seen, parcel_at, marked_after}
 use Rattle.mark_laws.specs.MarkedWorld.Parcel.{Mark_answered}
 use Rattle.mark_laws.specs.Premises.{IsSoundMark}
-use Rattle.mark_laws.proofs.Traces.{start_of_joint}
+use Rattle.mark_laws.specs.TrueMarks.{HasTrueMark}
+use Rattle.mark_laws.proofs.MarkSteps.{Kept as KeptMarks, of_parcel, up_plain}
+use Rattle.mark_laws.proofs.MarksSent.{tells_truth}
+use Rattle.mark_laws.proofs.Premises.{input_near, scripted_start, inputs_sound, no_fence, marks_sound}
+use Rattle.mark_laws.proofs.Runs.{front_is, grows}
+use Rattle.mark_laws.proofs.Traces.{start_of_joint, kept_of}
+use Rattle.mark_laws.proofs.Truth.{MarkLaws}
+use Rattle.mark_laws.proofs.Written.{all_written as marked_written}
+use Rattle.server_trait.specs.Service.{WritesBytes}
+use Rattle.server_trait.specs.Saved.{ReadsBack}
+use Rattle.ft_model.proofs.Running.{HasSmallOutputs}
 use Rattle.node_serving.specs.Markers.{Saving}
 use Rattle.net_schedule.specs.WorldView.{kept, services_of}
 use Rattle.schedule_network.specs.Journal.{HasDistinctKeys}
@@ -48,6 +58,48 @@ pub record AreMarkedLaws {State : Type 0} (by : ℕ → Marker State) : Type 0 w
       → IsSoundMark (by (kind_of schedule.service)) (marked_after (marked_start schedule) trace).log.log node message node.plain.stage
   pub written : (kind : ℕ) (start : MarkedWorld) (trace : List MarkedMoment) → MarkedJoint (by kind) start trace → AllByRecursion CanBeRead (marked_after start trace).parcels
   pub distinct : (kind : ℕ) (start : MarkedWorld) (trace : List MarkedMoment) → MarkedJoint (by kind) start trace → HasDistinctKeys (marked_after start trace).log
+
+-- what they rest on: which marks are true
+mark_truths : {State : Type 0} (by : Marker State) → MarkLaws by
+mark_truths by = record {
+  tells = λ news script m q e taken within fits enough front known held. tells_truth by.service by.writing by.every news script m q e taken within fits enough front known held;
+  stays = λ before after m grew run. grows by.service by.writing before after m grew run;
+}
+
+-- the sound world of a trace with marks
+kept_so : {State : Type 0} (by : Marker State) → HasSmallOutputs by.service → (first : MarkedWorld) (trace : List MarkedMoment) → MarkedJoint by first trace → KeptMarks by (seen first) (marked_after first trace)
+kept_so by small first trace joint = kept_of by first trace small (mark_truths by) joint
+
+pub marked_laws_hold : {State : Type 0} (by : ℕ → Marker State) → ((kind : ℕ) → HasSmallOutputs (by kind).service) → ((kind : ℕ) → WritesBytes (by kind).service)
+    → ((kind : ℕ) → ReadsBack (by kind).service (by kind).writing) → AreMarkedLaws by
+marked_laws_hold by small writes back = record {
+  near = λ schedule events trace node input legal up comes.
+      let b = by (kind_of schedule.service) in
+      let first = marked_start schedule in
+      input_near b.service (seen first) (seen (marked_after first trace)) node.plain input (kept_so b (small (kind_of schedule.service)) first trace legal.joint).sound
+      (scripted_start schedule.server schedule.clients) (up_plain (marked_after first trace) node up) comes;
+  sound = λ schedule events trace node input legal up comes.
+      let b = by (kind_of schedule.service) in
+      let first = marked_start schedule in
+      (inputs_sound b.service (seen first) (seen (marked_after first trace)) node.plain input (kept_so b (small (kind_of schedule.service)) first trace legal.joint).sound
+      (up_plain (marked_after first trace) node up) comes).0;
+  unfenced = λ schedule events trace node input legal up comes.
+      let b = by (kind_of schedule.service) in
+      let first = marked_start schedule in
+      no_fence b.service (seen first) (seen (marked_after first trace)) node.plain input (kept_so b (small (kind_of schedule.service)) first trace legal.joint).sound
+      (up_plain (marked_after first trace) node up) comes;
+  marks = λ number schedule events trace node message legal up at.
+      let b = by (kind_of schedule.service) in
+      let first = marked_start schedule in
+      let k = kept_so b (small (kind_of schedule.service)) first trace legal.joint in
+      marks_sound b (seen first) (marked_after first trace) node message
+      (record { back = λ e m bytes run. front_is b.service b.writing e m (back (kind_of schedule.service)) bytes run })
+      (start_of_joint b first trace legal.joint).start k up
+      (of_parcel (HasTrueMark b (marked_after first trace).log.log) (marked_after first trace) number (Mark_answered message) k.marks.under_way at);
+  written = λ kind start trace joint. marked_written (by kind) start trace (writes kind) (λ some. back kind)
+      (record { small = small kind; laws = mark_truths (by kind); starts = (start_of_joint (by kind) start trace joint).start }) joint;
+  distinct = λ kind start trace joint. (kept_so (by kind) (small kind) start trace joint).sound.joint.asked.distinct;
+}
 
 module _ {State : Type 0} (by : ℕ → Marker State) (laws : AreMarkedLaws by) where
   marked_premises_at : (schedule : Schedule) (events : List Event) (trace : List MarkedMoment) → IsMarkedLegalFor by schedule events trace

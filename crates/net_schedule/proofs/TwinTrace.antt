@@ -1,5 +1,5 @@
 -- A legal trace with two loggers gives the premises of a step, and is extended by it.
-use Rattle.std.proofs.Common.{◌≡◌, ◌∙◌, sym, ap, subst, ℕ, ◌+◌, ◌-◌, ◌<◌, ◌≤◌, Some, List, [], ◌∷◌, ◌++◌, length, Result, Ok, Err, arith, length-append}
+use Rattle.std.proofs.Common.{◌≡◌, refl, ◌∙◌, sym, ap, subst, ℕ, ◌+◌, ◌-◌, ◌<◌, ◌≤◌, Some, List, [], ◌∷◌, ◌++◌, length, Result, Ok, Err, arith, length-append}
 use Rattle.std.specs.List.{AllByRecursion}
 use Rattle.std.specs.Prelude.{IfOk, IfErr, OnOk}
 use Rattle.server_trait.specs.Service.{Machine}
@@ -17,6 +17,9 @@ use Rattle.twin_laws.specs.TwinWorld.{TwinWorld, TwinMoment, TwinJoint, TwinHapp
 use Rattle.twin_laws.specs.TwinWorld.Parcel.{Outside}
 use Rattle.twin_laws.specs.SentBytes.{IsWritten}
 use Rattle.node_serving.specs.Markers.{Saving}
+use Rattle.twin_laws.proofs.Allowed.{flat_allowed}
+use Rattle.twin_laws.proofs.Flattening.{flattens}
+use Rattle.twin_laws.proofs.TraceBytes.{is_sent, is_paired, all_written}
 use Rattle.net_schedule.specs.WorldView.{kept, services_of}
 use Rattle.net_schedule.specs.Premises.{Premises}
 use Rattle.net_schedule.specs.Refinement.{Kept}
@@ -42,6 +45,19 @@ pub record AreTwinLaws {State : Type 0} (services : ℕ → Machine State) : Typ
   pub pair : (kind : ℕ) (start : TwinWorld) (trace : List TwinMoment) → TwinJoint (services kind) start trace → IsPaired (twin_after start trace).pair
   pub written : (kind : ℕ) (start : TwinWorld) (trace : List TwinMoment) → TwinJoint (services kind) start trace
       → AllByRecursion IsWritten (twin_after start trace).parcels
+
+pub twin_laws_hold : {State : Type 0} (services : ℕ → Machine State) → AreLaws services → AreTwinLaws services
+twin_laws_hold services laws = record {
+  legal = λ schedule events trace is. record {
+    joint = (flattens (services (kind_of schedule.service)) (twin_start schedule) trace is.joint).joint;
+    events_are = refl;
+    allowed = flat_allowed (services (kind_of schedule.service)) (twin_start schedule) trace is.joint is.allowed;
+  };
+  world = λ kind start trace is. (flattens (services kind) start trace is).world;
+  sent = λ kind number start trace packet is at. is_sent (services kind) start trace number packet is at;
+  pair = λ kind start trace is. is_paired (services kind) start trace is;
+  written = λ kind start trace is. all_written (services kind) (laws.wires kind) start trace is;
+}
 
 module _ {State : Type 0} (services : ℕ → Machine State) (laws : AreLaws services) (twins : AreTwinLaws services) where
   twin_premises : (schedule : Schedule) (events : List Event) (trace : List TwinMoment) (w : Kept State) → TwinStandsAfter services schedule events trace w

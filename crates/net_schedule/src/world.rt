@@ -6,13 +6,11 @@ ghost use Rattle.seq_arith.specs.Damage.{flipped};
 ghost use Rattle.schedule_network.specs.Loggers.{part_numbered};
 ghost use Rattle.net_schedule.specs.Every.{every_in};
 
-use crate::laws::marked_logs_have_distinct_keys;
 use crate::sending::keep_sent;
 use ft_io::{Addr, Key, NoMemory};
 use ft_model::{Event, EventWhy, Schedule, Way};
 use limits::PACKET;
 use logger_store::LogStore;
-use mark_laws::{marked_parcels_are_written, marked_premises_hold};
 use peer_client::Client;
 use schedule_network::{Logs, Packets, StepEnd, StepOut, keys_of, new_clients};
 use seq_arith::flip;
@@ -21,7 +19,6 @@ use server_trait::{Saved, Service};
 use std::alloc::Global;
 use std::mem;
 use tcp_rules::Profile;
-use twin_laws::{flat_traces_show_all, legal_traces_are_masked, parcels_are_written};
 use twin_log::Part;
 
 /// The largest number of packets in a run.
@@ -408,13 +405,6 @@ impl<S: Saved> World<S> {
         ensures marked_ends { IfErr result (λ end. MarkedEndsAlong (saving S.form S.state_of S.is_savable) event.now end self.old self.new) }
         ensures keeps { IfErr result (KeepsAtRefusal (kept self.old) (kept self.new)) }
     {
-        // Laws for the proof, of two loggers and of marks. A law does nothing when it is called.
-        legal_traces_are_masked::<S>();
-        flat_traces_show_all::<S>();
-        parcels_are_written::<S>();
-        marked_premises_hold::<S>();
-        marked_parcels_are_written::<S>();
-        marked_logs_have_distinct_keys::<S>();
         let before = self.packets.len();
         match self.act(alloc, event) {
             Ok(()) => self.counted(before),

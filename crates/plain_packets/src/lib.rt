@@ -22,6 +22,7 @@ mod excluded;
 mod held;
 pub mod laws;
 mod message;
+mod number_ranges;
 mod packets;
 mod path;
 mod places;

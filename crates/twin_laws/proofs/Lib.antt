@@ -1,7 +1,7 @@
-mod Allowed
+pub mod Allowed
 pub mod Asking
 pub mod Elsewhere
-mod Flattening
+pub mod Flattening
 mod Folds
 mod Holding
 pub mod StoredParts
@@ -13,4 +13,4 @@ pub mod OneTurn
 mod Steps
 mod WorkedPair
 mod WorkedStop
-mod TraceBytes
+pub mod TraceBytes

@@ -4,8 +4,8 @@ use Rattle.net_schedule.specs.Along.{StepsMarked, EndsMarked}
 use Rattle.net_schedule.specs.MarkedRefinement.{marker_for}
 use Rattle.net_schedule.specs.WorldView.{kept}
 use Rattle.net_schedule.proofs.Trace.{laws_hold, steps, limits, ends_so, keeps_refused}
-use Rattle.net_schedule.proofs.TwinTrace.{twin_steps, twin_limits, twin_ends_so}
-use Rattle.net_schedule.proofs.MarkedTrace.{done_marked, ends_marked, marked_steps, marked_limits, marked_ends_so}
+use Rattle.net_schedule.proofs.TwinTrace.{twin_laws_hold, twin_steps, twin_limits, twin_ends_so}
+use Rattle.net_schedule.proofs.MarkedTrace.{marked_laws_hold, done_marked, ends_marked, marked_steps, marked_limits, marked_ends_so}
 use Rattle.net_schedule.proofs.world.World.step.Goals as goal
 
 pub returns-in-Ok-clause-done : goal.returns-in-Ok-clause-done
@@ -25,7 +25,7 @@ pub returns-in-Ok-clause-twin_done : goal.returns-in-Ok-clause-twin_done
 returns-in-Ok-clause-twin_done g c =
     twin_steps (machines g.S.Service.started g.S.Service.after)
     (laws_hold (machines g.S.Service.started g.S.Service.after) (λ kind. g.met.S.Service.is_short) (λ kind. g.met.S.Service.writes_bytes kind))
-    (record { legal = c.legal_traces_are_masked.ensures.legal; world = c.flat_traces_show_all.ensures.world; sent = c.flat_traces_show_all.ensures.sent; pair = c.flat_traces_show_all.ensures.pair; written = c.parcels_are_written.ensures })
+    (twin_laws_hold (machines g.S.Service.started g.S.Service.after) (laws_hold (machines g.S.Service.started g.S.Service.after) (λ kind. g.met.S.Service.is_short) (λ kind. g.met.S.Service.writes_bytes kind)))
     c.counted.result (kept c.args.self.now) (kept c.act.new.self) c.args.event.now c.len-before.result c.len-before.ensures c.in-Ok.ensures.done.continues.same_kind
     c.in-Ok.ensures.done.two c.counted.ensures.first c.counted.ensures.count c.counted.ensures.within
 
@@ -33,7 +33,7 @@ pub returns-in-Ok-clause-twin_ends : goal.returns-in-Ok-clause-twin_ends
 returns-in-Ok-clause-twin_ends g c =
     twin_limits (machines g.S.Service.started g.S.Service.after)
     (laws_hold (machines g.S.Service.started g.S.Service.after) (λ kind. g.met.S.Service.is_short) (λ kind. g.met.S.Service.writes_bytes kind))
-    (record { legal = c.legal_traces_are_masked.ensures.legal; world = c.flat_traces_show_all.ensures.world; sent = c.flat_traces_show_all.ensures.sent; pair = c.flat_traces_show_all.ensures.pair; written = c.parcels_are_written.ensures })
+    (twin_laws_hold (machines g.S.Service.started g.S.Service.after) (laws_hold (machines g.S.Service.started g.S.Service.after) (λ kind. g.met.S.Service.is_short) (λ kind. g.met.S.Service.writes_bytes kind)))
     c.counted.result (kept c.args.self.now) (kept c.act.new.self) c.args.event.now c.in-Ok.ensures.done.continues.same_kind c.in-Ok.ensures.done.two c.counted.ensures.over
 
 pub returns-in-Err-clause-ends : goal.returns-in-Err-clause-ends
@@ -46,7 +46,7 @@ pub returns-in-Err-clause-twin_ends : goal.returns-in-Err-clause-twin_ends
 returns-in-Err-clause-twin_ends g c =
     twin_ends_so (saving g.S.Saved.form g.S.Saved.state_of g.S.Saved.is_savable) c.args.self.now c.act.new.self c.args.event.now c.in-Err.end
     (laws_hold (machines g.S.Service.started g.S.Service.after) (λ kind. g.met.S.Service.is_short) (λ kind. g.met.S.Service.writes_bytes kind))
-    (record { legal = c.legal_traces_are_masked.ensures.legal; world = c.flat_traces_show_all.ensures.world; sent = c.flat_traces_show_all.ensures.sent; pair = c.flat_traces_show_all.ensures.pair; written = c.parcels_are_written.ensures })
+    (twin_laws_hold (machines g.S.Service.started g.S.Service.after) (laws_hold (machines g.S.Service.started g.S.Service.after) (λ kind. g.met.S.Service.is_short) (λ kind. g.met.S.Service.writes_bytes kind)))
     c.in-Err.ensures.ends
 
 pub returns-in-Err-clause-keeps : goal.returns-in-Err-clause-keeps
@@ -57,14 +57,8 @@ returns-in-Ok-clause-marked_done g c =
     done_marked c.counted.result g.S.Saved.is_savable (λ every answer. StepsMarked (saving g.S.Saved.form g.S.Saved.state_of g.S.Saved.is_savable) every c.args.event.now answer c.args.self.now c.act.new.self)
     (λ savable every.
     marked_steps (marker_for (saving g.S.Saved.form g.S.Saved.state_of g.S.Saved.is_savable) (machines g.S.Service.started g.S.Service.after) every)
-    (record {
-      near = λ schedule events trace node input legal up comes. c.marked_premises_hold.ensures.near every schedule events trace node input legal up comes;
-      sound = λ schedule events trace node input legal up comes. c.marked_premises_hold.ensures.sound every schedule events trace node input legal up comes;
-      unfenced = λ schedule events trace node input legal up comes. c.marked_premises_hold.ensures.unfenced every schedule events trace node input legal up comes;
-      marks = λ number schedule events trace node message legal up at. c.marked_premises_hold.ensures.marks savable every number schedule events trace node message legal up at;
-      written = λ kind start trace joint. c.marked_parcels_are_written.ensures kind every start trace (λ some. savable) joint;
-      distinct = λ kind start trace joint. c.marked_logs_have_distinct_keys.ensures kind every start trace joint;
-    })
+    (marked_laws_hold (marker_for (saving g.S.Saved.form g.S.Saved.state_of g.S.Saved.is_savable) (machines g.S.Service.started g.S.Service.after) every)
+    (λ kind. g.met.S.Service.is_short) (λ kind. g.met.S.Service.writes_bytes kind) (λ kind. g.met.S.Saved.reads_back savable kind))
     c.counted.result (kept c.args.self.now) (kept c.act.new.self) c.args.event.now c.len-before.result c.len-before.ensures c.in-Ok.ensures.done.continues.same_kind
     (c.in-Ok.ensures.done.marked savable every) c.counted.ensures.first c.counted.ensures.count c.counted.ensures.within)
 
@@ -73,25 +67,13 @@ returns-in-Ok-clause-marked_ends g c =
     ends_marked c.counted.result g.S.Saved.is_savable (λ every end. EndsMarked (saving g.S.Saved.form g.S.Saved.state_of g.S.Saved.is_savable) every c.args.event.now end c.args.self.now c.act.new.self)
     (λ savable every.
     marked_limits (marker_for (saving g.S.Saved.form g.S.Saved.state_of g.S.Saved.is_savable) (machines g.S.Service.started g.S.Service.after) every)
-    (record {
-      near = λ schedule events trace node input legal up comes. c.marked_premises_hold.ensures.near every schedule events trace node input legal up comes;
-      sound = λ schedule events trace node input legal up comes. c.marked_premises_hold.ensures.sound every schedule events trace node input legal up comes;
-      unfenced = λ schedule events trace node input legal up comes. c.marked_premises_hold.ensures.unfenced every schedule events trace node input legal up comes;
-      marks = λ number schedule events trace node message legal up at. c.marked_premises_hold.ensures.marks savable every number schedule events trace node message legal up at;
-      written = λ kind start trace joint. c.marked_parcels_are_written.ensures kind every start trace (λ some. savable) joint;
-      distinct = λ kind start trace joint. c.marked_logs_have_distinct_keys.ensures kind every start trace joint;
-    })
+    (marked_laws_hold (marker_for (saving g.S.Saved.form g.S.Saved.state_of g.S.Saved.is_savable) (machines g.S.Service.started g.S.Service.after) every)
+    (λ kind. g.met.S.Service.is_short) (λ kind. g.met.S.Service.writes_bytes kind) (λ kind. g.met.S.Saved.reads_back savable kind))
     c.counted.result (kept c.args.self.now) (kept c.act.new.self) c.args.event.now c.in-Ok.ensures.done.continues.same_kind (c.in-Ok.ensures.done.marked savable every) c.counted.ensures.over)
 
 pub returns-in-Err-clause-marked_ends : goal.returns-in-Err-clause-marked_ends
 returns-in-Err-clause-marked_ends g c =
     marked_ends_so (saving g.S.Saved.form g.S.Saved.state_of g.S.Saved.is_savable) c.args.self.now c.act.new.self c.args.event.now c.in-Err.end
-    (λ savable every. (record {
-      near = λ schedule events trace node input legal up comes. c.marked_premises_hold.ensures.near every schedule events trace node input legal up comes;
-      sound = λ schedule events trace node input legal up comes. c.marked_premises_hold.ensures.sound every schedule events trace node input legal up comes;
-      unfenced = λ schedule events trace node input legal up comes. c.marked_premises_hold.ensures.unfenced every schedule events trace node input legal up comes;
-      marks = λ number schedule events trace node message legal up at. c.marked_premises_hold.ensures.marks savable every number schedule events trace node message legal up at;
-      written = λ kind start trace joint. c.marked_parcels_are_written.ensures kind every start trace (λ some. savable) joint;
-      distinct = λ kind start trace joint. c.marked_logs_have_distinct_keys.ensures kind every start trace joint;
-    }))
+    (λ savable every. (marked_laws_hold (marker_for (saving g.S.Saved.form g.S.Saved.state_of g.S.Saved.is_savable) (machines g.S.Service.started g.S.Service.after) every)
+    (λ kind. g.met.S.Service.is_short) (λ kind. g.met.S.Service.writes_bytes kind) (λ kind. g.met.S.Saved.reads_back savable kind)))
     c.in-Err.ensures.ends
