@@ -145,14 +145,26 @@ class Report:
         if not has_address(server[1], 1):
             raise Rejected("text")
         self.count_own(len(server[0]))
+        profile = self.profile()
         while self.heads():
             self.client(server[1])
-        self.world = World(service[1], server[1], self.clients)
+        self.world = World(service[1], server[1], self.clients, profile=profile)
+
+    def profile(self):
+        """The profile, which has a line only where it isn't the plain one."""
+        if self.words()[0] != "profile":
+            return "plain"
+        named = self.header_line("profile (wan)")
+        self.count_own(len(named[0]))
+        return named[1]
+
+    def words(self):
+        return (self.line() or "").removeprefix("\n").split(" ")
 
     def heads(self):
-        """Whether the next line belongs to the header: a client's with the next number, or one of the words that no schedule of a report has."""
-        words = (self.line() or "").removeprefix("\n").split(" ")
-        return words[0] in ("twin", "marks") or words[:2] == ["client", str(len(self.clients) + 1)]
+        """Whether the next line belongs to the header: a client's with the next number, or one of words that no schedule of a report has here."""
+        words = self.words()
+        return words[0] in ("profile", "twin", "marks") or words[:2] == ["client", str(len(self.clients) + 1)]
 
     def client(self, server):
         found = self.header_line(rf"client {NUMBER} {ADDRESS} {NUMBER} (-|hex:(?:[0-9a-f]{{2}})+|fill:{NUMBER})")

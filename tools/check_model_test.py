@@ -7,11 +7,13 @@ from check_model import PACKETS, is_packet_line, verdict
 
 EXAMPLES = pathlib.Path(__file__).parent.parent / "examples"
 FIRST = (EXAMPLES / "first_path.report").read_bytes()
+DELAYED = (EXAMPLES / "delayed_ack.report").read_bytes()
+MEASURED = (EXAMPLES / "wide_area.report").read_bytes()
 HEAD = b"ftreplay 1\nservice echo\nserver 192.0.2.100:7\n"
 
 
-def lines():
-    return FIRST.splitlines(keepends=True)
+def lines(report=FIRST):
+    return report.splitlines(keepends=True)
 
 
 def said(text):
@@ -71,6 +73,25 @@ class Verdicts(unittest.TestCase):
         for wrong in (segment.replace("1>S", "2>S"), segment.replace("A seq", "SA seq"), segment.replace("data -", "data 0"), segment.replace("7", "8")):
             self.assertFalse(is_packet_line(wrong, 7, 1), wrong)
         self.assertFalse(is_packet_line(segment.replace("7", str(PACKETS + 1)), PACKETS + 1, 1))
+
+    def test_profile_line(self):
+        named, server, end = b"profile wan\n", lines()[2], b"end 0\n"
+        self.check([(HEAD + named + end, (0, 0)), (HEAD + b"profile plain\n" + end, (4, "text")), (HEAD + b"profile  wan\n" + end, (4, "text"))])
+        self.check([(HEAD + named + named + end, (5, "text")), (HEAD + b"profile\n" + end, (4, "text")), (put(3, named, server), (3, "text"))])
+        self.check([(put(4, lines()[3], named), (5, "text")), (HEAD + named + b"twin\n" + end, (5, "text"))])
+
+    def test_delayed_ack(self):
+        """The ACK of text waits for the log in the profile `wan`, and only there."""
+        self.check([(DELAYED, (17, 14)), (DELAYED.replace(b"profile wan\n", b""), (27, "server")), (put(3, lines()[2], b"profile wan\n"), (29, "server"))])
+
+    def test_recovery(self):
+        """A timeout that follows a measured round trip, and what partial acknowledgements send again."""
+        told = lines(MEASURED)
+        expiry = told.index(b"event 36 tick\n")
+        early = b"".join([*told[:expiry], told[expiry + 1], told[expiry], *told[expiry + 2 :]])
+        partial = next(at for at, line in enumerate(told) if line.startswith(b"packet 25 "))
+        missing = b"".join(told[:partial] + told[partial + 1 :])
+        self.check([(MEASURED, (49, 39)), (early, (expiry + 2, "server")), (missing, (partial + 1, "server"))])
 
 
 if __name__ == "__main__":

@@ -11,7 +11,8 @@ It skips the lines that play many packets at once (`join`, `hostile`, `tally`), 
 import random
 import sys
 
-from model import LIMIT, WINDOW, Congestion, Segment, Stream, gap, is_acceptable, is_at_right_edge, is_at_zero_window, length_of, number
+from model import LIMIT, WINDOW, Segment, Stream, gap, is_acceptable, is_at_right_edge, is_at_zero_window, length_of, number
+from sender_model import Congestion
 
 ACTS = ("in", "tick", "flush")
 SHOWN = ("out", "nothing", "segments")

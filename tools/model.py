@@ -6,6 +6,7 @@ report of a schedule is compared with that of `ftreplay` (tools/seed_model.py), 
 from collections import namedtuple
 
 from loggers import NO_MARK, OPENINGS, Alone, Forward, Got, Journaled, Mark, Message, Pair
+from sender_model import LONGEST, PROFILES, Congestion, Timing
 from services import Service
 
 LIMIT = 1 << 24  # bytes of a stream, each way
@@ -14,7 +15,6 @@ READ = 2048  # bytes of a read
 UNANSWERED = 32  # reads on their way to the log
 PACKETS = 200_000  # packets of a run
 RUNS = 16  # runs of bytes that are held behind a gap
-WIDEST = 1 << 20  # the most units of a congestion window
 PIECE = 1460  # the most bytes of a Data
 
 # The bytes of a message without what follows its fields.
@@ -182,46 +182,6 @@ class Stream:
         return not self.fin and self.held_fin is None and len(self.data) <= at < edge and at > max(self.held, default=-1)
 
 
-class Congestion:
-    """How far beyond the first unit that isn't acknowledged may be sent (RFC 5681, 3.1 and 3.2), in units. `flight` is what is sent and unacknowledged."""
-
-    def __init__(self, mss):
-        self.mss, self.dups, self.threshold = mss, 0, WINDOW
-        self.window = (4 if mss <= 1095 else 3) * mss
-
-    def widen(self, window):
-        self.window = min(window, WIDEST)
-
-    def halve(self, flight):
-        self.threshold = max(flight // 2, 2 * self.mss)
-
-    def acknowledge(self, units):
-        """So many units are acknowledged for the first time: it grows, or fast recovery ends."""
-        if self.dups >= 3:
-            self.widen(self.threshold)
-        elif self.window < self.threshold:
-            self.widen(self.window + min(units, self.mss))
-        else:
-            self.widen(self.window + max(1, self.mss * self.mss // self.window))
-        self.dups = 0
-
-    def repeat(self, flight):
-        """A duplicate acknowledgement. Whether it is the third in a row, at which a segment is sent again."""
-        before, self.dups = self.dups, min(4, self.dups + 1)
-        if before == 2:
-            self.halve(flight)
-            self.widen(self.threshold + 3 * self.mss)
-        elif before > 2:
-            self.widen(self.window + self.mss)
-        return before == 2
-
-    def lose(self, flight, first):
-        """The timer expires. `first` is false where it did before, and nothing was acknowledged since."""
-        if first:
-            self.halve(flight)
-        self.window, self.dups = self.mss, 0
-
-
 class Marking:
     """A connection's marks at a server that sends one after each `every` reads: how many reads the last one has, and which one isn't answered yet."""
 
@@ -246,22 +206,23 @@ class Marking:
 class Connection(Stream):
     """A live connection of one incarnation, as its point: what is taken, logged, read, sent and acknowledged, in offsets."""
 
-    def __init__(self, key, cisn, sisn, mss, service, every=0):
+    def __init__(self, key, cisn, sisn, mss, service, every=0, profile="plain"):
         super().__init__()
         self.key, self.cisn, self.sisn, self.mss = key, cisn, sisn, mss
         self.service, self.output, self.after_read = Service(service), bytearray(), [(0, False)]
         self.fetched, self.fetched_output, self.answered = 0, 0, 0
         self.lengths, self.consumed, self.reads_answered = [], 0, 0
         self.una = self.sent = self.edge = self.wl1 = self.wl2 = 0
-        self.counted, self.interval, self.rest = False, 1, 1
-        self.congestion, self.again = Congestion(mss), False
+        measures, self.delays = PROFILES[profile]
+        self.timing, self.congestion, self.again = Timing(measures), Congestion(mss, measures), False
+        self.counted, self.interval, self.rest = False, self.timing.base, self.timing.base
         self.end_ticks, self.reset = 0, False
         self.marking = Marking(every)
 
     @classmethod
-    def of_entry(cls, entry, service, every=0):
+    def of_entry(cls, entry, service, every=0, profile="plain"):
         """Where a connection stands that is restarted from what was fetched."""
-        it = cls(entry["key"], entry["cisn"], entry["sisn"], entry["mss"], service, every)
+        it = cls(entry["key"], entry["cisn"], entry["sisn"], entry["mss"], service, every, profile)
         it.begin_at(entry.get("mark", NO_MARK))
         it.data += entry["data"]
         it.fin, it.fetched, it.answered = entry["fin"], entry["length"], entry["length"] + entry["fin"]
@@ -271,7 +232,7 @@ class Connection(Stream):
         it.fetched_output = it.target()
         it.una = it.sent = it.edge = it.wl2 = min(entry["acked"], it.released())
         it.wl1, it.counted = it.fetched, True
-        it.rest = int(it.must_run())
+        it.rest = it.timing.base if it.must_run() else 0
         return it
 
     def begin_at(self, mark):
@@ -313,10 +274,14 @@ class Connection(Stream):
         length, closed = self.after_read[self.reads_answered]
         return bool(self.fin) and closed and self.una == length + 1
 
-    def out(self, flags, at, text=b"", mss=None):
-        """A segment: it acknowledges what is both taken and logged."""
+    def told(self):
+        """What a segment acknowledges, which is both taken and logged, and the window that it announces."""
         acked = min(self.taken(), self.answered)
-        return Segment(flags, number(self.sisn + 1 + at), number(self.cisn + 1 + acked), min(WINDOW, self.right() - acked), mss, text)
+        return acked, min(WINDOW, self.right() - acked)
+
+    def out(self, flags, at, text=b"", mss=None):
+        acked, window = self.told()
+        return Segment(flags, number(self.sisn + 1 + at), number(self.cisn + 1 + acked), window, mss, text)
 
     def syn_ack(self):
         return self.out("AS", -1, mss=1460)
@@ -338,7 +303,7 @@ class Connection(Stream):
     def turn_unmarked(self, kind, came):
         if self.reset:
             return self.turn_reset(kind, came)
-        una, taken, right, answered, was_over = self.una, self.taken(), self.right(), self.answered, self.is_over()
+        una, taken, right, answered, was_over, told = self.una, self.taken(), self.right(), self.answered, self.is_over(), self.told()
         segments, owed, copied, silent = [], kind == "live", [], False
         self.again = False
         if kind == "segment":
@@ -355,15 +320,17 @@ class Connection(Stream):
             segments = [self.syn_ack()]
         made = self.make_reads()
         expired = kind == "tick" and self.rest == 1
-        if kind == "tick" and self.rest > 1:
-            self.rest -= 1
+        if kind == "tick" and not expired:
+            self.rest = max(0, self.rest - 1)
+            self.timing.tick()
         if expired:
             segments += self.expire()
         elif self.again:
             segments.append(self.first_again())
         segments += self.send_more()
         owed = owed or self.answered > answered or (self.taken(), self.right()) != (taken, right)
-        if owed and not segments and not silent:
+        waits = kind == "segment" and self.delays and self.taken() > taken and not self.held and self.held_fin is None and self.told() == told
+        if owed and not segments and not silent and not waits:
             segments = [self.out("A", self.sent)]
         return segments, self.tell(kind, copied, self.una > una, made)
 
@@ -403,12 +370,15 @@ class Connection(Stream):
         if lowered >= una and (not self.counted or self.wl1 < first or self.wl1 == first and self.wl2 <= lowered):
             self.edge, self.wl1, self.wl2 = lowered + window, first, lowered
         self.una = max(una, lowered)
+        self.timing.acknowledge(self.una - una)
         if self.una > una or not self.counted:
-            self.interval = self.rest = 1
+            self.interval = self.rest = self.timing.base
         if self.una > una:
-            self.congestion.acknowledge(self.una - una)
+            self.again = self.congestion.acknowledge(self.una - una)
         elif repeats:
             self.again = self.congestion.repeat(self.sent - una)
+        if self.again:
+            self.timing.resend()
         self.counted = True
 
     def copies(self, came, first, had, had_fin):
@@ -448,8 +418,9 @@ class Connection(Stream):
 
     def expire(self):
         """The timer is out: the first segment again, or a probe."""
-        first = self.interval == 1
-        self.interval = self.rest = min(64, 2 * self.interval)
+        first = not self.timing.backed_off if self.timing.measures else self.interval == 1
+        self.interval = self.rest = min(LONGEST, 2 * self.interval)
+        self.timing.expire(self.interval)
         if not self.counted:
             return [self.syn_ack()]
         if self.una < self.sent:
@@ -471,6 +442,8 @@ class Connection(Stream):
         """All that the edge and the congestion window allow and wasn't sent, and the timer as it stands then."""
         start = self.sent
         self.sent = max(self.sent, min(self.target(), self.edge, self.una + self.congestion.window)) if self.counted else self.sent
+        if self.sent > start:
+            self.timing.send(start + 1 - self.una)
         end = min(self.sent, self.released())
         segments = [self.part(at, min(at + self.mss, end)) for at in range(start, end, self.mss)]
         if self.sent > max(start, self.released()):
@@ -478,7 +451,7 @@ class Connection(Stream):
         if not self.must_run():
             self.rest = 0
         elif self.rest == 0:
-            self.interval = self.rest = 1
+            self.interval = self.rest = self.timing.base
         return segments
 
     def tell(self, kind, copied, rose, made):
@@ -498,8 +471,8 @@ class Connection(Stream):
 class Server:
     """One incarnation: it asks for the log, restarts what is in it, and serves. It sends a mark after each `every` reads of a connection; 0 for none."""
 
-    def __init__(self, boot, isn, service, every=0):
-        self.boot, self.isn, self.service, self.every = boot, isn, service, every
+    def __init__(self, boot, isn, service, every=0, profile="plain"):
+        self.boot, self.isn, self.service, self.every, self.profile = boot, isn, service, every, profile
         self.places, self.openings = {}, 0
         self.count, self.entries = None, []
         self.serves, self.question = False, ("Hello", {})
@@ -579,7 +552,7 @@ class Server:
         if came.name == "Full" or said["cisn"] != opening["cisn"]:
             del self.places[key]
             return [(key, refusal(0, opening["cisn"] + 1))] if came.name == "Full" else []
-        place = self.places[key] = Connection(key, said["cisn"], said["sisn"], said["mss"], self.service, self.every)
+        place = self.places[key] = Connection(key, said["cisn"], said["sisn"], said["mss"], self.service, self.every, self.profile)
         return self.sent_by(place, *place.turn("start"))
 
     def fetch(self, came):
@@ -624,7 +597,7 @@ class Server:
                 self.places[entry["key"]] = "done"
             else:
                 self.next_isn()
-                place = self.places[entry["key"]] = Connection.of_entry(entry, self.service, self.every)
+                place = self.places[entry["key"]] = Connection.of_entry(entry, self.service, self.every, self.profile)
                 sent += self.sent_by(place, *place.turn("live"))
         return sent
 
@@ -638,8 +611,8 @@ def may_hold(service, entry, said):
 class World:
     """Clients, one logger or two, network and server, event by event. With `marks` there is one logger, and the server sends a mark after so many reads."""
 
-    def __init__(self, service, server, clients, twin=False, marks=0):
-        self.service, self.address, self.clients = service, server, clients
+    def __init__(self, service, server, clients, twin=False, marks=0, profile="plain"):
+        self.service, self.address, self.clients, self.profile = service, server, clients, profile
         self.of_key = {client.key: place for place, client in enumerate(clients, 1)}
         self.twin, self.marks, self.loggers = twin, marks, Pair() if twin else Journaled() if marks else Alone()
         self.server, self.packets = None, []
@@ -677,7 +650,7 @@ class World:
 
     def happen(self, verb, words):
         if verb == "boot":
-            self.server, self.last_boot, self.boots = Server(*words, self.service, self.marks), words[0], self.boots + 1
+            self.server, self.last_boot, self.boots = Server(*words, self.service, self.marks, self.profile), words[0], self.boots + 1
             return self.by_server(self.server.asked())
         if verb == "crash":
             self.server, self.crashes = None, self.crashes + 1

@@ -9,10 +9,11 @@ import lossy
 from endpoint_model import play_script
 from loggers import Forward, Got, Head, Log, Message, Tail
 from masked import Watch
-from model import WIDEST, Client, Congestion, Connection, Segment, Server, Stream, World, size_of
+from model import Client, Connection, Segment, Server, Stream, World, size_of
 from reordered import drawn
 from replay_stored import printed
 from seed_model import drawn_run
+from sender_model import WIDEST, Congestion, Timing
 from services import Service
 from stored_parts import read_part
 
@@ -279,6 +280,65 @@ class Receiving(unittest.TestCase):
             self.assertEqual((client.acked, len(client.accepted)), (0, 0))
 
 
+class Timings(unittest.TestCase):
+    """The estimate of the round-trip time by RFC 6298, with numbers by hand."""
+
+    def measured(self, *trips):
+        it, told = Timing(True), []
+        for ticks in trips:
+            it.send(1)
+            for _ in range(ticks):
+                it.tick()
+            it.acknowledge(1)
+            told.append((it.smoothed, it.variation, it.base))
+        return told
+
+    def test_samples(self):
+        self.assertEqual(self.measured(2, 4, 3), [(16, 4, 6), (18, 5, 7), (19, 5, 7)])
+        self.assertEqual(self.measured(0, 0), [(0, 0, 2), (0, 0, 2)])
+        self.assertEqual(self.measured(255, 255), [(2040, 510, 64), (2040, 383, 64)])
+        self.assertEqual(self.measured(300), self.measured(255))
+
+    def test_one_unit(self):
+        it = Timing(True)
+        it.send(3)
+        it.send(1)
+        it.tick()
+        it.acknowledge(2)
+        self.assertEqual((it.ahead, it.base, it.sampled), (1, 10, False))
+        it.acknowledge(1)
+        self.assertEqual((it.ahead, it.base, it.sampled), (None, 3, True))
+
+    def test_sent_again(self):
+        """What is sent again isn't measured, and the interval stays doubled until something is."""
+        it = Timing(True)
+        for again in (it.resend, lambda: it.expire(20)):
+            it.send(1)
+            again()
+            it.acknowledge(1)
+            self.assertFalse(it.sampled)
+        self.assertEqual((it.base, it.backed_off), (20, True))
+        it.send(1)
+        it.acknowledge(1)
+        self.assertEqual((it.base, it.backed_off), (2, False))
+
+    def test_plain(self):
+        it = Timing()
+        for act in (lambda: it.send(1), it.tick, lambda: it.acknowledge(1), lambda: it.expire(2), it.tick):
+            act()
+            self.assertEqual((it.base, it.sampled, it.ahead, it.backed_off), (1, False, None, False))
+
+    def test_delayed_ack(self):
+        """In the profile `wan` the ACK of text waits for the log, unless something is held after a gap."""
+        for profile, counts in (("plain", [0, 1, 1, 1, 1, 1]), ("wan", [0, 0, 1, 1, 1, 1])):
+            place = Connection(KEY, 1000, 5000, 536, "echo", profile=profile)
+            place.turn("start")
+            came = [text(0, b""), text(0, b"a"), text(0, b"a"), text(3, b"d"), text(1, b"b")]
+            sent = [len(place.turn("segment", it)[0]) for it in came]
+            logged = Message("Stable", 1, {"key": KEY, "length": 2, "fin": 0, "reads": 0})
+            self.assertEqual([*sent, len(place.turn("logged", logged)[0])], counts, profile)
+
+
 class Congestions(unittest.TestCase):
     """The congestion window by RFC 5681. `a` acknowledges so many units, `d` is a duplicate with so many units in flight, `l` a loss by the timer, the first
     one with `f`; behind each the window, the threshold and the count of duplicates."""
@@ -323,6 +383,18 @@ class Congestions(unittest.TestCase):
         """Where the segments stand that leave at each of these, and how long they are."""
         turns = [place.turn("segment", it) if isinstance(it, Segment) else place.turn(it) for it in came]
         return [[((it.seq - 5001) % 2**32, len(it.text)) for it in segments] for segments, _ in turns]
+
+    def test_partial_acknowledgements(self):
+        """By RFC 6582: what was in flight when a loss was noticed is lost until it is acknowledged, and no duplicate is the third until then."""
+        it = Congestion(100, recovers=True)
+        self.assertEqual([it.repeat(500) for _ in range(3)], [False, False, True])
+        self.assertEqual((it.window, it.threshold, it.dups, it.lost), (550, 250, 3, 500))
+        steps = [("a", 100, True, 550, 3, 400), ("a", 50, True, 500, 3, 350), ("d", 450, False, 600, 4, 350), ("a", 350, False, 250, 0, 0)]
+        steps += [("f", 400, None, 100, 0, 400), *(("d", 400, False, 100, count, 400) for count in (1, 2, 2)), ("a", 100, True, 200, 0, 300)]
+        steps += [("a", 300, False, 250, 0, 0), ("d", 200, False, 250, 1, 0), ("d", 200, False, 250, 2, 0), ("d", 200, True, 500, 3, 200)]
+        for what, units, *wanted in steps:
+            again = it.acknowledge(units) if what == "a" else it.repeat(units) if what == "d" else it.lose(units, True)
+            self.assertEqual([again, it.window, it.dups, it.lost], wanted, (what, units))
 
     def test_restart(self):
         """A restarted connection begins anew, whatever its window was. The client has 1,000 bytes already: at first that acknowledges nothing."""

@@ -68,7 +68,7 @@ def crashes(name, stops, text):
     told = ""
     for count in range(1, len(schedule.events) + 1):
         client = Client(key, isn, script_of(script))
-        world = World(schedule.service, schedule.server, [client], schedule.twin, schedule.marks)
+        world = World(schedule.service, schedule.server, [client], schedule.twin, schedule.marks, schedule.profile)
         for verb, words in [*schedule.events[:count], ("crash", []), *stops]:
             world.step(verb, words)
         go_on(world, client)
@@ -81,7 +81,7 @@ def delta(name, text):
     """By how much the numbers of the one connection differ at the end: those that the client knows, and those of the TCP that the last server began."""
     schedule = read_schedule(text)
     ((key, isn, script),) = schedule.clients
-    world = World(schedule.service, schedule.server, [Client(key, isn, script_of(script))], schedule.twin, schedule.marks)
+    world = World(schedule.service, schedule.server, [Client(key, isn, script_of(script))], schedule.twin, schedule.marks, schedule.profile)
     for verb, words in schedule.events:
         world.step(verb, words)
     return f"{name}: delta {number(world.server.places[key].sisn - world.server.isn)}\n"

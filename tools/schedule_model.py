@@ -8,15 +8,16 @@ TEXT = 8_388_608  # bytes of a text
 EVENTS = 100_000
 CLIENTS = 16
 SERVICES = ("echo", "line", "transfer", "meter")
+PROFILES = ("wan",)  # those that are named; a schedule that names none has the plain one
 
 # The numbers behind the first word of an event, each with its range.
 LONG, PACKET, CLIENT, WINDOW = (0, 2**32 - 1), (1, 2**32 - 1), (1, CLIENTS), (0, 65535)
 VERBS = {"boot": [(1, 2**64 - 1), LONG], "crash": [], "tick": [], "deliver": [PACKET], "flip": [PACKET, LONG], "open": [CLIENT, WINDOW]}
 VERBS |= {"send": [CLIENT, LONG, LONG], "fin": [CLIENT], "ack": [CLIENT, WINDOW], "reset": [CLIENT], "stop": [(1, 2)]}
-HEADS = {"service": 2, "server": 2, "twin": 1, "marks": 2, "client": 5}  # how many words they have
+HEADS = {"service": 2, "server": 2, "profile": 2, "twin": 1, "marks": 2, "client": 5}  # how many words they have
 
 # A script is as a report spells it; a client has its address, its initial number and its script.
-Schedule = namedtuple("Schedule", "service server twin marks clients events")
+Schedule = namedtuple("Schedule", "service server profile twin marks clients events")
 
 
 class Refused(Exception):
@@ -54,7 +55,7 @@ class Reader:
 
     def __init__(self):
         self.service = self.server = None
-        self.twin, self.marks, self.clients, self.events = False, 0, [], []
+        self.profile, self.twin, self.marks, self.clients, self.events = "plain", False, 0, [], []
         self.last = None  # the first word of the last line that counted
 
     def take(self, line):
@@ -66,7 +67,8 @@ class Reader:
             raise Refused("too long: events")
         if re.search("[^ -~]", line):
             raise Refused("character")
-        if words[0] not in {*HEADS, *VERBS} or words[0] == "service" and len(words) > 1 and words[1] not in SERVICES:
+        named = {"service": SERVICES, "profile": PROFILES}.get(words[0], words[1:2])
+        if words[0] not in {*HEADS, *VERBS} or len(words) > 1 and words[1] not in named:
             raise Refused("word")
         if not self.may_stand(words):
             raise Refused("place")
@@ -80,8 +82,10 @@ class Reader:
             return self.service is None
         if words[0] == "server":
             return self.last == "service"
-        if words[0] in ("twin", "marks"):
+        if words[0] == "profile":
             return self.last == "server"
+        if words[0] in ("twin", "marks"):
+            return self.last in ("server", "profile")
         if words[0] != "client":
             return self.server is not None
         is_next = len(words) == 1 or not re.fullmatch("[0-9]{1,20}", words[1]) or int(words[1]) == len(self.clients) + 1
@@ -92,6 +96,8 @@ class Reader:
             self.service = words[0]
         elif head == "server":
             self.server = address_of(words[0], [])
+        elif head == "profile":
+            self.profile = words[0]
         elif head == "twin":
             self.twin = True
         elif head == "marks":
@@ -117,4 +123,4 @@ def read_schedule(text):
             raise why if str(why).startswith("too long") else Refused(f"line {number}: {why}") from None
     if reader.server is None:
         raise Refused(f"line {len(lines) + 1}: place")
-    return Schedule(reader.service, reader.server, reader.twin, reader.marks, reader.clients, reader.events)
+    return Schedule(reader.service, reader.server, reader.profile, reader.twin, reader.marks, reader.clients, reader.events)

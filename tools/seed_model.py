@@ -106,7 +106,7 @@ def drawn_run(seed, count, events, twin=False, watch=None):
 
 def header(world, spelled):
     clients = [f"client {i} {it.key} {it.isn} {spelled[i - 1]}" for i, it in enumerate(world.clients, 1)]
-    beside = ["twin"] * world.twin + [f"marks {world.marks}"] * (world.marks > 0)
+    beside = [f"profile {world.profile}"] * (world.profile != "plain") + ["twin"] * world.twin + [f"marks {world.marks}"] * (world.marks > 0)
     return [f"service {world.service}", f"server {world.address}", *beside, *clients]
 
 
@@ -168,7 +168,7 @@ def play(text):
     except Refused as why:
         return [], str(why)
     clients = [Client(key, isn, script_of(script)) for key, isn, script in schedule.clients]
-    world = World(schedule.service, schedule.server, clients, schedule.twin, schedule.marks)
+    world = World(schedule.service, schedule.server, clients, schedule.twin, schedule.marks, schedule.profile)
     report, number, done = ["ftreplay 1", *header(world, [script for _, _, script in schedule.clients])], 0, 0
     for verb, words in schedule.events:
         why = world.refuses(verb, words)
