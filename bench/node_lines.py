@@ -15,6 +15,7 @@ from seed_model import Generator, packet_words  # noqa: E402
 SERVER = (0xC0000264, 7)
 K = "192.0.2.1:40000"
 SERVICES = {"echo": 1, "line": 2, "transfer": 3, "meter": 4}
+BOOTS = {"plain": "boot", "wan": "boot-wan"}  # the word that boots a server with a profile
 FLAGS = {"F": 1, "S": 2, "R": 4, "P": 8, "A": 16}
 KINDS = "Hello Summary List Entry Bytes Part Cuts Lens Open Opened Data Stable Read Reads Done Ended Stale Full".split()
 
@@ -136,13 +137,13 @@ def pkt(data):
 class Played:
     """A server and a log of the model, and a client that says what it is told to. Each turn is a line of the script, with what the model sends in it."""
 
-    def __init__(self, service):
-        self.service, self.log, self.sent = service, loggers.Log(), []
+    def __init__(self, service, profile="plain"):
+        self.service, self.profile, self.log, self.sent = service, profile, loggers.Log(), []
         self.boot(1, 5000)
 
     def boot(self, boot, isn):
-        self.server = model.Server(boot, isn, self.service)
-        self.turn(f"boot {SERVICES[self.service]} {boot} {isn}", self.server.asked())
+        self.server = model.Server(boot, isn, self.service, profile=self.profile)
+        self.turn(f"{BOOTS[self.profile]} {SERVICES[self.service]} {boot} {isn}", self.server.asked())
         self.drain()
         self.knows_deltas(isn)
 
@@ -168,6 +169,10 @@ class Played:
                 words = packet_words(answer).split()
                 self.turn(msg(told(words[0], words[1:])), self.server.on_message(answer))
                 waiting = waiting + self.sent
+
+    def ticks(self, times):
+        for _ in range(times):
+            self.turn("tick", self.server.on_tick())
 
     def comes(self, at, text=b"", flags="A", ack=0, key=K):
         """A segment of the client at an offset of its stream, whose initial number is 4294967290. Nothing of it is logged yet."""

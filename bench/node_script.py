@@ -15,13 +15,12 @@ sys.path.insert(0, str(pathlib.Path(__file__).parent.parent / "tools"))
 
 import loggers  # noqa: E402
 import model  # noqa: E402
-from node_lines import (K, SERVER, SERVICES, Played, conn, fields, guess_in_each_state, key_bytes, key_of, lines, message, msg, numbers, packet, pkt, prints, say, segment, to_client, to_logger, told)  # noqa: E402
+from node_lines import (BOOTS, K, SERVER, SERVICES, Played, conn, fields, guess_in_each_state, key_bytes, key_of, lines, message, msg, numbers, packet, pkt, prints, say, segment, to_client, to_logger, told)  # noqa: E402
 from seed_model import Generator, packet_words  # noqa: E402
 from stored_parts import FOLDER, write_part  # noqa: E402
 
 REPORTS = sys.argv[1]
 OUT = pathlib.Path(sys.argv[2]) if sys.argv[2:] else FOLDER
-BOOTS = {"plain": "boot", "wan": "boot-wan"}
 
 def play_report(name, title, numbers=()):
     """The server's turns of a worked run. `numbers` names, behind which events, what `conn` must print."""
@@ -103,12 +102,12 @@ play_report("congestion_window", "four segments leave at first, and the third du
 play_report("early_acknowledgement", "an acknowledgement past the next number", {
     11: [(K, numbers(0, 0, 0, 0, 0, 0, 0))],
 }.items())
-play_report("wide_area_echo", "with the profile wan the ACK of text waits for the log", {
+play_report("delayed_ack", "with the profile wan the ACK of text waits for the log", {
     12: [(K, numbers(0, 5, 0, 5, 1, 0, 0))],
     14: [(K, numbers(0, 5, 5, 5, 1, 0, 0))],
     16: [(K, numbers(0, 5, 5, 5, 1, 0, 5))],
 }.items())
-play_report("wide_area_losses", "a measured round trip, partial acknowledgements, an expiry after six ticks, and a restart that measures anew", {
+play_report("wide_area", "a measured round trip, partial acknowledgements, an expiry after six ticks, and a restart that measures anew", {
     21: [(K, numbers(0, 4, 4, 4, 1, 536, 2047))],
     30: [(K, numbers(0, 4, 4, 4, 1, 1072, 2047))],
     39: [(K, numbers(0, 4, 4, 4, 1, 1608, 2047))],
@@ -521,9 +520,9 @@ def digest_of(sent):
 class Struck(Played):
     """The same, with a fourth client that sends hostile datagrams between all turns. The log doesn't answer what that client's connection tells."""
 
-    def __init__(self, service, strikes):
+    def __init__(self, service, strikes, profile):
         self.struck, self.lines, self.strikes, self.said_of, self.may_open = 0, 0, strikes, {}, False
-        super().__init__(service)
+        super().__init__(service, profile)
 
     def keep(self, sent):
         for key, content in sent:
@@ -607,23 +606,23 @@ class Struck(Played):
     def ticks(self, times):
         for _ in range(times):
             self.strike()
-            self.turn("tick", self.server.on_tick())
+            super().ticks(1)
             self.drain()
 
     def boots_again(self, boot, isn):
         """A crash and a restart. The three clients' entries are fetched while the fourth goes on."""
         self.strike()
-        self.server = model.Server(boot, isn, self.service)
-        self.turn(f"boot {SERVICES[self.service]} {boot} {isn}", self.server.asked())
+        self.server = model.Server(boot, isn, self.service, profile=self.profile)
+        self.turn(f"{BOOTS[self.profile]} {SERVICES[self.service]} {boot} {isn}", self.server.asked())
         self.strike()
         self.drain()
         self.knows_deltas(isn)
         self.strike()
 
 
-def serve_three(strikes):
+def serve_three(strikes, profile="plain"):
     """Three clients say something in two segments, over a restart, and close. Returns what each of them and the log heard of it."""
-    it = Struck("echo", strikes)
+    it = Struck("echo", strikes, profile)
     for number, key in enumerate(GOOD):
         it.says_of(number, -1, flags="S")
         it.drain()
@@ -659,9 +658,67 @@ say("# three clients are served to their ends, over a restart, while a fourth se
 say("# that overlaps, before each turn and in every stage of its own: unknown, pending, live, restarted, reset and done")
 struck, count = serve_three(600)
 assert count >= 40000, count
-alone, lines_kept, prints_kept = None, list(lines), list(prints)
-alone, none = serve_three(0)
-lines[:], prints[:] = lines_kept, prints_kept
-assert struck == alone and none == 0
+
+
+def left_alone(profile="plain"):
+    """What each of the three and the log heard without the fourth client. Nothing of it is said."""
+    lines_kept, prints_kept = list(lines), list(prints)
+    heard, none = serve_three(0, profile)
+    lines[:], prints[:] = lines_kept, prints_kept
+    assert none == 0
+    return heard
+
+
+assert struck == left_alone()
+
+# ---- the profile wan, by the model ---------------------------------------------------------------------------------------------------------------
+
+say("# the profile wan: an ACK is sent at once for text past a gap, for a part of a gap and for what is repeated, and waits where the whole gap is filled")
+it = Played("echo", "wan")
+it.begins()
+it.comes(5, letters(5, 9))
+it.comes(0, letters(0, 2))
+it.drain()
+it.comes(2, letters(2, 5))
+it.drain()
+it.comes(0, letters(0, 9))
+it.drain()
+it.comes(9, letters(9, 12), "AF", ack=9)
+it.drain()
+it.shows()
+say("# two clients, of which each has an estimate of its own: a round trip of two ticks, and one of five")
+it = Played("transfer", "wan")
+it.begins()
+it.begins(OTHER)
+it.comes(0, REQUESTS)
+it.drain()
+it.comes(0, REQUESTS, ack=65536, key=OTHER)
+it.drain()
+it.ticks(2)
+it.comes(16, ack=536)
+it.ticks(3)
+it.comes(16, ack=65536 + 536, key=OTHER)
+assert (it.server.places[K].timing.base, it.server.places[OTHER].timing.base) == (6, 15)
+it.ticks(20)
+for ack in (1072, 1608, 2144):
+    it.comes(16, ack=ack)
+    it.comes(16, ack=65536 + ack, key=OTHER)
+it.shows()
+it.shows(OTHER)
+say("# a restart: ACKs wait for the log again, and the timer begins with ten ticks, until a round trip is measured")
+it.boot(2, 900000)
+it.comes(16, REQUESTS[:4], ack=2144)
+it.drain()
+it.ticks(9)
+it.ticks(1)
+it.comes(20, ack=2680)
+it.ticks(19)
+it.ticks(1)
+it.comes(20, ack=it.server.places[K].sent)
+it.drain()
+it.shows()
+say("# three clients and a fourth that is hostile, as before")
+struck, count = serve_three(100, "wan")
+assert count >= 7000 and struck == left_alone("wan")
 write_part("node", "\n".join(lines) + "\n", "\n".join(prints) + "\n", OUT)
 print(len(lines), "lines,", len(prints), "printed")
