@@ -1,9 +1,9 @@
 #!/usr/bin/env python3
 """Draws schedules of long answers whose segments are lost, repeated and reordered, so that the server's congestion window grows and shrinks.
 
-    tools/lossy.py draw SEED                    writes the schedule of a seed
-    tools/lossy.py compare PROGRAM FIRST COUNT  plays COUNT seeds by a built `ftreplay` and by the model, and those of tools/reordered.py, and compares
-                                                the reports
+    tools/lossy.py draw SEED [PROFILE]          writes the schedule of a seed, for a server with this profile; `plain`, or `wan`
+    tools/lossy.py compare PROGRAM FIRST COUNT  plays COUNT seeds with each profile by a built `ftreplay` and by the model, and those of
+                                                tools/reordered.py, and compares the reports
 
 The client asks for 16,000 to 57,000 bytes in one segment, and acknowledges most of what arrives, sometimes with another window. Its acknowledgements are lost and
 repeated too. In about every fifth seed the server crashes during the answer. In the end the client has the whole answer.
@@ -73,7 +73,7 @@ def transfer(run, dice, length):
 def finish(run, length):
     """Nothing is lost from here on, and the client acknowledges each segment, until it has all and the server's FIN."""
     client = run.client
-    for _ in range(100):
+    for _ in range(1000):
         while run.waiting:
             way = run.world.packets[run.waiting[0] - 1][0]
             run.deliver(run.waiting[0])
@@ -87,11 +87,11 @@ def finish(run, length):
     raise AssertionError("it has no end")
 
 
-def drawn(seed):
+def drawn(seed, profile="plain"):
     """The lines of a schedule, what the client has accepted, and what it has to."""
     dice = random.Random(seed)
     asked = dice.randrange(8, 29)
-    run, length = Run("hex:" + REQUEST * asked + "00000000", "transfer"), asked * ANSWER
+    run, length = Run("hex:" + REQUEST * asked + "00000000", "transfer", profile), asked * ANSWER
     run.begin()
     asks(run)
     transfer(run, dice, length)
@@ -107,14 +107,14 @@ def differs(program, lines):
 
 def compare(program, first, count):
     for seed in range(first, first + count):
-        for name, lines in ("lossy", drawn(seed)[0]), ("reordered", reordered.drawn(seed)[0]):
+        for name, lines in ("lossy", drawn(seed)[0]), ("lossy wan", drawn(seed, "wan")[0]), ("reordered", reordered.drawn(seed)[0]):
             if differs(program, lines):
                 sys.exit(f"they differ at: {name}, seed {seed}")
-    print(f"{count} seeds of both kinds: all equal")
+    print(f"{count} seeds of each kind: all equal")
 
 
 if __name__ == "__main__":
     if sys.argv[1] == "compare":
         compare(sys.argv[2], *map(int, sys.argv[3:]))
     else:
-        print("\n".join(drawn(int(sys.argv[2]))[0]))
+        print("\n".join(drawn(int(sys.argv[2]), *sys.argv[3:])[0]))

@@ -8,7 +8,7 @@ import random
 import sys
 
 from model import Client, World
-from seed_model import event_words, script_of
+from seed_model import event_words, header, script_of
 
 KEY, SERVER, WINDOW = "192.0.2.1:40000", "192.0.2.100:7", 65535
 
@@ -16,10 +16,10 @@ KEY, SERVER, WINDOW = "192.0.2.1:40000", "192.0.2.100:7", 65535
 class Run:
     """A world that is driven, with its schedule and the packets that may still come."""
 
-    def __init__(self, spelled, service="echo"):
+    def __init__(self, spelled, service="echo", profile="plain"):
         self.client = Client(KEY, 4294967000, script_of(spelled))
-        self.world = World(service, SERVER, [self.client])
-        self.lines = [f"service {service}", f"server {SERVER}", f"client 1 {KEY} {self.client.isn} {spelled}"]
+        self.world = World(service, SERVER, [self.client], profile=profile)
+        self.lines = header(self.world, [spelled])
         self.waiting = []
 
     def happen(self, verb, *words):
