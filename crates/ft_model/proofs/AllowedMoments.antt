@@ -1,11 +1,12 @@
 -- What the worked runs share: their start, why their moments are allowed, and that those of the opening are.
 use Rattle.std.proofs.Common.{ℕ, ◌^◌, ◌≤◌, length, refl, None, List}
 use native.Mathlib.Bridge.{le_by_compare, IsLe}
+use Rattle.tcp_rules.specs.Profile.{Profile, plain}
 use Rattle.server_trait.specs.Service.{AreBytes}
 use Rattle.ft_model.specs.Client.Move.{Syn, Acknowledge}
 use Rattle.ft_model.specs.World.{IsStart}
 use Rattle.ft_model.specs.Legal.{IsAllowed, AllAllowed}
-use Rattle.ft_model.specs.WorkedRuns.Common.{hello_text, client_with, start_with}
+use Rattle.ft_model.specs.WorkedRuns.Common.{hello_text, client_with, start_in, start_with}
 use Rattle.ft_model.specs.WorkedRuns.FirstPath as path
 use Rattle.ft_model.proofs.AskedMoves.{scripted, still}
 
@@ -15,9 +16,9 @@ hello_bytes =
     (le_by_compare 105 256 tt, (le_by_compare 102 256 tt, (le_by_compare 109 256 tt, (le_by_compare 109 256 tt, (le_by_compare 112 256 tt, tt)))))
 
 -- client 1 with a script that fits a stream
-pub starts_with : (script : List ℕ) → AreBytes script → length script ≤ 2 ^ 24 → IsStart (start_with script)
+pub starts_in : (profile : Profile) (script : List ℕ) → AreBytes script → length script ≤ 2 ^ 24 → IsStart (start_in profile script)
 unfolding IsLe
-starts_with script bytes short = record {
+starts_in profile script bytes short = record {
   ip = le_by_compare 3221226085 (2 ^ 32) tt;
   port = le_by_compare 8 (2 ^ 16) tt;
   apart = refl;
@@ -37,6 +38,9 @@ starts_with script bytes short = record {
   boot = refl;
   node = refl;
 }
+
+pub starts_with : (script : List ℕ) → AreBytes script → length script ≤ 2 ^ 24 → IsStart (start_with script)
+starts_with script bytes short = starts_in plain script bytes short
 
 pub starts_with_hello : IsStart (start_with hello_text)
 unfolding IsLe

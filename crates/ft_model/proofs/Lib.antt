@@ -54,6 +54,8 @@ pub mod RightEdge
 pub mod BeyondNext
 pub mod HeldSegments
 pub mod CongestionWindow
+pub mod DelayedAck
+pub mod MeasuredRecovery
 pub mod ShutWindow
 pub mod Unsent
 pub mod Scripts

@@ -11,6 +11,7 @@ use Rattle.ft_model.specs.Log.{log_after, answer_to}
 use Rattle.ft_model.specs.Taken.{accepts, uses, acknowledges_unsent, counts, came, taken_after, early_after, fin_after}
 use Rattle.ft_model.specs.Answered.{answered_after, reads_answered_after}
 use Rattle.ft_model.specs.Reads.{next_length, may_read, reads_told}
+use Rattle.tcp_rules.specs.Profile.{Profile, plain}
 use Rattle.tcp_rules.specs.Timing.{with_sample, with_acknowledged, with_tick, without_trip, with_backoff, with_sent}
 use Rattle.ft_model.specs.Timer.{must_run, timing_noted, interval_after, rest_after}
 use Rattle.ft_model.specs.Sending.{syn_acked_after, acknowledged_after, edge_after, wl1_after, wl2_after, is_duplicate, is_third_duplicate, congestion_after, sent_at_once, sent_after, send_edge, timing_after, is_partial_ack}
@@ -31,7 +32,7 @@ use Rattle.ft_model.specs.Node.Place.{Lives}
 use Rattle.ft_model.specs.Node.Stage.{Serving}
 use Rattle.ft_model.specs.ServingTurn.{AllGo, PlaceTurn, newcomers, refusals}
 use Rattle.ft_model.specs.Lawful.{LawfulTurn, NodeTurn, fence}
-use Rattle.ft_model.specs.WorkedRuns.Common.{serving_at}
+use Rattle.ft_model.specs.WorkedRuns.Common.{serving_in, serving_at}
 use Rattle.ft_model.proofs.LiveTurns.{turned, live_turn}
 
 -- names all laws that a run computes: `unfolding laws` opens them
@@ -80,13 +81,13 @@ goes service server boot news p q sent live known point packets =
     (live_turn service server boot news p (grind (arith, known)))))
 
 -- a server with the one live connection p goes on to q, if its connection does
-pub serves : {State : Type 0} (service : Machine State) (boot isn : ℕ) (input : Input) (p q : Point) (sent : List Packet)
-    → fence (serving_at boot isn p) input ≡ None → newcomers (serving_at boot isn p) input 1 (Lives p ∷ []) ≡ []
-    → refusals (serving_at boot isn p) input (Lives p ∷ []) ≡ []
-    → PlaceTurn service (serving_at boot isn p) input (Lives p) (Lives q ∷ []) sent
-    → LawfulTurn service (serving_at boot isn p) input sent (serving_at boot isn q)
-serves service boot isn input p q sent unfenced none_new none_refused turn =
-    let node : Node = serving_at boot isn p in
+pub serves_in : {State : Type 0} (service : Machine State) (profile : Profile) (boot isn : ℕ) (input : Input) (p q : Point) (sent : List Packet)
+    → fence (serving_in profile boot isn p) input ≡ None → newcomers (serving_in profile boot isn p) input 1 (Lives p ∷ []) ≡ []
+    → refusals (serving_in profile boot isn p) input (Lives p ∷ []) ≡ []
+    → PlaceTurn service (serving_in profile boot isn p) input (Lives p) (Lives q ∷ []) sent
+    → LawfulTurn service (serving_in profile boot isn p) input sent (serving_in profile boot isn q)
+serves_in service profile boot isn input p q sent unfenced none_new none_refused turn =
+    let node : Node = serving_in profile boot isn p in
     let count : 1 + length (newcomers node input 1 (Lives p ∷ [])) ≡ 1 = ap (λ xs. 1 + length xs) none_new in
     let places : Lives q ∷ [] ≡ (Lives q ∷ []) ++ newcomers node input 1 (Lives p ∷ []) = ap (λ xs. Lives q ∷ xs) (sym none_new) in
     let others : sent ≡ sent ++ (refusals node input (Lives p ∷ []) ++ []) = sym (append-nil sent) ∙ ap (λ xs. sent ++ (xs ++ [])) (sym none_refused) in
@@ -108,6 +109,13 @@ serves service boot isn input p q sent unfenced none_new none_refused turn =
         },
       );
     }
+
+pub serves : {State : Type 0} (service : Machine State) (boot isn : ℕ) (input : Input) (p q : Point) (sent : List Packet)
+    → fence (serving_at boot isn p) input ≡ None → newcomers (serving_at boot isn p) input 1 (Lives p ∷ []) ≡ []
+    → refusals (serving_at boot isn p) input (Lives p ∷ []) ≡ []
+    → PlaceTurn service (serving_at boot isn p) input (Lives p) (Lives q ∷ []) sent
+    → LawfulTurn service (serving_at boot isn p) input sent (serving_at boot isn q)
+serves service boot isn input p q sent unfenced none_new none_refused turn = serves_in service plain boot isn input p q sent unfenced none_new none_refused turn
 
 pub all_is_sent : {State : Type 0} (service : Machine State) (server : Addr) (boot : ℕ) (news : News) (p q : Point) (sent : List Packet) → LiveTurn service server boot news p q sent
     → min (target service q) (send_edge q) ≤ q.sent

@@ -11,6 +11,8 @@ pub mod RightEdge
 pub mod BeyondNext
 pub mod HeldSegments
 pub mod CongestionWindow
+pub mod DelayedAck
+pub mod MeasuredRecovery
 pub mod SegmentWhileRestarting
 pub mod RestartInTurns
 pub mod ClientKnowsMore

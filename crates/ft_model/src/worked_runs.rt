@@ -21,6 +21,8 @@ ghost use Rattle.ft_model.specs.WorkedRuns.RightEdge;
 ghost use Rattle.ft_model.specs.WorkedRuns.BeyondNext;
 ghost use Rattle.ft_model.specs.WorkedRuns.HeldSegments;
 ghost use Rattle.ft_model.specs.WorkedRuns.CongestionWindow;
+ghost use Rattle.ft_model.specs.WorkedRuns.DelayedAck;
+ghost use Rattle.ft_model.specs.WorkedRuns.MeasuredRecovery;
 ghost use Rattle.ft_model.specs.WorkedRuns.CrashBeforeSynAck;
 ghost use Rattle.ft_model.specs.WorkedRuns.ClientKnowsMore;
 ghost use Rattle.ft_model.specs.WorkedRuns.SegmentWhileRestarting;
@@ -88,6 +90,30 @@ pub fn wrong_windows_are_refused()
     ensures past_it { CongestionWindow.IsUnlawful (FirstPath.node_live CongestionWindow.logged_point) CongestionWindow.read_is_logged CongestionWindow.past_the_window }
     ensures early { CongestionWindow.IsUnlawful (FirstPath.node_live (CongestionWindow.repeated 1)) CongestionWindow.acknowledgement_comes CongestionWindow.one_too_early }
     ensures never { CongestionWindow.IsUnlawful (FirstPath.node_live (CongestionWindow.repeated 2)) CongestionWindow.acknowledgement_comes CongestionWindow.never_again }
+{}
+
+/// The first path with the profile for wide-area networks: the text gets no ACK until the log has answered. The complete run is a legal trace of its schedule,
+/// and its report has these lines.
+pub fn delayed_acks_are_legal()
+    ensures legal { Legal (λ kind. echo) DelayedAck.schedule DelayedAck.trace }
+    ensures told { report DelayedAck.schedule DelayedAck.trace ≡ concat DelayedAck.report_lines }
+{}
+
+/// With that profile the timer follows the measured round trip, and each partial acknowledgement retransmits the next missing segment, after an expiry too. The
+/// complete run, with a restart that measures anew, is a legal trace of its schedule, and its report has these lines.
+pub fn measured_recoveries_are_legal()
+    ensures legal { Legal (λ kind. CongestionWindow.transfer) MeasuredRecovery.schedule MeasuredRecovery.trace }
+    ensures told { report MeasuredRecovery.schedule MeasuredRecovery.trace ≡ concat MeasuredRecovery.report_lines }
+{}
+
+/// With that profile, text that isn't logged yet may not get an ACK of its own, the timer may not expire one tick early, and a partial acknowledgement may not
+/// retransmit nothing, neither before an expiry nor after one.
+pub fn wrong_turns_over_a_wide_area_are_refused()
+    ensures at_once { IsUnlawful (DelayedAck.node_live DelayedAck.open_point) FirstPath.text_comes DelayedAck.acked_at_once }
+    ensures early { CongestionWindow.IsUnlawful (DelayedAck.node_live (MeasuredRecovery.waiting 2)) Tick_comes MeasuredRecovery.one_too_early }
+    ensures never { CongestionWindow.IsUnlawful (DelayedAck.node_live MeasuredRecovery.losing_point) (MeasuredRecovery.acknowledged 1072) MeasuredRecovery.never_recovered }
+    ensures never_later { CongestionWindow.IsUnlawful (DelayedAck.node_live MeasuredRecovery.expired_point) (MeasuredRecovery.acknowledged 1608)
+        MeasuredRecovery.never_recovered_later }
 {}
 
 /// A segment that arrives during a restart is answered with window 0, and taken afterwards.

@@ -1,11 +1,11 @@
 -- What the worked runs share: the addresses, the service, and the packets of client 1 and of its server.
-use Rattle.std.specs.Prelude.{ℕ, Bool, false, ◌==◌, Option, None, List, [], ◌∷◌, length}
+use Rattle.std.specs.Prelude.{ℕ, Bool, true, false, ◌==◌, Option, None, List, [], ◌∷◌, length}
 use Rattle.ft_io.specs.declared.Addr.{Addr}
 use Rattle.ft_io.specs.declared.Key.{Key}
 use Rattle.tcp_rules.specs.Congestion.{Congestion}
 use Rattle.seq_arith.specs.Packet.{Segment}
 use Rattle.seq_arith.specs.Message.{Numbers, Kept, EntryHead, Part, Body}
-use Rattle.tcp_rules.specs.Profile.{plain}
+use Rattle.tcp_rules.specs.Profile.{Profile, plain}
 use Rattle.server_trait.specs.Service.{Served, Machine}
 use Rattle.ft_model.specs.Client.{Client, new_client}
 use Rattle.ft_model.specs.Client.ClientKind.{Scripted}
@@ -44,8 +44,11 @@ hello_text = 104 ∷ 101 ∷ 108 ∷ 108 ∷ 111 ∷ []
 abbrev pub client_with : List ℕ → Client
 client_with script = new_client Scripted server key 1000 script
 
+abbrev pub start_in : Profile → List ℕ → World
+start_in profile script = record { server = server; profile = profile; clients = client_with script ∷ []; log = empty_log; packets = []; boot = 0; node = None }
+
 abbrev pub start_with : List ℕ → World
-start_with script = record { server = server; profile = plain; clients = client_with script ∷ []; log = empty_log; packets = []; boot = 0; node = None }
+start_with script = start_in plain script
 
 -- a segment of client 1. Flags: FIN 1, SYN 2, RST 4, ACK 16
 abbrev pub client_segment : (flags seq ack window : ℕ) → List ℕ → Segment
@@ -92,8 +95,11 @@ abbrev pub on_tick : List Packet → Node → Turn
 on_tick sent node = record { input = Tick_comes; sent = sent; node = node }
 
 -- an incarnation with only client 1's connection, the first that it restarted or opened
+abbrev pub serving_in : Profile → (boot isn : ℕ) → Point → Node
+serving_in profile boot isn p = record { server = server; profile = profile; boot = boot; isn = isn; stage = Serving 1 (Lives p ∷ []) }
+
 abbrev pub serving_at : (boot isn : ℕ) → Point → Node
-serving_at boot isn p = record { server = server; profile = plain; boot = boot; isn = isn; stage = Serving 1 (Lives p ∷ []) }
+serving_at boot isn p = serving_in plain boot isn p
 
 -- an incarnation that serves no client, and one that has asked for client 1's opening
 abbrev pub idle : (boot isn : ℕ) → Node
@@ -116,6 +122,10 @@ fetched_with head bytes lengths = record { head = head; bytes = bytes; lengths =
 -- a congestion window, a slow start threshold, and a count of duplicate acknowledgements
 abbrev pub congestion_with : (cwnd ssthresh dups : ℕ) → Congestion
 congestion_with cwnd ssthresh dups = record { cwnd = cwnd; ssthresh = ssthresh; dups = dups; recovers = false; lost = 0 }
+
+-- the same of a sender that recovers the losses of one flight one after another, with what was sent when a loss was noticed
+abbrev pub recovery_with : (cwnd ssthresh dups lost : ℕ) → Congestion
+recovery_with cwnd ssthresh dups lost = record { cwnd = cwnd; ssthresh = ssthresh; dups = dups; recovers = true; lost = lost }
 
 -- no lawful turn from this state, by this input, sends these packets
 abbrev pub IsUnlawful : Node → Input → List Packet → Type 0

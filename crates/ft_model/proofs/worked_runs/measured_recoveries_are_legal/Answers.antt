@@ -1,0 +1,10 @@
+-- The trace is legal moment by moment, and each line of its report computes.
+use Rattle.std.proofs.Common.{refl}
+use Rattle.ft_model.specs.WorkedRuns.CongestionWindow.{pattern}
+use Rattle.ft_model.proofs.MeasuredRecovery.{is_legal}
+use Rattle.ft_model.proofs.ReportOnLiterals.{report_on_literals}
+use Rattle.ft_model.proofs.worked_runs.measured_recoveries_are_legal.Goals as goal
+
+pub returns : goal.returns
+unfolding report_on_literals pattern
+returns c = record { legal = is_legal; told = refl }
