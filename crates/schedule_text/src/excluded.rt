@@ -9,13 +9,15 @@ ghost use Rattle.mark_laws.specs.MarkedReport.{words_of_mark};
 
 use crate::event_line::end_of;
 use crate::event_text::put_event_line;
-use crate::line::takes_client;
+use crate::header_text::put_profile;
+use crate::line::{takes_client, takes_profile};
 use crate::line_out::LineOut;
 use crate::line_text::put_letters;
 use crate::mark_text::put_mark;
 use ft_io::{Key, NoMemory};
 use ft_model::{Event, LineWhy, Schedule};
 use logger_wire::Mark;
+use tcp_rules::Profile;
 
 /// A line with a word too many is refused: the contract of `end_of`.
 fn reading_ignores_further_words(words: &[u8]) -> Result<(), LineWhy>
@@ -34,6 +36,14 @@ fn reading_takes_a_seventeenth_client(schedule: &Schedule, words: &[u8]) -> bool
     takes_client(schedule, words)
 }
 
+/// After a line that names a profile no second one may follow: the contract of `takes_profile`.
+fn reading_takes_a_second_profile(schedule: &Schedule) -> bool
+    requires { schedule.now.profile ≡ Profile.Wan }
+    ensures { result ≡ false }
+{
+    takes_profile(schedule)
+}
+
 /// The letter of ACK stands before that of SYN: the clause `ok` of `put_letters`.
 fn writing_flags_in_another_order(line: &mut LineOut) -> Result<(), NoMemory>
     ensures { OnOk result (line.new.words ≡ line.old.words ++ codes "AS") }
@@ -46,6 +56,13 @@ fn writing_numbers_events_one_too_high(line: &mut LineOut) -> Result<(), NoMemor
     ensures { OnOk result (line.new.words ≡ line.old.words ++ event_line 7 Event.Tick) }
 {
     put_event_line(7, &Event::Tick, line)
+}
+
+/// The line of the profile stands in the header: the clause `ok` of `put_profile`.
+fn writing_hides_the_profile(line: &mut LineOut) -> Result<(), NoMemory>
+    ensures { OnOk result (line.new.words ≡ line.old.words ++ codes "profile wan\n") }
+{
+    put_profile(Profile::Wan, line)
 }
 
 /// The words of a mark have its reads, and then its length: the clause `ok` of `put_mark`.

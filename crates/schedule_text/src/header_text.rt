@@ -45,7 +45,7 @@ fn put_server(server: Addr, line: &mut LineOut) -> Result<(), NoMemory>
 }
 
 /// Appends the line that names the server's profile, unless it is the plain one.
-fn put_profile(profile: Profile, line: &mut LineOut) -> Result<(), NoMemory>
+pub(crate) fn put_profile(profile: Profile, line: &mut LineOut) -> Result<(), NoMemory>
     ensures ok { OnOk result (line.new.words ≡ line.old.words ++ profile_line profile) }
     ensures before { line.new.before ≡ line.old.before }
 {

@@ -255,7 +255,7 @@ fn ends_with_server(schedule: &Schedule) -> bool
 }
 
 /// Returns whether the line that names the server's profile may follow.
-fn takes_profile(schedule: &Schedule) -> bool
+pub(crate) fn takes_profile(schedule: &Schedule) -> bool
     ensures { result ≡ (is_unnamed schedule.now.profile && has_only_server schedule.now) }
 {
     match schedule.profile {
