@@ -13,6 +13,7 @@ sys.path.insert(0, str(pathlib.Path(__file__).parent.parent / "tools"))
 
 from endpoint_model import Endpoint  # noqa: E402
 from model import LIMIT, Segment  # noqa: E402
+from sender_model import PROFILES  # noqa: E402
 from stored_parts import FOLDER, write_part  # noqa: E402
 from twin_model import KINDS, Head, Tail, read_message, read_twin, spell, spelled as between, told as heard  # noqa: E402
 
@@ -321,9 +322,9 @@ def packet(flags, seq, ack, text=b""):
     return (head(checksum(head(0))) + body(checksum(pseudo + body(0)))).hex()
 
 
-def lived(comes, turns, script, receive=0):
+def lived(comes, turns, script, receive=0, profile="plain"):
     """The life of a client: its status, what it accepted, and how many receives and sends there were."""
-    it, accepted, left, sends = Endpoint(1000, LIMIT, True), b"", list(comes), 0
+    it, accepted, left, sends = Endpoint(1000, LIMIT, True, PROFILES[profile].measures), b"", list(comes), 0
     sends += len(it.flush())
     for count in range(1, turns + 1):
         came = left.pop(0) if left and count != receive else None
@@ -345,10 +346,10 @@ def lived(comes, turns, script, receive=0):
     return 8, accepted, turns, sends
 
 
-def life(comes, turns, status, said, receives, sends, script=b"", more="", **fails):
-    """A client's life, written down by hand. The endpoint of the model plays it too; it knows the plain profile alone."""
-    if set(fails) <= {"receive"} and not more:
-        ended, accepted, *counts = lived(comes, turns, script, **fails)
+def life(comes, turns, status, said, receives, sends, script=b"", fill=0, more="", **fails):
+    """A client's life, written down by hand. The endpoint of the model plays it too."""
+    if set(fails) <= {"receive"}:
+        ended, accepted, *counts = lived(comes, turns, script or bytes(fill), profile=more.split(" ")[-1] or "plain", **fails)
         told = accepted.decode().splitlines() + [text for number, text in ((7, reset), (8, spent)) if number == ended]
         assert (ended, told, counts) == (status, said, [receives, sends]), (comes, ended, told, counts)
     for came in comes:
@@ -357,7 +358,7 @@ def life(comes, turns, status, said, receives, sends, script=b"", more="", **fai
         line("input " + script.hex())
     for call, number in fails.items():
         line(f"fail {call} {number}")
-    words = f"brief client --local 192.0.2.1:40000 --server 192.0.2.100:7 --isn 1000 --turns {turns}{more}"
+    words = f"brief client --local 192.0.2.1:40000 --server 192.0.2.100:7 --isn 1000 --turns {turns}" + (f" --script fill:{fill}" if fill else "") + more
     line(words, f"status {status}", *said, f"receives {receives} sends {sends}")
 
 
@@ -431,6 +432,21 @@ for turns, sends in ((4, 1 + 4 + 2), (9, 1 + 4 + 2), (10, 1 + 4 + 2 + 1)):
 again_and_again = [(ACK, 5001, 1001 + n) for n in (536, 1072, 1608)] + [(FIN | ACK, 5001, 1001 + 2048)]
 life([both, again, again, again, *again_and_again], 20, 0, [], 8, 1 + 5 + 1 + 1, script=long_script[:2047])
 life([both, again, again, again, *again_and_again], 20, 0, [], 8, 1 + 5 + 1 + 3 + 1, script=long_script[:2047], more=WAN)
+line("# drawn lives of a client: silence, and acknowledgements that repeat, that are partial and of too much", "# drawn lives of a client: silence, and acknowledgements that repeat, that are partial and of too much")
+lives = random.Random(75)
+for _ in range(40):
+    size = lives.choice([1, 535, 536, 2047, 5000, 20000])
+    acked, comes = 0, [None] * lives.choice([0, 1, 9, 10, 25]) + [both]
+    while acked < size + 1 and len(comes) < 60:
+        step = lives.choice(["silence"] * lives.choice([1, 3]) + ["again", "part", "part", "unit", "much"])
+        if step in ("part", "unit"):
+            acked = min(size + 1, acked + (536 * lives.choice([1, 1, 2]) if step == "part" else lives.randint(1, 600)))
+        comes += [None] * lives.choice([1, 2, 7]) if step == "silence" else [(ACK, 5001, 1001 + acked + 100000 * (step == "much"))] * lives.choice([1, 1, 3])
+    comes += [None] * lives.choice([0, 70]) + [(FIN | ACK, 5001, 1001 + size + 1)]
+    turns = len(comes) + lives.choice([0, 2])
+    for name in ("plain", "wan"):
+        ended, _, receives, sends = lived(comes, turns, bytes(size), profile=name)
+        life(comes, turns, ended, [spent] if ended == 8 else [], receives, sends, fill=size, more=f" --profile {name}")
 line("# faults of the bind and of the sinks", "# faults of the bind and of the sinks")
 run(LOGGER, [], bind=1)
 run(SERVER, [], bind=1)

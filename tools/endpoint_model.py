@@ -12,7 +12,7 @@ import random
 import sys
 
 from model import LIMIT, WINDOW, Segment, Stream, gap, is_acceptable, is_at_right_edge, is_at_zero_window, length_of, number
-from sender_model import Congestion
+from sender_model import LONGEST, Congestion, Timing
 
 ACTS = ("in", "tick", "flush")
 SHOWN = ("out", "nothing", "segments")
@@ -21,13 +21,14 @@ SHOWN = ("out", "nothing", "segments")
 class Endpoint(Stream):
     """A connection: the peer's stream, the own one, and the state. Offsets count from the first byte of each stream; a FIN has one more."""
 
-    def __init__(self, isn, limit, active):
+    def __init__(self, isn, limit, active, measures=False):
         super().__init__()
-        self.isn, self.limit, self.peer, self.mss, self.congestion = isn, limit, 0, 536, Congestion(536)
+        self.isn, self.limit, self.peer, self.mss = isn, limit, 0, 536
+        self.timing, self.congestion = Timing(measures), Congestion(536, measures)
         self.state, self.reset, self.closed = "SYN-SENT" if active else "LISTEN", False, False
         self.consumed, self.written = 0, bytearray()
         self.una = self.sent = self.edge = self.wl1 = self.wl2 = 0
-        self.opened, self.interval, self.rest, self.wait = False, 1, 0, 0
+        self.opened, self.interval, self.rest, self.wait = False, self.timing.base, 0, 0
         self.owed, self.answer, self.again, self.probe = False, None, active, False
         self.told = None
 
@@ -73,7 +74,7 @@ class Endpoint(Stream):
 
     def size(self, came):
         self.mss = 536 if came.mss is None else min(1460, max(64, came.mss))
-        self.congestion = Congestion(self.mss)
+        self.congestion = Congestion(self.mss, self.timing.measures)
 
     def arrive_listening(self, came):
         if "R" in came.flags:
@@ -96,7 +97,7 @@ class Endpoint(Stream):
             self.state, self.peer, self.owed, self.opened = "ESTABLISHED", came.seq, True, True
             self.size(came)
             self.edge, self.wl1, self.wl2 = came.window, -1, 0
-            self.interval = self.rest = 1
+            self.interval = self.rest = self.timing.base
 
     def arrive_connected(self, came):
         first, length, following, edge = gap(came.seq, self.peer + 1), length_of(came), self.following(), self.end() + self.fin
@@ -127,7 +128,7 @@ class Endpoint(Stream):
                 return
             self.opened, self.state = True, "FIN-WAIT-1" if self.closed else "ESTABLISHED"
             self.edge, self.wl1, self.wl2 = came.window, first, 0
-            self.interval = self.rest = 1
+            self.interval = self.rest = self.timing.base
         elif acked > self.sent:
             self.owed = True
             return
@@ -142,10 +143,13 @@ class Endpoint(Stream):
         if acked >= self.una and (self.wl1 < first or self.wl1 == first and self.wl2 <= acked):
             self.edge, self.wl1, self.wl2 = acked + came.window, first, acked
         if acked > self.una:
-            self.congestion.acknowledge(acked - self.una)
-            self.una, self.interval, self.rest = acked, 1, 1
+            self.timing.acknowledge(acked - self.una)
+            self.again = self.congestion.acknowledge(acked - self.una)
+            self.una, self.interval, self.rest = acked, self.timing.base, self.timing.base
         elif repeats:
             self.again = self.congestion.repeat(self.sent - self.una)
+        if self.again:
+            self.timing.resend()
         if self.closed and self.una == len(self.written) + 1:
             self.enter({"FIN-WAIT-1": "FIN-WAIT-2", "CLOSING": "TIME-WAIT", "LAST-ACK": "CLOSED"}.get(self.state, self.state))
 
@@ -154,12 +158,16 @@ class Endpoint(Stream):
             self.wait -= 1
             if self.wait == 0:
                 self.state = "CLOSED"
+        if self.rest != 1:
+            self.timing.tick()
         if self.rest > 1:
             self.rest -= 1
         elif self.rest == 1 and self.state not in ("CLOSED", "LISTEN"):
             if self.una < min(self.sent, self.edge):
-                self.congestion.lose(self.sent - self.una, self.interval == 1)
-            self.interval = self.rest = min(64, 2 * self.interval)
+                first = not self.timing.backed_off if self.timing.measures else self.interval == 1
+                self.congestion.lose(self.sent - self.una, first)
+            self.interval = self.rest = min(LONGEST, 2 * self.interval)
+            self.timing.expire(self.interval)
             self.again = not self.opened or self.una < self.sent
             self.probe = not self.again
 
@@ -200,7 +208,7 @@ class Endpoint(Stream):
         if not self.again:
             return []
         if not self.opened:
-            self.rest = self.rest or 1
+            self.rest = self.rest or self.timing.base
             return [self.out("S", -1, mss=1460) if self.state == "SYN-SENT" else self.out("AS", -1, mss=1460)]
         if self.una == len(self.written):
             return [self.out("AF", self.una)]
@@ -211,6 +219,8 @@ class Endpoint(Stream):
         """All that the edge and the congestion window allow and wasn't sent, or one unit more as a probe, and the timer as it stands then."""
         start = self.sent
         self.sent = max(start, min(self.ending(), self.edge, self.una + self.congestion.window))
+        if self.sent > start:
+            self.timing.send(start + 1 - self.una)
         if self.probe and self.sent == start < self.ending():
             self.sent += 1
         stop = min(self.sent, len(self.written))
@@ -220,7 +230,7 @@ class Endpoint(Stream):
         if max(self.sent, self.ending()) <= self.una:
             self.rest = 0
         elif self.rest == 0:
-            self.interval = self.rest = 1
+            self.interval = self.rest = self.timing.base
         return sent
 
 
