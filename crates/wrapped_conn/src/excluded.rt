@@ -2,10 +2,11 @@
 //! false. It is proved from the other's contract alone, so it is no longer proved once that contract lets the wrong body pass.
 
 ghost use Rattle.limits.specs.Limits.{largest_segment};
-ghost use Rattle.std.specs.Prelude.{◌≡◌, ◌<◌, ◌≤◌, true, false, length};
+ghost use Rattle.std.specs.Prelude.{◌≡◌, ◌<◌, ◌≤◌, ◌+◌, ◌-◌, ◌==◌, min, true, false, length};
+ghost use Rattle.seq_arith.specs.Offset.{one_if};
 ghost use Rattle.seq_arith.specs.Packet.{has_rst};
 ghost use Rattle.segment_codec.specs.Value.{segment_of};
-ghost use Rattle.wrapped_conn.specs.Numbers.{units_taken, logged_units, una_units, is_unsent_ack};
+ghost use Rattle.wrapped_conn.specs.Numbers.{units_taken, logged_units, una_units, is_unsent_ack, acknowledgeable, advertised};
 ghost use Rattle.wrapped_conn.specs.Sound.{IsSound};
 
 use crate::conn::Conn;
@@ -52,4 +53,49 @@ fn drops_an_unsent_acknowledgement_silently<S: Service>(
     ensures { result ≡ true }
 {
     conn.needs_ack_if_acceptable(segment)
+}
+
+/// The ACK doesn't wait where the window isn't the one that was last sent: the contract of `Conn::is_delayed`.
+fn delays_where_the_window_changes<S: Service>(conn: &Conn<S>, before: Before) -> bool
+    requires sound { IsSound conn.now }
+    requires changed { (min 65535 (before.edge - before.acknowledgeable) == min 65535 (advertised conn.now - acknowledgeable conn.now)) ≡ false }
+    ensures { result ≡ false }
+{
+    conn.is_delayed(before)
+}
+
+/// The ACK doesn't wait where text is held after a gap: the contract of `Conn::is_delayed`.
+fn delays_where_text_is_held<S: Service>(conn: &Conn<S>, before: Before) -> bool
+    requires sound { IsSound conn.now }
+    requires held { (length conn.now.endpoint.receiving.early.text == 0) ≡ false }
+    ensures { result ≡ false }
+{
+    conn.is_delayed(before)
+}
+
+/// The ACK doesn't wait where nothing is taken, as of a segment that is repeated since its Data was lost: the contract of `Conn::is_delayed`.
+fn delays_where_nothing_is_taken<S: Service>(conn: &Conn<S>, before: Before) -> bool
+    requires sound { IsSound conn.now }
+    requires same { before.taken + one_if before.fin ≡ units_taken conn.now }
+    ensures { result ≡ false }
+{
+    conn.is_delayed(before)
+}
+
+/// The ACK doesn't wait at an answer of the log: the contract of `Conn::is_delayed`.
+fn delays_at_an_answer<S: Service>(conn: &Conn<S>, before: Before) -> bool
+    requires sound { IsSound conn.now }
+    requires answer { before.segment ≡ false }
+    ensures { result ≡ false }
+{
+    conn.is_delayed(before)
+}
+
+/// No ACK waits where the profile doesn't say so: the contract of `Conn::is_delayed`.
+fn delays_in_every_profile<S: Service>(conn: &Conn<S>, before: Before) -> bool
+    requires sound { IsSound conn.now }
+    requires plainly { conn.now.delays ≡ false }
+    ensures { result ≡ false }
+{
+    conn.is_delayed(before)
 }

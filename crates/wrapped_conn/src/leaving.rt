@@ -56,7 +56,7 @@ impl<S: Service> Conn<S> {
     }
 
     /// Whether the ACK of what the turn's segment brought waits for the log, whose answer makes it due.
-    fn is_delayed(&self, before: Before) -> bool
+    pub(crate) fn is_delayed(&self, before: Before) -> bool
         requires { IsSound self.now }
         ensures { result ≡ is_delayed before self.now }
     {
