@@ -1,10 +1,13 @@
 #!/usr/bin/env python3
-"""One endpoint of plain TCP in Python, by RFC 9293 and RFC 5681, in stream offsets and independent of the program. It plays scripts for `endpoint_script`.
+"""One endpoint of TCP in Python, by RFC 9293, RFC 5681 and, where it measures, RFC 6298 and RFC 6582, in stream offsets and independent of the program.
+It plays scripts for `endpoint_script`.
 
     tools/endpoint_model.py check < SCRIPT   prints the lines at which it differs from what the script expects
     tools/endpoint_model.py write < SCRIPT   writes the script with its own results as what is expected
     tools/endpoint_model.py draw SEED STEPS  writes a case with out-of-order segments from a seed, with its results
     tools/endpoint_model.py acks SEED STEPS  the same with acknowledgements: new, repeated, partial, too high, with another window
+    tools/endpoint_model.py trips SEED STEPS the same of an endpoint that measures round trips, with more ticks
+    tools/endpoint_model.py measure < SCRIPT writes the script of endpoints that measure, with its own results
 
 It skips the lines that play many packets at once (`join`, `hostile`, `tally`), and the scripts after the first one, which must be refused.
 """
@@ -291,7 +294,7 @@ class Player:
         self.settle()
         active = verb == "connect"
         limit = int(words[words.index("limit") + 1]) if "limit" in words else LIMIT
-        self.it, self.flushed = Endpoint(int(words[1 + active]), limit, active), False
+        self.it, self.flushed = Endpoint(int(words[1 + active]), limit, active, "measuring" in words), False
 
     def play(self, line):
         verb, *words = line.split()
@@ -484,15 +487,51 @@ def drawn_acks(seed, steps):
     return player.lines
 
 
+def drawn_trips(seed, steps):
+    """A case of an endpoint that measures: ticks pass between the acknowledgements, and some of its segments are lost for good, so that its timer expires."""
+    dice, player = random.Random(seed), Player()
+    size = dice.choice((64, 100, 536, 1095, 1096, 1460))
+    player.play("listen 192.0.2.100:7 4294960000 measuring")
+    player.play_turn(f"in S seq 1000 ack 0 win 65535 mss {size}")
+    player.play_turn("in A seq 1001 ack 4294960001 win 65535")
+    while len(player.lines) < 2 * steps:
+        it, kind = player.it, dice.randrange(9)
+        if kind < 2:
+            count = min(dice.randrange(1, 6 * size), it.room())
+            player.play_turn(f"write fill:{count}@{len(it.written) % 251}")
+        elif kind < 5:
+            for _ in range(dice.randrange(1, dice.choice((2, 5, 40)))):
+                player.play_turn("tick")
+        else:
+            acked, window = (it.una, min(WINDOW, it.edge - it.una)) if kind == 5 else drawn_ack(dice, it)
+            for _ in range(dice.randrange(3, 7) if kind == 5 else 1):
+                player.play_turn(f"in A seq 1001 ack {number(4294960001 + acked)} win {max(0, window)}")
+    player.play_turn("close")
+    player.play_turn("tick")
+    player.play(f"sent {number(4294960001 + player.it.sent)}")
+    return player.lines
+
+
+DRAWN = {"draw": ("arrivals", drawn), "acks": ("acknowledgements", drawn_acks), "trips": ("round trips", drawn_trips)}
+
+
+def measuring(line):
+    """The line of a script whose endpoints all measure."""
+    return f"{line} measuring" if line.split()[:1] in (["listen"], ["connect"], ["join"]) else line
+
+
 def main():
-    if sys.argv[1:2] in (["draw"], ["acks"]):
+    if sys.argv[1:2] and sys.argv[1] in DRAWN:
         seed, steps = map(int, sys.argv[2:])
-        what, lines = ("arrivals", drawn(seed, steps)) if sys.argv[1] == "draw" else ("acknowledgements", drawn_acks(seed, steps))
-        written, _ = play_script("\n".join([f"case drawn {what}, seed {seed}", *lines]))
+        what, draws = DRAWN[sys.argv[1]]
+        written, _ = play_script("\n".join([f"case drawn {what}, seed {seed}", *draws(seed, steps)]))
         print("\n".join(written))
         return
     given = sys.stdin.read()
     first, seam, others = given.partition("\nscript\n")
+    if sys.argv[1:] == ["measure"]:
+        print("\n".join(play_script("\n".join(map(measuring, first.split("\n"))))[0]))
+        return
     written, found = play_script(first)
     if sys.argv[1:] == ["write"]:
         sys.stdout.write("\n".join(written) + seam + others)

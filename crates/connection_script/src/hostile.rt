@@ -13,6 +13,7 @@ use segment_codec::{Head, read_packet, write_packet};
 use seq_arith::{ACK, FIN, RST, Seq, has};
 use std::alloc::Global;
 use tcp_endpoint::StateName;
+use tcp_rules::Profile;
 use test_data::Draws;
 use wrapped_conn::{Conn, ConnStage, Inside, TurnOut};
 
@@ -139,18 +140,20 @@ fn meet(
 /// One connection is brought into the situation and meets its datagrams.
 fn attack_one(
     alloc: Global,
+    profile: Profile,
     situation: Situation,
     draws: &mut Draws,
     out: &mut TurnOut,
     tally: &mut Tally,
 ) -> Result<(), NoMemory> {
-    let mut conn = connection(alloc, situation.kind())?;
+    let mut conn = connection(alloc, profile, situation.kind())?;
     meet(alloc, &mut conn, situation, draws, out, tally)
 }
 
-/// Hands all datagrams to connections in this situation, one after another.
+/// Hands all datagrams to connections of a server with this profile in this situation, one after another.
 pub(crate) fn attack(
     alloc: Global,
+    profile: Profile,
     situation: Situation,
     out: &mut TurnOut,
 ) -> Result<Tally, NoMemory> {
@@ -163,7 +166,7 @@ pub(crate) fn attack(
         broken: None,
     };
     for _ in 0..CONNECTIONS {
-        attack_one(alloc, situation, &mut draws, out, &mut tally)?;
+        attack_one(alloc, profile, situation, &mut draws, out, &mut tally)?;
     }
     Ok(tally)
 }

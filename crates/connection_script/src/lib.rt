@@ -1,5 +1,5 @@
-//! Connections that are brought into each of their situations and get hostile datagrams there, one whose stream is filled, two whose output comes to its limits,
-//! and others that are restarted from a log. The cases are in the code: it is said what was found.
+//! Connections that are brought into each of their situations, in both profiles, and get hostile datagrams there, one whose stream is filled, two whose output
+//! comes to its limits, and others that are restarted from a log. The cases are in the code: it is said what was found.
 #![tactic(auto)]
 
 use ft_io::NoMemory;
@@ -10,6 +10,7 @@ use restarts::play_all;
 use segment_codec::Head;
 use situations::{SITUATIONS, Situation};
 use std::alloc::Global;
+use tcp_rules::Profile;
 use test_data::Said;
 use wrapped_conn::TurnOut;
 
@@ -21,7 +22,11 @@ mod restarts;
 mod rules;
 mod situations;
 
-fn tell_attack(situation: Situation, tally: Tally, said: &mut Said) {
+fn tell_attack(profile: Profile, situation: Situation, tally: Tally, said: &mut Said) {
+    let of = match profile {
+        Profile::Plain => "",
+        Profile::Wan => "wan, ",
+    };
     let Tally {
         begun,
         datagrams,
@@ -30,17 +35,23 @@ fn tell_attack(situation: Situation, tally: Tally, said: &mut Said) {
         broken,
     } = tally;
     match begun {
-        Some((name, stage)) => write!(said, "{situation:?}: {name:?}, {stage:?}\n"),
-        None => write!(said, "{situation:?}: no connection\n"),
+        Some((name, stage)) => write!(said, "{of}{situation:?}: {name:?}, {stage:?}\n"),
+        None => write!(said, "{of}{situation:?}: no connection\n"),
     }
     write!(
         said,
-        "{situation:?}: {datagrams} datagrams, {packets} of them packets\n"
+        "{of}{situation:?}: {datagrams} datagrams, {packets} of them packets\n"
     );
     let answered = if answers { "segments" } else { "no segment" };
     match broken {
-        Some(rule) => write!(said, "{situation:?}: {answered} left, {rule:?} is broken\n"),
-        None => write!(said, "{situation:?}: {answered} left, no rule is broken\n"),
+        Some(rule) => write!(
+            said,
+            "{of}{situation:?}: {answered} left, {rule:?} is broken\n"
+        ),
+        None => write!(
+            said,
+            "{of}{situation:?}: {answered} left, no rule is broken\n"
+        ),
     }
 }
 
@@ -64,14 +75,26 @@ fn tell_segment(what: &str, head: Option<Head>, said: &mut Said) {
     }
 }
 
-/// The attack in each situation, the stream that is filled, and the limits of output. Whether all rules are kept.
-fn play_turns(alloc: Global, out: &mut TurnOut, said: &mut Said) -> Result<bool, NoMemory> {
+/// The attack in each situation, in this profile. Whether all rules are kept.
+fn attack_all(
+    alloc: Global,
+    profile: Profile,
+    out: &mut TurnOut,
+    said: &mut Said,
+) -> Result<bool, NoMemory> {
     let mut whole = true;
     for situation in SITUATIONS {
-        let tally = attack(alloc, situation, out)?;
-        tell_attack(situation, tally, said);
+        let tally = attack(alloc, profile, situation, out)?;
+        tell_attack(profile, situation, tally, said);
         whole = whole && tally.broken.is_none();
     }
+    Ok(whole)
+}
+
+/// The attacks in both profiles, the stream that is filled, and the limits of output. Whether all rules are kept.
+fn play_turns(alloc: Global, out: &mut TurnOut, said: &mut Said) -> Result<bool, NoMemory> {
+    let plain = attack_all(alloc, Profile::Plain, out, said)?;
+    let wan = attack_all(alloc, Profile::Wan, out, said)?;
     let filled = fill_all(alloc, out)?;
     let inside = filled.inside;
     let (taken, answered) = (inside.taken, inside.answered);
@@ -92,7 +115,7 @@ fn play_turns(alloc: Global, out: &mut TurnOut, said: &mut Said) -> Result<bool,
         said,
         "15728640 bytes made: {a} reads, {b} with one request more, {c} with two\n"
     );
-    Ok(whole)
+    Ok(plain && wan)
 }
 
 /// Plays all cases, and says what was found. The status, which is 1 where a rule is broken.

@@ -9,6 +9,7 @@ use sample_servers::AnyService;
 use segment_codec::{Head, read_packet};
 use seq_arith::ACK;
 use std::alloc::Global;
+use tcp_rules::Profile;
 use wrapped_conn::{Conn, Inside, TurnOut};
 
 /// How many full segments there are, and how many bytes the last one has.
@@ -86,6 +87,6 @@ fn fill_stream(
 
 /// A connection whose client fills its stream.
 pub(crate) fn fill_all(alloc: Global, out: &mut TurnOut) -> Result<Filled, NoMemory> {
-    let mut conn = connection(alloc, 4)?;
+    let mut conn = connection(alloc, Profile::Plain, 4)?;
     fill_stream(alloc, &mut conn, out)
 }

@@ -9,6 +9,7 @@ use ft_io::NoMemory;
 use sample_servers::AnyService;
 use seq_arith::ACK;
 use std::alloc::Global;
+use tcp_rules::Profile;
 use wrapped_conn::{Conn, TurnOut};
 
 /// The number of Transfer.
@@ -126,7 +127,7 @@ fn turns_unacknowledged(
 /// The client acknowledges nothing: how many reads there are when 65,504 bytes are made, 65,535, 65,536, and a request more has come; and when it has
 /// acknowledged one byte.
 pub(crate) fn make_unacknowledged(alloc: Global, out: &mut TurnOut) -> Result<[u32; 5], NoMemory> {
-    let mut conn = connection(alloc, TRANSFER)?;
+    let mut conn = connection(alloc, Profile::Plain, TRANSFER)?;
     unacknowledged(alloc, &mut conn, out)
 }
 
@@ -149,7 +150,7 @@ fn unacknowledged(
 
 /// The client acknowledges everything: how many reads there are when 15,728,640 bytes are made, one more, and a request more has come.
 pub(crate) fn make_all(alloc: Global, out: &mut TurnOut) -> Result<[u32; 3], NoMemory> {
-    let mut conn = connection(alloc, TRANSFER)?;
+    let mut conn = connection(alloc, Profile::Plain, TRANSFER)?;
     acknowledged(alloc, &mut conn, out)
 }
 

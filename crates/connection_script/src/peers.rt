@@ -10,8 +10,9 @@ use segment_codec::{Head, read_packet, write_packet};
 use seq_arith::Seq;
 use std::alloc::Global;
 use tcp_endpoint::StateName;
+use tcp_rules::Profile;
 use test_data::seal;
-use wrapped_conn::{Conn, TurnOut};
+use wrapped_conn::{Conn, Opened, TurnOut};
 
 pub(crate) const SERVER: Addr = Addr {
     ip: 0xC000_0264,
@@ -43,11 +44,21 @@ pub(crate) enum Answer {
     Reads,
 }
 
-/// A connection with a service of this kind, whose client has sent its SYN.
-pub(crate) fn connection(alloc: Global, kind: u8) -> Result<Conn<AnyService>, NoMemory>
+/// A connection with a service of this kind, whose client has sent its SYN, of a server with this profile.
+pub(crate) fn connection(
+    alloc: Global,
+    profile: Profile,
+    kind: u8,
+) -> Result<Conn<AnyService>, NoMemory>
     ensures { IfOk result (λ c. IsSound c) }
 {
-    Conn::first(alloc, 1, CLIENT, SERVER, CISN, SISN, 536, kind)
+    let opened = Opened {
+        key: CLIENT,
+        cisn: CISN,
+        sisn: SISN,
+        mss: 536,
+    };
+    Conn::open_in(profile, alloc, 1, SERVER, opened, kind)
 }
 
 /// The first turn of a connection, which sends its SYN-ACK.

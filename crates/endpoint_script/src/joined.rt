@@ -148,6 +148,7 @@ fn join_server(alloc: Global, join: Join, client: &mut Side) -> Met {
         remote: None,
         isn: join.server.isn,
         limit: STREAM,
+        measures: join.measures,
     };
     let mut server = Side::new(alloc, opening, join.server.bytes, SERVER_PLACE)?;
     play(alloc, join, client, &mut server)
@@ -160,6 +161,7 @@ pub(crate) fn join(alloc: Global, join: Join) -> Met {
         remote: Some(SERVER),
         isn: join.client.isn,
         limit: STREAM,
+        measures: join.measures,
     };
     let mut client = Side::new(alloc, opening, join.client.bytes, 0)?;
     join_server(alloc, join, &mut client)

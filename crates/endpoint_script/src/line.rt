@@ -9,12 +9,13 @@ pub(crate) fn action<'a>(keyword: &str, words: &mut Words<'a>, ways: usize) -> A
     match keyword {
         "listen" => Action::Open(opening(words, false)),
         "connect" => Action::Open(opening(words, true)),
-        // `client isn N bytes N server isn N bytes N seed N turns N`.
+        // `client isn N bytes N server isn N bytes N seed N turns N`, and `measuring`.
         "join" => Action::Join(Join {
             client: joiner(words, "client"),
             server: joiner(words, "server"),
             seed: u64::from(words.number_after("seed")),
             turns: words.number_after("turns"),
+            measures: words.has("measuring"),
         }),
         // `COUNT seed N`.
         "hostile" => {
@@ -34,7 +35,7 @@ pub(crate) fn action<'a>(keyword: &str, words: &mut Words<'a>, ways: usize) -> A
     }
 }
 
-/// `LOCAL ISN`, or `LOCAL REMOTE ISN` for an active open, and `limit N`.
+/// `LOCAL ISN`, or `LOCAL REMOTE ISN` for an active open, `limit N`, and `measuring`.
 fn opening(words: &mut Words<'_>, is_active: bool) -> Opening {
     Opening {
         local: words.address(),
@@ -49,6 +50,7 @@ fn opening(words: &mut Words<'_>, is_active: bool) -> Opening {
         } else {
             STREAM
         },
+        measures: words.has("measuring"),
     }
 }
 

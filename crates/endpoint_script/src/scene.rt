@@ -99,16 +99,25 @@ impl Segment<'_> {
 
 impl Scene {
     pub(crate) fn new(alloc: Global, opening: Opening) -> Result<Scene, NoMemory> {
-        let (local, isn, limit) = (opening.local, Seq(opening.isn), opening.limit);
-        let endpoint = match opening.remote {
-            Some(remote) => Endpoint::connect(alloc, local, remote, isn, limit)?,
-            None => Endpoint::listen(alloc, local, isn, limit)?,
+        let Opening {
+            local,
+            remote,
+            isn,
+            limit,
+            measures,
+        } = opening;
+        let isn = Seq(isn);
+        let endpoint = match remote {
+            Some(remote) => {
+                Endpoint::connect_measuring(alloc, local, remote, isn, limit, measures)?
+            }
+            None => Endpoint::listen_measuring(alloc, local, isn, limit, measures)?,
         };
         Ok(Scene {
             endpoint,
             out: Outbox::new(alloc)?,
             local,
-            peer: opening.remote.unwrap_or(PEER),
+            peer: remote.unwrap_or(PEER),
             isn,
             peer_isn: PEER_ISN,
             told: 0,

@@ -34,6 +34,8 @@ pub(crate) struct Opening {
     pub(crate) isn: u32,
     /// The right edge of the receive window never passes this many bytes.
     pub(crate) limit: u32,
+    /// Whether it measures round trips, and recovers the losses of one flight one after another.
+    pub(crate) measures: bool,
 }
 
 /// A number that an endpoint shows.
@@ -84,6 +86,8 @@ pub(crate) struct Join {
     pub(crate) server: Joiner,
     pub(crate) seed: u64,
     pub(crate) turns: u32,
+    /// Whether both measure round trips.
+    pub(crate) measures: bool,
 }
 
 /// Hostile datagrams to endpoints that begin as the ways among the first parts of the script leave them, one way after the other.
