@@ -135,7 +135,7 @@ class Spelling(unittest.TestCase):
 class Examples(unittest.TestCase):
     def test_all(self):
         """The captures of all stored reports have exactly their segments, in order, with their times."""
-        self.assertEqual(len(EXAMPLES), 10)
+        self.assertEqual(len(EXAMPLES), 12)
         for path in EXAMPLES:
             text = path.read_text()
             found = [(time, segment_of(data)) for time, data in records(report_pcap.capture(read_report(text)))]
