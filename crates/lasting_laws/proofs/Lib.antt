@@ -1,1 +1,4 @@
 pub mod Watches
+pub mod ByKey
+pub mod Moments
+pub mod Ticks

@@ -10,9 +10,25 @@ ghost use Rattle.ft_model.specs.Node.Input.{Packet_comes, Message_comes, Tick_co
 ghost use Rattle.ft_model.specs.Point.{Point};
 ghost use Rattle.ft_model.specs.ServingTurn.{concerns};
 ghost use Rattle.seq_arith.specs.Message.{Message};
+ghost use Rattle.std.specs.Prelude.{List, map};
+ghost use Rattle.server_trait.specs.Service.{machine};
+ghost use Rattle.ft_model.specs.Keys.{AreDistinct};
+ghost use Rattle.ft_model.specs.Network.{Packet};
+ghost use Rattle.ft_model.specs.Node.{Place, Stage, Input, key_of, place_at};
+ghost use Rattle.ft_model.specs.ServingTurn.{PlaceTurn, AllGo};
+ghost use Rattle.long_laws.specs.LongTrace.{places_at};
+ghost use Rattle.long_laws.specs.Quarantine.{Quarantined, quarantined_at, quarantine_after};
+ghost use Rattle.ft_model.specs.declared.event.Event.TheVariants.{Deliver};
+ghost use Rattle.long_laws.specs.QuarantineWorld.{QuarantineWorld, event_input};
+ghost use Rattle.lasting_laws.specs.AsMoments.{IsServerOf, world_then, OpensFresh, IsOneMoment, AreMoments};
+ghost use Rattle.lasting_laws.specs.LastingTurn.{LastingNode, LastingSent, LastingTurn, Patience};
+ghost use Rattle.lasting_laws.specs.LastingTurn.LastingInput.{Usual_comes};
+ghost use Rattle.lasting_laws.specs.ByKey.{quarantine_at, KeyWent};
 ghost use Rattle.lasting_laws.specs.Watching.Origin.{Opened_here, Restored_empty, Restored};
 ghost use Rattle.lasting_laws.specs.WorkedSilence.{open_point, half_open_point, asked_at, let_go_at};
 ghost use Rattle.lasting_laws.specs.Watching.{Watch, watched, is_half_open, is_unheard, is_let_go, is_asked};
+
+use server_trait::Service;
 
 /// A connection that is neither half-open nor restored empty and unheard is let go of only after its client was silent for twice the threshold; never without a
 /// threshold, and never once it is reset.
@@ -54,4 +70,29 @@ pub fn worked_silences()
 pub fn worked_half_open_connections()
     ensures half_open { (asked_at 5 Opened_here half_open_point 250 ≡ []) × (let_go_at 5 Opened_here half_open_point 260 ≡ Some 250) }
     ensures empty { (asked_at 5 Restored_empty open_point 260 ≡ 50 ∷ 100 ∷ 150 ∷ 200 ∷ []) × (let_go_at 5 Restored_empty open_point 260 ≡ Some 250) }
+{}
+
+/// A turn does at a key what it does at the key's own place: the quarantine that the key then has depends on that place and on the key's earlier quarantine alone,
+/// and no other key's place becomes the key's.
+pub fn each_key_has_its_own_turn<S: Service>()
+    ensures quarantine { (node : Node) (input : Input) (later : Stage) (qs : List Quarantined) (key : Key) → AreDistinct (map key_of (places_at later))
+        → quarantined_at key (quarantine_after node input later qs) ≡ quarantine_at node input key (quarantined_at key qs) (place_at key (places_at later)) }
+    ensures one_each { (node : Node) (input : Input) (later : Stage) (qs : List Quarantined) → AreDistinct (map key_of (places_at later))
+        → AreDistinct (map (λ q. q.named.key) (quarantine_after node input later qs)) }
+    ensures place { (kind : ℕ) (node : Node) (input : Input) (key : Key) (before after : List Place) (sent : List Packet)
+        → AreDistinct (map key_of before) → AllGo (PlaceTurn (machine (S.started kind) S.after) node input) before after sent
+        → KeyWent (machine (S.started kind) S.after) node input key (place_at key before) after }
+{}
+
+/// The turn of a server that lasts on what comes by a delivery is one moment of a world with a quarantine: it drops what is for a connection that is leaving, or
+/// ends a quarantine early, or drops an opening silently, or takes the turn of a server without quarantine. A tick is several moments: the tick of such a server,
+/// and then one for each client that is asked or let go of. So what is proved of the traces of such worlds holds of it.
+pub fn lasting_turns_are_quarantine_steps<S: Service>()
+    ensures delivery { (kind : ℕ) (patience : Patience) (n after : LastingNode) (w : QuarantineWorld) (number : ℕ) (input : Input) (sent : LastingSent)
+        → IsServerOf n w → event_input w.now.packets (Deliver number) ≡ Some input → OpensFresh n input w
+        → LastingTurn (machine (S.started kind) S.after) patience n (Usual_comes input) sent after
+        → IsOneMoment (machine (S.started kind) S.after) patience.wait w sent.packets (world_then after sent w) }
+    ensures tick { (kind : ℕ) (patience : Patience) (n after : LastingNode) (w : QuarantineWorld) (sent : LastingSent) → IsServerOf n w
+        → AreDistinct (map key_of (places_at n.node.stage)) → LastingTurn (machine (S.started kind) S.after) patience n (Usual_comes Tick_comes) sent after
+        → AreMoments (machine (S.started kind) S.after) patience.wait w sent.packets (world_then after sent w) }
 {}
