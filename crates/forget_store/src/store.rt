@@ -1,0 +1,134 @@
+//! The log over bytes, with room for one answer.
+
+ghost use Rattle.std.specs.Prelude.{[], ◌≡◌, ◌≤◌, ◌<◌, Some, OnOk, OnErr};
+ghost use Rattle.seq_arith.specs.Message.Body.{StaleMsg};
+ghost use Rattle.long_laws.specs.ForgetGrammar.{IsSpellable, spelling};
+ghost use Rattle.long_laws.specs.Forgetting.{forgotten_message, after_forget, answer_to_forget};
+ghost use Rattle.logger_store.specs.StoreState.{answer_bytes};
+ghost use Rattle.forget_wire.specs.Value.{named_said, message_of};
+ghost use Rattle.forget_store.specs.Replies.{reply_said, reply_bytes, after_bytes, answer_to_bytes, IsSendable};
+
+use crate::forgetting::take_forget;
+use crate::reply::Reply;
+use forget_wire::{ForgetBody, ForgetMsg, LENGTH, Named, read_forget, write_forget};
+use ft_io::NoMemory;
+use logger_store::{LogStore, MsgOut};
+use logger_wire::{Body, Msg, read_msg};
+use std::alloc::Global;
+use std::marker::Model;
+
+/// Room for one answer: a message of the log, or one about forgetting. In contracts it is the answer's bytes, or none.
+#[derive(Drop)]
+pub struct AnswerOut {
+    /// A message of the log, or none.
+    of_log: MsgOut,
+    /// A message about forgetting, in place of that.
+    forgotten: Option<[u8; LENGTH]>,
+}
+
+impl Model for AnswerOut {
+    ghost use Rattle.std.specs.Prelude.{ℕ, List};
+    ghost use Rattle.forget_store.specs.Replies.{bytes_out};
+
+    ghost Value = { List ℕ };
+
+    ghost view = { λ out. bytes_out out.forgotten out.of_log };
+}
+
+impl AnswerOut {
+    /// No bytes.
+    pub fn new() -> AnswerOut
+        ensures { result ≡ [] }
+    {
+        AnswerOut {
+            of_log: MsgOut::new(),
+            forgotten: None,
+        }
+    }
+
+    /// The answer's bytes, or none.
+    pub fn bytes(&self) -> &[u8]
+        ensures { result.now ≡ self.now }
+    {
+        match &self.forgotten {
+            Some(bytes) => &bytes[..],
+            None => self.of_log.bytes(),
+        }
+    }
+
+    /// Removes the answer.
+    pub fn clear(&mut self)
+        ensures { self.new ≡ [] }
+    {
+        self.of_log.clear();
+        self.forgotten = None;
+    }
+
+    /// Replaces the content by Forgotten.
+    fn put_forgotten(&mut self, boot: u64, named: Named)
+        requires { IsSpellable (forgotten_message boot (named_said named)) }
+        ensures { self.new ≡ spelling (forgotten_message boot (named_said named)) }
+    {
+        let body = ForgetBody::Forgotten(named);
+        self.forgotten = Some(write_forget(&ForgetMsg { boot, body }));
+    }
+
+    /// Replaces the content by Stale, the answer to a message of boot `boot`.
+    #[tactic(auto, unfolding(seq_arith::specs::MessageGrammar::has_length, seq_arith::specs::MessageGrammar::is_sound))]
+    fn put_stale(&mut self, boot: u64, newer: u64)
+        requires boot { 1 ≤ boot }
+        requires newer { boot < newer }
+        ensures { self.new ≡ answer_bytes (Some (record { boot = boot; body = StaleMsg newer })) }
+    {
+        self.forgotten = None;
+        let body = Body::Stale { newer };
+        self.of_log.put(&Msg { boot, body });
+    }
+
+    /// Replaces the content by an answer to a message about forgetting.
+    fn put(&mut self, reply: Reply)
+        requires { IsSendable reply }
+        ensures { self.new ≡ reply_bytes (Some (reply_said reply)) }
+    {
+        match reply {
+            Reply::Forgotten { boot, named } => self.put_forgotten(boot, named),
+            Reply::Stale { boot, newer } => self.put_stale(boot, newer),
+        }
+    }
+}
+
+/// Takes a message about forgetting, and writes the answer to it, or nothing, into the empty `out`.
+fn hear_forget(log: &mut LogStore, m: &ForgetMsg, out: &mut AnswerOut)
+    requires spellable { IsSpellable (message_of m.now) }
+    requires empty { out.old ≡ [] }
+    ensures next { log.new ≡ after_forget log.old (message_of m.now) }
+    ensures answer { out.new ≡ reply_bytes (answer_to_forget log.old (message_of m.now)) }
+{
+    if let Some(reply) = take_forget(log, m) {
+        out.put(reply);
+    }
+}
+
+/// Takes bytes, which may be a message of the log, one about forgetting, or neither, and replaces the content of `out` by the answer, or by nothing. After
+/// `NoMemory` the log is unchanged, `out` empty.
+pub fn answer(
+    log: &mut LogStore,
+    alloc: Global,
+    bytes: &[u8],
+    out: &mut AnswerOut,
+) -> Result<(), NoMemory>
+    ensures next { OnOk result (log.new ≡ after_bytes bytes.now log.old) }
+    ensures answer { OnOk result (out.new ≡ answer_to_bytes bytes.now log.old) }
+    ensures refused { OnErr result (log.new ≡ log.old) }
+    ensures empty { OnErr result (out.new ≡ []) }
+{
+    out.forgotten = None;
+    if let Ok(m) = read_msg(bytes) {
+        return log.answer(alloc, &m, &mut out.of_log);
+    }
+    out.of_log.clear();
+    if let Ok(m) = read_forget(bytes) {
+        hear_forget(log, &m, out);
+    }
+    Ok(())
+}
