@@ -1,0 +1,7 @@
+use Rattle.std.proofs.Common.{◌∙◌, ap, None, if◌then◌else◌}
+use Rattle.std.specs.Map.{lookup}
+use Rattle.ft_io.specs.Key.{key_eq}
+use Rattle.lasting_lives.proofs.lives.Lives.forget.Goals as goal
+
+pub returns : goal.returns
+returns c = λ k. c.shift_remove.ensures.updates.0 k ∙ ap (λ es. if key_eq c.args.key k then None else lookup (key_eq k) es) c.self.view_is

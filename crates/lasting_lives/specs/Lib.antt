@@ -1,0 +1,3 @@
+pub mod Watches
+pub mod Lives
+pub mod Known
