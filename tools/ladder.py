@@ -58,6 +58,26 @@ text { font: 11px 'DejaVu Sans Mono', Menlo, Consolas, monospace; fill: #222 }
 """
 
 
+def box(x, words, anchor):
+    """Where a label begins, and how wide it is."""
+    width = len(words) * LETTER + 6
+    return {"start": x - 3, "end": x - width + 3, "middle": x - width / 2}[anchor], width
+
+
+def crosses(arrow, left, top, width, height):
+    """Whether an arrow's line runs through a box: whether its parts within the box's columns and rows have one in common."""
+    x1, y1, x2, y2 = arrow
+    first, last = 0.0, 1.0
+    for begin, end, low, high in ((x1, x2, left, left + width), (y1, y2, top, top + height)):
+        if begin == end:
+            if not low < begin < high:
+                return False
+            continue
+        ways = sorted(((low - begin) / (end - begin), (high - begin) / (end - begin)))
+        first, last = max(first, ways[0]), min(last, ways[1])
+    return first < last
+
+
 @dataclass
 class Drawing:
     """The parts of the picture, in the layers in which they lie over one another."""
@@ -65,19 +85,21 @@ class Drawing:
     under: list = field(default_factory=list)
     lines: list = field(default_factory=list)
     over: list = field(default_factory=list)
+    arrows: list = field(default_factory=list)  # the ends of each arrow's line
 
     def text(self, x, y, words, kind, anchor="start"):
         self.over.append(f'<text class="{kind}" x="{x:.1f}" y="{y:.1f}" text-anchor="{anchor}">{escape(words)}</text>')
 
     def label(self, x, y, number, words, kind, anchor, ground):
         """What is written at an arrow, with the packet's number in front, on its row's ground so that no line runs through it."""
-        width = (len(f"{number} {words}" if number else words)) * LETTER + 6
-        left = {"start": x - 3, "end": x - width + 3, "middle": x - width / 2}[anchor]
+        left, width = box(x, f"{number} {words}" if number else words, anchor)
         bold = f'<tspan class="bold">{number}</tspan> ' if number else ""
         self.over.append(f'<rect class="ground {ground}" x="{left:.1f}" y="{y - 9.5:.1f}" width="{width:.1f}" height="12.5"/>')
         self.over.append(f'<text class="{kind}" x="{x:.1f}" y="{y:.1f}" text-anchor="{anchor}">{bold}{escape(words)}</text>')
 
     def line(self, x1, y1, x2, y2, kind):
+        if kind.startswith("arrow"):
+            self.arrows.append((x1, y1, x2, y2))
         self.lines.append(f'<line class="{kind}" x1="{x1:.1f}" y1="{y1:.1f}" x2="{x2:.1f}" y2="{y2:.1f}"/>')
 
     def head(self, x, y, from_x, from_y, kind):
@@ -214,6 +236,7 @@ class Ladder:
         self.boot = boots_of(report.events)
         self.deliveries = deliveries_of(report)
         self.drawing = Drawing()
+        self.labels, self.kinds = [], set()
         self.place_actors()
         self.place_rows()
 
@@ -253,6 +276,7 @@ class Ladder:
         for delivery in self.deliveries:
             if delivery.event.number in self.numbers:
                 self.draw_delivery(delivery)
+        self.draw_labels()
         self.draw_ends()
         self.draw_legend()
         return self.svg()
@@ -269,6 +293,9 @@ class Ladder:
         report, drawing = self.report, self.drawing
         names = [f"{len(report.clients)} client{'s' if len(report.clients) != 1 else ''}", f"{report.service} at {report.server}"]
         names += [f"marks {report.marks}"] * (report.marks > 0)
+        for word, said in (("crash", "crashes"), ("stop", "stops")):
+            count = sum(event.words[0] == word for event in self.events)
+            names += [f"{count} {said if count > 1 else word}"] * (count > 0)
         shown = "" if self.is_front and self.is_end else f", events {self.events[0].number} to {self.events[-1].number}" if self.events else ""
         drawing.text(20, 28, f"ftreplay: {', '.join(names)}{shown}", "title")
         for name, x in self.x.items():
@@ -350,8 +377,30 @@ class Ladder:
                 self.drawing.ring(stop, y + 5, kind)
             else:
                 self.drawing.cross(stop, y + 5)
-        ink, anchor = f"label-{kind if delivery else 'lost'}", "start" if to_right else "end"
-        self.drawing.label(near, y - 4, packet.number, words, ink, anchor, self.ground(packet.event))
+        self.kinds.add(kind if delivery else "lost")
+        ink = f"label-{kind if delivery else 'lost'}"
+        other = self.x[sender] - 14 if to_right else self.x[sender] + 14
+        self.labels.append(((start, y), near, other, packet, words, ink, to_right))
+
+    def draw_labels(self):
+        """The labels of what is sent: at the beginning of the arrow, or on the other side of the sender's line if another arrow runs there and none here."""
+        for start, near, other, packet, words, ink, to_right in self.labels:
+            y = start[1] - 4
+            place = near, "start" if to_right else "end"
+            if self.is_crossed(*place, y, packet, words, start) and self.has_room(other, packet):
+                beside = other, "end" if to_right else "start"
+                place = place if self.is_crossed(*beside, y, packet, words, start) else beside
+            self.drawing.label(place[0], y, packet.number, words, ink, place[1], self.ground(packet.event))
+
+    def is_crossed(self, x, anchor, y, packet, words, start):
+        """Whether the line of another packet runs through a label."""
+        left, width = box(x, f"{packet.number} {words}", anchor)
+        return any(crosses(arrow, left, y - 9.5, width, 12.5) for arrow in self.drawing.arrows if arrow[:2] != start)
+
+    def has_room(self, x, packet):
+        """Whether a lifeline is further on, on this side of the sender's, and nothing is written in the row."""
+        among = sorted(self.x.values())
+        return among[0] < x < among[-1] and self.sent_y[packet.number] != self.event_y[packet.event]
 
     def draw_delivery(self, delivery):
         """The arrow that ends in a delivery: from the packet's sending, or out of a ring."""
@@ -370,6 +419,9 @@ class Ladder:
             words, anchor = f"sent at event {packet.event}" if delivery.is_first else "again", "end" if to_right else "start"
             self.drawing.label(from_x + (-9 if to_right else 9), y - 3, packet.number, words, f"label-{kind}", anchor, ground)
             self.drawing.ring(from_x, from_y, kind)
+        self.kinds.add(kind if delivery.is_taken else "lost")
+        if not self.is_one_line(delivery) and delivery.is_first:
+            self.kinds.add("late")
         self.drawing.line(from_x, from_y, end, y, f"arrow {kind if delivery.is_taken else 'lost'}")
         if flipped:
             self.drawing.label((from_x + end) / 2, y - 3, "", f"bit {flipped[0]} changed", "label-lost", "middle", ground)
@@ -395,33 +447,40 @@ class Ladder:
         self.bottom += 14 * max(1, len(entries))
 
     def draw_legend(self):
+        """What the signs mean that are in the picture."""
         y, x, drawing = self.bottom + 52, 30, self.drawing
+        words = {event.words[0] for event in self.events}
         for kind, said in LEGEND:
-            drawing.line(x, y, x + 34, y, f"arrow {kind}")
-            if kind == "lost":
-                drawing.cross(x + 34, y)
-            else:
-                drawing.head(x + 40, y, x, y, kind)
-            if kind == "again":
-                drawing.ring(x, y, kind)
-            drawing.text(x + 48, y + 4, said, "legend")
-            x += 74 + len(said) * 5.9
+            if kind in self.kinds:
+                drawing.line(x, y, x + 34, y, f"arrow {kind}")
+                if kind == "lost":
+                    drawing.cross(x + 34, y)
+                else:
+                    drawing.head(x + 40, y, x, y, kind)
+                if kind == "again":
+                    drawing.ring(x, y, kind)
+                drawing.text(x + 48, y + 4, said, "legend")
+                x += 74 + len(said) * 5.9
         y, x = y + 22, 30
-        drawing.line(x, y, x + 14, y, "arrow segment")
-        drawing.ring(x + 14, y, "segment")
-        drawing.ring(x + 22, y, "segment")
-        drawing.line(x + 26, y, x + 34, y, "arrow segment")
-        drawing.head(x + 40, y, x, y, "segment")
-        drawing.text(x + 48, y + 4, "under way for long", "legend")
-        x += 200
-        drawing.lines.append(f'<rect class="up" x="{x}" y="{y - 8}" width="10" height="16" rx="2"/>')
-        drawing.text(x + 18, y + 4, "the server is up", "legend")
-        x += 140
-        drawing.over.append(f'<circle class="tick" cx="{x}" cy="{y}" r="4.5"/>')
-        drawing.text(x + 12, y + 4, "tick", "legend")
-        x += 60
-        drawing.over.append(f'<path class="crash" d="M{x} {y + 3}l7 -6l7 6l7 -6l7 6"/>')
-        drawing.text(x + 36, y + 4, "crash", "legend")
+        if "late" in self.kinds:
+            drawing.line(x, y, x + 14, y, "arrow segment")
+            drawing.ring(x + 14, y, "segment")
+            drawing.ring(x + 22, y, "segment")
+            drawing.line(x + 26, y, x + 34, y, "arrow segment")
+            drawing.head(x + 40, y, x, y, "segment")
+            drawing.text(x + 48, y + 4, "under way for long", "legend")
+            x += 200
+        if any(self.up[number] for number in self.numbers):
+            drawing.lines.append(f'<rect class="up" x="{x}" y="{y - 8}" width="10" height="16" rx="2"/>')
+            drawing.text(x + 18, y + 4, "the server is up", "legend")
+            x += 140
+        if "tick" in words:
+            drawing.over.append(f'<circle class="tick" cx="{x}" cy="{y}" r="4.5"/>')
+            drawing.text(x + 12, y + 4, "tick", "legend")
+            x += 60
+        if "crash" in words:
+            drawing.over.append(f'<path class="crash" d="M{x} {y + 3}l7 -6l7 6l7 -6l7 6"/>')
+            drawing.text(x + 36, y + 4, "crash", "legend")
 
     def svg(self):
         height = self.bottom + 96

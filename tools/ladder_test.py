@@ -89,7 +89,7 @@ class Picture:
         rows = {int(said(it)): float(it.get("y")) - 4 for it in self.of("text", "number")}
         self.rows, self.words = rows, {row: said(it) for row, it in zip(rows, self.of("text", "words"))}
         self.bottom = max(float(line.get("y2")) for kind in ("life", "down") for line in self.of("line", kind))
-        self.legend = min(float(it.get("y")) for it in self.of("text", "legend")) - 10
+        self.legend = min((float(it.get("y")) for it in self.of("text", "legend")), default=float("inf")) - 10
 
     def of(self, tag, kind):
         return [it for it in self.root.iter(SVG + tag) if it.get("class", "").split()[:1] == [kind]]
@@ -211,7 +211,7 @@ class Examples(unittest.TestCase):
         seen = picture(example("crash"))
         shown = [f"{label.split()[0]} {kind} {label.split(' ', 1)[1]}" for label, kind in seen.labels()]
         self.assertEqual(shown, CRASH.splitlines())
-        self.assertEqual(seen.printed("title"), ["ftreplay: 1 client, echo at 192.0.2.100:7"])
+        self.assertEqual(seen.printed("title"), ["ftreplay: 1 client, echo at 192.0.2.100:7, 1 crash"])
         self.assertEqual(list(seen.x), ["client 1", "server", "log"])
         self.assertEqual((seen.printed("boot-label"), seen.printed("crash-label")), (["boot 1", "boot 2"], ["crash"]))
         self.assertEqual(seen.printed("under"), ["192.0.2.1:40000", "192.0.2.100:7", "", "open", "5 bytes", "length 5, reads 5"])
@@ -237,6 +237,39 @@ class Examples(unittest.TestCase):
                 ends = [next((name for name, label in places.items() if abs(seen.x[label] - float(it.get(x))) in (1, 6)), None) for x in ("x1", "x2")]
                 found.append((*ends, float(it.get("y1")), float(it.get("y2"))))
         self.assertEqual(sorted(found), sorted(wanted))
+
+    def test_legend(self):
+        """The legend has the signs that are in the picture, and no others: nothing of examples/crash comes late or again, and no tick passes."""
+        wanted = ["segment of a client or the server", "message of the server or a log", "never delivered, or the receiver is down", "the server is up", "crash"]
+        self.assertEqual(picture(example("crash")).printed("legend"), wanted)
+        self.assertEqual(picture(example("first_path")).printed("legend"), wanted[:4])
+        for path in EXAMPLES:
+            text, seen = path.read_text(), picture(path.read_text())
+            self.assertEqual("tick" in seen.printed("legend"), " tick\n" in text, path.name)
+            taken, lost, never = deliveries(text)
+            self.assertEqual("never delivered, or the receiver is down" in seen.printed("legend"), bool(lost or never), path.name)
+            numbers = re.findall(r"^event \d+ (?:deliver|flip) (\d+)", text, re.M)
+            self.assertEqual("delivered again" in seen.printed("legend"), len(numbers) != len(set(numbers)), path.name)
+
+    def test_labels_are_clear(self):
+        """Packet 11 of examples/crash is sent just after packet 10, whose arrow would run through its label, so the label is to the left of the server's line."""
+        seen = picture(example("crash"))
+        places = {said(it).split()[0]: (float(it.get("x")), it.get("text-anchor")) for it in seen.texts if it.get("class").startswith("label-")}
+        self.assertEqual(places["10"], (seen.x["server"] + 14, "start"))
+        self.assertEqual(places["11"], (seen.x["server"] - 14, "end"))
+
+    def test_boxes(self):
+        """Whether a line runs through the box from (10, 20) to (30, 26): through it, above it, short of it, through a corner's neighbourhood, straight down."""
+        for line, wanted in (
+            ((0, 23, 50, 23), True),
+            ((0, 19, 50, 19), False),
+            ((0, 23, 9, 23), False),
+            ((0, 10, 40, 30), True),
+            ((0, 24, 20, 34), False),
+            ((20, 0, 20, 50), True),
+            ((9, 0, 9, 50), False),
+        ):
+            self.assertEqual(ladder.crosses(line, 10, 20, 20, 6), wanted, line)
 
     def test_two_loggers(self):
         """The head's line breaks off where it stops; what the server sends then goes to the tail."""
