@@ -393,7 +393,7 @@ class Reports(unittest.TestCase):
     def test_ladder(self):
         drawing = Ladder(self.report, 1, 10**9).draw()
         words = ["".join(it.itertext()) for it in ElementTree.fromstring(drawing).iter("{http://www.w3.org/2000/svg}text")]
-        self.assertIn("ftreplay: 1 client, line at 192.0.2.100:7, marks 1", words)
+        self.assertIn("ftreplay: 1 client, line at 192.0.2.100:7, marks 1, 1 crash", words)
         mark = "reads 1 length 5 made 5 state len 10"
         for label in (f"Mark {mark}", "Marked reads 1", "Ask", f"Held {mark}"):
             self.assertTrue(any(it.endswith(label) for it in words), label)
