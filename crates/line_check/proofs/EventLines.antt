@@ -9,7 +9,7 @@ use Rattle.ft_io.proofs.Booleans.{left_true, right_true}
 use Rattle.ft_io.proofs.Outcomes.{none_is_not}
 use Rattle.ft_model.specs.Grammar.{line_of, with_line}
 use Rattle.ft_model.specs.Readable.{IsWord}
-use Rattle.ft_model.specs.Report.{event_words, event_line, schedule_lines}
+use Rattle.ft_model.specs.Report.{event_words, event_line, profile_line, schedule_lines}
 use Rattle.ft_model.specs.Texts.{line as line_with, service_text, address_text}
 use Rattle.ft_model.specs.Words.{is}
 use Rattle.ft_model.specs.declared.event.Event.{Event}
@@ -97,13 +97,23 @@ bytes_more xs ys zs events e =
     more [] = append-nil (asked_line e ++ 10 ∷ [])
     more (f ∷ events) = ap (λ t. (asked_line f ++ 10 ∷ []) ++ t) (more events) ∙ sym (append_assoc (asked_line f ++ 10 ∷ []) (flat_map (λ e. asked_line e ++ 10 ∷ []) events) (asked_line e ++ 10 ∷ []))
 
+-- .. with one more part in front
+bytes_more_behind : (ws xs ys zs : List ℕ) (events : List Event) (e : Event)
+    → length (ws ++ (xs ++ (ys ++ (zs ++ flat_map (λ e. asked_line e ++ 10 ∷ []) (events ++ e ∷ [])))))
+    ≡ length (ws ++ (xs ++ (ys ++ (zs ++ flat_map (λ e. asked_line e ++ 10 ∷ []) events)))) + length (asked_line e ++ 10 ∷ [])
+bytes_more_behind ws xs ys zs events e =
+    let before : List ℕ = xs ++ (ys ++ (zs ++ flat_map (λ e. asked_line e ++ 10 ∷ []) events)) in
+    let after : List ℕ = xs ++ (ys ++ (zs ++ flat_map (λ e. asked_line e ++ 10 ∷ []) (events ++ e ∷ []))) in
+    omega (arith, bytes_more xs ys zs events e, length-append ws before, length-append ws after)
+
 pub size_with_event : (schedule : Schedule) (n : ℕ) (e : Event) (text : List ℕ) → text ≡ event_line n e
     → length (schedule_bytes (with_line (Begun schedule) (says.Event e))) + (7 + length (decimal n)) ≡ length (schedule_bytes (Begun schedule)) + length text
 size_with_event schedule n e text same =
     let asked : List ℕ = asked_line e ++ 10 ∷ [] in
     let whole : length text ≡ length (codes "event " ++ (decimal n ++ 32 ∷ asked)) = ap length (same ∙ asked_in_line n e) in
     let number : length (decimal n ++ 32 ∷ asked) ≡ length (decimal n) + length (32 ∷ asked) = length-append (decimal n) (32 ∷ asked) in
-    let more = bytes_more (line_with (codes "service") (service_text schedule.service ∷ [])) (line_with (codes "server") (address_text schedule.server.ip schedule.server.port ∷ []))
+    let more = bytes_more_behind (line_with (codes "service") (service_text schedule.service ∷ []))
+    (line_with (codes "server") (address_text schedule.server.ip schedule.server.port ∷ [])) (profile_line schedule.profile)
     (schedule_lines 1 schedule.clients) schedule.events e in
     omega (arith, whole, number, more)
 

@@ -4,6 +4,8 @@
 ghost use Rattle.std.specs.Prelude.{◌≡◌, ◌<◌, ◌^◌};
 ghost use Rattle.pseudorandom.specs.Generator.{stepped, drawn};
 
+mod excluded;
+
 /// The linear congruential generator of Knuth's MMIX. A seed is a first state.
 #[derive(Clone, Copy)]
 pub struct Generator {

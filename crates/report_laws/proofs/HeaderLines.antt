@@ -80,7 +80,7 @@ module _ {State : Type 0} (service : ℕ → Machine State) where
   -- .. and so does that of a profile
   profile_read : (schedule : Schedule) → Follows (Begun schedule) (says.Profile Wan)
       → LineGives service (InHeader (Begun schedule)) (Some (profile_line Wan)) (Continues (InHeader (Begun (record schedule { profile = Wan }))))
-  profile_read schedule accepted = if_true (is_header_line schedule (pieces (profile_line Wan))) _ _ refl (inl (says.Profile Wan, (tt, accepted), refl))
+  profile_read schedule accepted = inl (says.Profile Wan, (tt, accepted), refl)
 
   profile_leads : (schedule : Schedule) (profile : Profile) → ProfileAccepted (bare schedule) profile → (lines : List (List ℕ)) (last : Position)
       → LeadsTo service (InHeader (Begun (record (bare schedule) { profile = profile }))) lines last → LeadsTo service (InHeader (Begun (bare schedule))) (profile_header_lines profile ++ lines) last

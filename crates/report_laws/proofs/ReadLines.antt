@@ -216,7 +216,7 @@ within_read schedule w =
     events_read (record schedule { events = [] }) (((([] ++ a) ++ b) ++ p) ++ c) schedule.events single w.events few in
     subst (λ t. Reads t (Begun schedule)) (append_assoc ((a ++ b) ++ p) c d ∙ (append_assoc (a ++ b) p (c ++ d) ∙ append_assoc a b (p ++ (c ++ d)))) events
 
-profile_short : (schedule : Schedule) (profile : Profile) → FitsLimit (Begun (bare schedule)) → ProfileAccepted (bare schedule) profile
+pub profile_short : (schedule : Schedule) (profile : Profile) → FitsLimit (Begun (bare schedule)) → ProfileAccepted (bare schedule) profile
     → FitsLimit (Begun (record (bare schedule) { profile = profile }))
 profile_short schedule Plain short h = short
 profile_short schedule Wan short h = h.short

@@ -74,6 +74,7 @@ limits_grow schedule trace event within follows few =
         unmarked = within.header.unmarked;
         service = within.header.service;
         server = within.header.server;
+        profile = within.header.profile;
         clients = within.header.clients;
       };
       events = event_accepted (record schedule { events = [] }) (events_of trace) event within.events follows;

@@ -18,10 +18,10 @@ use Rattle.ft_model.proofs.PlayableLemmas.{playable}
 use Rattle.line_check.specs.HeaderText.{header_so_far}
 use Rattle.line_check.proofs.HeaderLines.{header_is}
 use Rattle.plain_world.specs.WorldState.{WorldState, IsAt}
-use Rattle.report_laws.specs.Canonical.{FitsLimit, HeaderAccepted, IsWithinLimits, bare, schedule_bytes}
+use Rattle.report_laws.specs.Canonical.{FitsLimit, HeaderAccepted, IsWithinLimits, schedule_bytes, profiled}
 use Rattle.report_laws.specs.Transitions.{IsReport, clients_in}
 use Rattle.report_laws.specs.TurnLines.{schedule_through}
-use Rattle.report_laws.proofs.ReadLines.{own_text_read, clients_short}
+use Rattle.report_laws.proofs.ReadLines.{own_text_read, clients_short, profile_short}
 use Rattle.report_laws.proofs.WholeReports.{few_clients, fits_schedule}
 use Rattle.trace_check.specs.declared.check.Yes.{Yes}
 use Rattle.trace_check.specs.declared.walk.Place.{Place}
@@ -52,11 +52,11 @@ clients_count : {State : Type 0} (service : Machine State) (start : World) (trac
 clients_count service start trace j = holds_after service (HasAll start) start (λ s. refl) (one_more service start) trace j
 
 header_short : (schedule : Schedule) → HeaderAccepted schedule → FitsLimit (Begun (record schedule { events = [] }))
-header_short schedule h = clients_short (bare schedule) schedule.clients h.server.short h.clients
+header_short schedule h = clients_short (profiled schedule) schedule.clients (profile_short schedule schedule.profile h.server.short h.profile) h.clients
 
 header_limits : (schedule : Schedule) → HeaderAccepted schedule → IsWithinLimits (schedule_through schedule [])
 header_limits schedule h = record {
-  header = record { one_logger = h.one_logger; unmarked = h.unmarked; service = h.service; server = h.server; clients = h.clients };
+  header = record { one_logger = h.one_logger; unmarked = h.unmarked; service = h.service; server = h.server; profile = h.profile; clients = h.clients };
   events = tt;
   few = omega arith;
 }

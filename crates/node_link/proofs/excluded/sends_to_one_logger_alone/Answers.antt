@@ -21,6 +21,7 @@ module _ (loggers : Loggers) (wire : Wire) (second : Addr) (old new : Option (Li
 
   -- what was sent is this packet alone
   to_both : (sent : List Sent) → wires_in sent ≡ wire ∷ [] → second_for loggers wire.to ≡ Some second → Tells old new (sending loggers sent) → IsToBoth
+  unfolding first_wire
   to_both [] is two tells = cc
   to_both (s ∷ t ∷ sent) is two tells = cc
   to_both (s ∷ []) is two tells =
