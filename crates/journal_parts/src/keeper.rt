@@ -41,7 +41,6 @@ fn open_log<K: Desk>(
 }
 
 /// Opens the journal of this name.
-#[tactic(auto, using(crate::proofs::Living::opening_stops, crate::proofs::Living::found_opens))]
 fn find_log<K: Desk>(
     alloc: Global,
     desk: &mut K,
@@ -53,6 +52,7 @@ fn find_log<K: Desk>(
     ensures cause { IsErrOf result ProcessEnd.JournalFault → Rose (K.fault_count desk.old) (K.fault_count desk.new) }
     ensures in_use { IsErrOf result ProcessEnd.InUse → Rose (K.beside desk.old).refusals (K.beside desk.new).refusals }
     ensures missing { result ≡ Err (ProcessEnd.NoJournal Lack.Missing) → Rose (K.beside desk.old).refusals (K.beside desk.new).refusals }
+    ensures never_present { result ≡ Err (ProcessEnd.NoJournal Lack.Present) → ⊥ }
     ensures never_falls { K.fault_count desk.old ≤ K.fault_count desk.new }
     ensures no_bind_fault { (K.beside desk.new).bind_faults ≡ (K.beside desk.old).bind_faults }
 {
@@ -61,7 +61,6 @@ fn find_log<K: Desk>(
 }
 
 /// Makes a journal of this name, at the time of the desk's clock.
-#[tactic(auto, using(crate::proofs::Living::making_stops, crate::proofs::Living::made_opens, seq_arith::proofs::MessageSpelling::number_length))]
 fn make_log<K: Desk>(
     alloc: Global,
     desk: &mut K,
@@ -73,6 +72,7 @@ fn make_log<K: Desk>(
     ensures cause { IsErrOf result ProcessEnd.JournalFault → Rose (K.fault_count desk.old) (K.fault_count desk.new) }
     ensures in_use { IsErrOf result ProcessEnd.InUse → Rose (K.beside desk.old).refusals (K.beside desk.new).refusals }
     ensures present { result ≡ Err (ProcessEnd.NoJournal Lack.Present) → Rose (K.beside desk.old).refusals (K.beside desk.new).refusals }
+    ensures never_missing { result ≡ Err (ProcessEnd.NoJournal Lack.Missing) → ⊥ }
     ensures never_falls { K.fault_count desk.old ≤ K.fault_count desk.new }
     ensures no_bind_fault { (K.beside desk.new).bind_faults ≡ (K.beside desk.old).bind_faults }
 {

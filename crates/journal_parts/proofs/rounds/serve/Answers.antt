@@ -1,4 +1,6 @@
-use Rattle.std.proofs.Common.{◌+◌, ◌∙◌, ◌≤◌, subst, sym, arith}
+use Rattle.std.proofs.Common.{◌+◌, ◌∙◌, ◌≤◌, [], inl, refl, subst, sym, arith}
+use Rattle.ft_io.proofs.Outcomes.{at_err}
+use Rattle.ft_io.proofs.Tellings.{none_told}
 use Rattle.journal_parts.specs.RoundParts.{place_of}
 use Rattle.journal_parts.proofs.Rounding.{room_for_round, served_on}
 use Rattle.journal_parts.proofs.rounds.serve.Goals as goal
@@ -24,3 +26,17 @@ loop-left-preserved g c =
       never_falls = omega (arith, s.never_falls, c.take_round.ensures.never_falls);
       no_bind_fault = c.take_round.ensures.no_bind_fault ∙ s.no_bind_fault;
     }
+
+-- there was no memory for the answers of a round, so none has begun
+pub returns-in_err-answers-clause-stopped : goal.returns-in_err-answers-clause-stopped
+returns-in_err-answers-clause-stopped g c =
+    at_err c.from_residual.result (record {
+      rounds = [];
+      received = [];
+      cut = [];
+      reason = inl (refl, inl refl);
+      are_rounds = tt;
+      unanswered = record { done = []; is_round = inl refl; front = tt; calls_are = refl };
+      within = omega arith;
+      tells = none_told (g.K.Disk.told c.args.desk.now);
+    })
