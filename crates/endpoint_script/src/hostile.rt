@@ -242,7 +242,7 @@ impl Attack {
         let len = self.write(scene, &mut packet);
         let is_damaged = self.draws.below(2) == 0;
         if is_damaged {
-            let place = self.draws.below(1_500) as usize % len.max(1);
+            let place = self.draws.below(limits::PACKET as u32) as usize % len.max(1);
             if place < len {
                 packet[place] = packet[place].wrapping_add(1 + self.draws.below(255) as u8);
             }

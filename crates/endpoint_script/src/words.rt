@@ -262,7 +262,7 @@ impl<'a> Words<'a> {
         let (text, fits) = match word.strip_prefix("hex:") {
             Some(digits) => (Text::Hex(digits), are_pairs(digits)),
             None if word == "-" => (Text::Word(""), true),
-            None => (Text::Word(word), word.len() <= 65_535),
+            None => (Text::Word(word), word.len() <= limits::BUFFER as usize),
         };
         if !fits {
             self.refuse(Why::Text);

@@ -62,7 +62,7 @@ fn work_of(words: &[&str]) -> Option<Work> {
     let (Ok(bytes), Ok(write)) = (bytes.parse::<u32>(), write.parse::<usize>()) else {
         return None;
     };
-    let fits = (1..=STREAM).contains(&bytes) && (1..=1_460).contains(&write);
+    let fits = (1..=STREAM).contains(&bytes) && (1..=limits::TEXT).contains(&write);
     fits.then_some(Work { bytes, write })
 }
 

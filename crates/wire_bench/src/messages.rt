@@ -88,7 +88,7 @@ fn read_all(is_data: bool, text: &[u8], rounds: u32, messages: &mut Vec<u8>) -> 
     requires { length text.now ≡ 1460 }
 {
     push_messages(is_data, text, messages)?;
-    let len = if is_data { 1491 } else { 28 };
+    let len = if is_data { limits::MESSAGE } else { 28 };
     let mut total = 0u64;
     for _ in 0..rounds {
         for message in messages.chunks_exact(len) {

@@ -20,7 +20,10 @@ pub(crate) fn total(alloc: Global, words: &[&str]) -> Result<u64> {
     };
     let bytes: usize = bytes.parse().context("BYTES")?;
     let rounds: u32 = rounds.parse().context("ROUNDS")?;
-    ensure!(40 <= bytes && bytes <= 1500, "BYTES is 40 to 1500");
+    ensure!(
+        40 <= bytes && bytes <= limits::PACKET,
+        "BYTES is 40 to 1500"
+    );
     let mut packets = Vec::new(alloc);
     push_packets(bytes, &mut packets)?;
     if !sets {

@@ -27,7 +27,7 @@ pub(crate) fn begin(
     marks: bool,
 ) -> Result<Fetching<AnyService>, NoMemory> {
     let asked = Asked::new(u64::from(BOOT));
-    let count = count.min(64) as u16;
+    let count = count.min(usize::from(limits::ENTRIES)) as u16;
     match asked.on_summary(alloc, kind, count, marks) {
         Ok(fetching) => Ok(fetching),
         Err(_) => Err(NoMemory),

@@ -213,9 +213,13 @@ impl Exchange {
     fn server_turn(&mut self) {
         self.server.hear(&self.client.out, self.way);
         for _ in 0..self.way.calls() {
-            let room = self.server.endpoint.room().min(1_460);
+            let room = self.server.endpoint.room().min(limits::TEXT);
             let buf = &mut self.buf[..];
-            let count = self.server.endpoint.read(&mut buf[..room]).min(1_460);
+            let count = self
+                .server
+                .endpoint
+                .read(&mut buf[..room])
+                .min(limits::TEXT);
             let _written = self.server.endpoint.write(&self.buf[..count]);
             if count == 0 {
                 break;

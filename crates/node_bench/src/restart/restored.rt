@@ -56,7 +56,7 @@ pub(crate) fn restart(
                 body: Body::Summary { count },
                 ..
             },
-        ) => count.min(64),
+        ) => count.min(limits::ENTRIES),
         _ => 0,
     };
     let marks = logger.has_marks();
