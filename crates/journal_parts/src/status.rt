@@ -169,8 +169,10 @@ pub fn tell<E: Sink>(err: &mut E, end: ProcessEnd) -> Status
     ensures early { result.code ≡ 0 → ⊥ }
     ensures fault { is_fault_status result.code ≡ false → is_fault end ≡ false }
     ensures no_fault { is_fault_status result.code ≡ false → E.fault_count err.new ≡ E.fault_count err.old }
+    ensures unreported { end ≡ ends.Node node_ends.WriteFault → E.fault_count err.new ≡ E.fault_count err.old }
 {
     match end {
+        ProcessEnd::Node(NodeEnd::WriteFault) => Status { code: 5 },
         ProcessEnd::Node(end) => link_parts::tell(err, end),
         ProcessEnd::JournalFault => status_of(11, write_all(err, b"ftnode: journal fault\n")),
         ProcessEnd::BadJournal { at } => status_of(12, write_place(err, at)),
