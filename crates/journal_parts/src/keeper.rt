@@ -123,6 +123,7 @@ fn bind_and_serve<K: Desk, O: Sink, E: Sink>(
     ensures write_cause { result ≡ Err (ProcessEnd.Node NodeEnd.WriteFault) → Rose (O.fault_count out.old) (O.fault_count out.new) ⊎ Rose (E.fault_count err.old) (E.fault_count err.new) }
     ensures no_write_fault { UnlessFault result (O.fault_count out.new ≡ O.fault_count out.old) }
     ensures no_error { UnlessFault result (E.fault_count err.new ≡ E.fault_count err.old) }
+    ensures errors_never_fall { E.fault_count err.old ≤ E.fault_count err.new }
     ensures no_bind_fault { UnlessFault result ((K.beside desk.new).bind_faults ≡ (K.beside desk.old).bind_faults) }
 {
     if note_cut(err, torn).is_err() {
@@ -156,6 +157,7 @@ pub fn run_keeper<K: Desk, O: Sink, E: Sink>(
     ensures write_cause { result ≡ Err (ProcessEnd.Node NodeEnd.WriteFault) → Rose (O.fault_count out.old) (O.fault_count out.new) ⊎ Rose (E.fault_count err.old) (E.fault_count err.new) }
     ensures no_write_fault { UnlessFault result (O.fault_count out.new ≡ O.fault_count out.old) }
     ensures no_error { UnlessFault result (E.fault_count err.new ≡ E.fault_count err.old) }
+    ensures errors_never_fall { E.fault_count err.old ≤ E.fault_count err.new }
     ensures no_bind_fault { UnlessFault result ((K.beside desk.new).bind_faults ≡ (K.beside desk.old).bind_faults) }
 {
     let (kept, torn) = open_log(alloc, desk, role)?;

@@ -1,6 +1,6 @@
 //! How a logger with a journal ends.
 
-ghost use Rattle.std.specs.Prelude.{◌≡◌, ◌++◌, false, codes, decimal, OnOk, OnErr};
+ghost use Rattle.std.specs.Prelude.{◌≡◌, ◌≤◌, ◌++◌, false, codes, decimal, OnOk, OnErr};
 ghost use Rattle.std.specs.Io.KnownBytes.{Appends};
 ghost use Rattle.ft_io.specs.Faults.{Rose};
 ghost use Rattle.ft_io.specs.Sink.{AppendsFront};
@@ -132,6 +132,7 @@ pub(crate) fn note_cut<E: Sink>(err: &mut E, torn: usize) -> Result<(), Failed>
     ensures front { OnErr result (AppendsFront (E.taken err.old) (E.taken err.new) (cut_text torn)) }
     ensures cause { OnErr result (Rose (E.fault_count err.old) (E.fault_count err.new)) }
     ensures no_fault { OnOk result (E.fault_count err.new ≡ E.fault_count err.old) }
+    ensures never_falls { E.fault_count err.old ≤ E.fault_count err.new }
 {
     if torn == 0 {
         return Ok(());
