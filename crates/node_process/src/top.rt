@@ -1,6 +1,6 @@
 //! The entry point: `run`.
 
-ghost use Rattle.std.specs.Prelude.{◌≡◌, ◌⊎◌, List, map, string_bytes, Some, Err, true, false};
+ghost use Rattle.std.specs.Prelude.{◌≡◌, ◌≤◌, ◌⊎◌, List, map, string_bytes, Some, Err, true, false};
 ghost use Rattle.ft_io.specs.Faults.{Rose};
 ghost use Rattle.ft_io.specs.Source.{ConsumesAtMost};
 ghost use Rattle.ft_model.specs.Legal.{machines};
@@ -58,6 +58,7 @@ fn run_as<S: Saved, L: Link, I: Source, O: Sink, E: Sink, P: Spawner, K: Desk>(
     ensures no_write_fault { UnlessFault result (O.fault_count process.new.out ≡ O.fault_count process.old.out) }
     ensures no_child_fault { UnlessFault result (P.fault_count process.new.children ≡ P.fault_count process.old.children) }
     ensures no_error { UnlessFault result (E.fault_count process.new.err ≡ E.fault_count process.old.err) }
+    ensures errors_never_fall { E.fault_count process.old.err ≤ E.fault_count process.new.err }
     ensures same_err { uses_desk (Some role.now) ≡ false → process.new.err ≡ process.old.err }
 {
     let Process {
@@ -114,6 +115,7 @@ fn run_words<S: Saved, L: Link, I: Source, O: Sink, E: Sink, P: Spawner, K: Desk
     ensures no_write_fault { UnlessFault result (O.fault_count process.new.out ≡ O.fault_count process.old.out) }
     ensures no_child_fault { UnlessFault result (P.fault_count process.new.children ≡ P.fault_count process.old.children) }
     ensures no_error { UnlessFault result (E.fault_count process.new.err ≡ E.fault_count process.old.err) }
+    ensures errors_never_fall { E.fault_count process.old.err ≤ E.fault_count process.new.err }
     ensures same_err { uses_desk (asked_of services (map string_bytes words.now)) ≡ false → process.new.err ≡ process.old.err }
 {
     match read_role(alloc, services, words)? {
