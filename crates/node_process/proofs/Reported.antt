@@ -38,3 +38,7 @@ module _ (old mid new : ℕ) (never : old ≤ mid) where
   write_failed {Writes} end taken_mid taken_new code (inl (is, whole)) unreported cause five =
       let written : end ≡ Node node.WriteFault = is_write end (sym is ∙ five) in
       subst (λ n. Writes ⊎ Rose old n) (sym (unreported written)) (cause written)
+
+-- what rose before the report has risen after one that writes nothing
+pub rose_before : (old mid new : ℕ) → new ≡ mid → Rose old mid → Rose old new
+rose_before old mid new same rose = subst (Rose old) (sym same) rose
