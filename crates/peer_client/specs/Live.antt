@@ -38,7 +38,7 @@ new_live local server isn script = record {
 -- the same of a client with this profile. A client has no log, so of the profile it has the measuring alone
 abbrev pub new_live_in : Profile → Addr → Addr → ℕ → List ℕ → LiveState
 new_live_in profile local server isn script =
-    record (new_live local server isn script) { tcb = connecting_measuring profile.measures local server isn (2 ^ 24) }
+    record (new_live local server isn script) { tcb = connecting_measuring profile.measures local server isn longest_stream }
 
 -- whether the segment is one of the connection, by both addresses and ports (RFC 9293, 3.10.7)
 abbrev pub is_of : Addr → Addr → Segment → Bool

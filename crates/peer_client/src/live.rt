@@ -98,7 +98,7 @@ impl LiveClient {
         isn: u32,
         script: Vec<u8>,
     ) -> Result<LiveClient, NoMemory>
-        requires { length script.items ≤ 2 ^ 24 }
+        requires { length script.items ≤ longest_stream }
         ensures made { IfOk result (λ client. client ≡ new_live_in (profile_of profile) local server isn script.items) }
         ensures beside { IfOk result (λ client. IsDue client (new_client Live server (record { ip = local.ip; port = local.port }) isn script.items)) }
     {

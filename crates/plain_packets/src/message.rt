@@ -1,5 +1,6 @@
 //! A message as its bytes.
 
+ghost use Rattle.limits.specs.Limits.{largest_segment, least_segment, longest_stream};
 ghost use Rattle.std.specs.Prelude.{◌≡◌, ◌≤◌, ◌<◌, ◌+◌, ◌^◌, ◌%◌, ◌&&◌, true, IfOk, IfSome, IfNone, length, nat_le};
 ghost use Rattle.std.specs.List.{list_all};
 ghost use Rattle.seq_arith.specs.declared.kinds.Kind.TheVariants as kinds;
@@ -10,6 +11,7 @@ ghost use Rattle.logger_wire.specs.Value.{body_of, message_of, left_over, IsSend
 
 use crate::number_ranges::fit_numbers;
 use ft_io::NoMemory;
+use limits::{ENTRIES, SEGMENT, SHORTEST_SEGMENT, STREAM, TEXT, UNITS};
 use logger_wire::{Body, EntryHead, Msg, len_at, put_msg};
 use std::alloc::Global;
 

@@ -6,6 +6,7 @@ ghost use Rattle.logger_wire.specs.Records.{numbers_said};
 
 use crate::congestion::Window;
 use crate::timing::Timing;
+use limits::{BUFFER, STREAM};
 use logger_wire::Numbers;
 use plain_packets::Held;
 use std::alloc::Global;

@@ -144,7 +144,7 @@ fresh_tcp profile key local cisn fetched mss i fin few segments room fits =
       i_fits = fits;
     } in
     let replayed = subst (λ u. HasReplayed idle (point_of idle profile e) u (idle_north e.bytes)) (sym none) (idle_replayed profile e) in
-    subst (λ n. IsFresh i n fin (spliced key local cisn n mss i fin)) size (fresh_at profile key local cisn fetched mss i fin e refl g replayed)
+    subst (λ n. IsFresh i n fin (spliced_measuring profile.measures key local cisn n mss i fin)) size (fresh_at profile key local cisn fetched mss i fin e refl g replayed)
 
 -- what is swallowed is what the entry has acknowledged
 swallowed_is : (i sisn u iss : ℕ) → iss ≡ i → i < 2 ^ 32 → sisn < 2 ^ 32 → u ≤ 2 ^ 24 → distance ((iss + distance ((sisn + u) % 2 ^ 32) i) % 2 ^ 32) sisn ≡ u

@@ -135,8 +135,8 @@ HeaderLine (Begun schedule) text step =
 abbrev pub pieces : List ℕ → List (List ℕ)
 pieces text = slice_split (λ c. is 32 c || is 10 c) text
 
--- After the server's line, a line belongs to the header if it is one for the next client, or has the word `profile`. Schedules with the words `twin` and `marks`
--- aren't checked, so a line with one of these belongs to the header too, and is rejected there
+-- After the server's line, a line belongs to the header if it is one for the next client, or has the word `profile`. Schedules with the words `twin` and
+-- `marks` aren't checked, so a line with one of these belongs to the header too, and is rejected there
 abbrev pub is_header_line : Schedule → List (List ℕ) → Bool
 is_header_line schedule [] = false
 is_header_line schedule (first ∷ []) = bytes_eq first (codes "profile") || bytes_eq first (codes "twin") || bytes_eq first (codes "marks")

@@ -1,6 +1,7 @@
 -- A connection that a restart has put together, in its first turn.
 use Rattle.std.proofs.Common.{◌≡◌, ◌∙◌, ◌≤◌, ℕ, refl, sym, ap, subst, ⊎_elim, Some, List, [], ◌∷◌}
 use Rattle.std.specs.Prelude.{IfSome}
+use Rattle.tcp_rules.specs.Profile.{Profile}
 use Rattle.server_trait.specs.Service.{Machine}
 use Rattle.ft_model.specs.Log.{Entry}
 use Rattle.ft_model.specs.Point.{Point}
@@ -51,6 +52,7 @@ goes_on_under profile service e i s c now is from number delta = record {
 -- its ACKs wait for the log exactly if those of its server do
 pub delays_as_its_server : {S : Type 0} (service : Machine S) (node : Node) (e : Entry) (now : Slot S) (old new : List Wire)
     → SlotRevives service node e.key (Lives (point_of service node.profile e)) now old new → IfSome (conn_in (Some now)) (λ c. c.delays ≡ node.profile.delays)
+unfolding IsOursAt
 delays_as_its_server {S} service node e now old new r = go now r.after r.turn r.stands
   where
     first : Place → List Place → Place
@@ -58,7 +60,6 @@ delays_as_its_server {S} service node e now old new r = go now r.after r.turn r.
     first other (x ∷ xs) = x
 
     stands : (c : ConnState S) (q : Point) → SlotStands service node e.key (slot.Live c) (Lives q) → c.delays ≡ q.delays
-    unfolding IsOursAt
     stands c q st = st.1.0.keeps.delays
 
     go : (now : Slot S) (after : Place) → LivesOn service node Becomes_live (point_of service node.profile e) (after ∷ []) r.packets → SlotStands service node e.key now after
