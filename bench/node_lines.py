@@ -189,6 +189,57 @@ class Played:
         delta = self.deltas.get(key, 0)  # A new connection's TCP has the number that the client knows.
         say(conn(key_of(key)), numbers(delta, place.taken(), place.answered, place.consumed, len(place.lengths), place.una, place.sent))
 
+HOSTILE = "192.0.2.66:666"
+ODD = ["AF", "AR", "AS", "F", "A"]
+
+def digest_of(sent):
+    """How many packets, and a polynomial hash of them at 257, modulo 2^32 - 5: of each the client's address, if it goes to one, and its bytes."""
+    total = 0
+    for key, content in sent:
+        words = packet_words(content).split()
+        data = key_bytes(key_of(key)) + segment("S>1", words, {"1": key_of(key)}) if key else told(words[0], words[1:])
+        for byte in data:
+            total = (total * 257 + byte + 1) % (2**32 - 5)
+    return f"sent {len(sent)} digest {total}"
+
+def hostile(draws, kinds, seq, ack):
+    """Acknowledgements far ahead, wrong edges, RSTs beside the number, text that overlaps with other bytes, odd flags, and SYNs."""
+    below = lambda bound: draws.draw() % bound
+    kind = below(kinds)
+    if kind == 0:
+        flags, ack, room = "A", ack + 1 + below(1 << 30), 1
+    elif kind == 1:
+        flags, seq, room = "A", seq + 65534 + below(4), 2
+    elif kind == 2:
+        flags, seq, room = "R", seq + [-1, 64, 65, 65534, 65536][below(5)], 1
+    elif kind == 3:
+        flags, seq, ack, room = "A", seq - 12 + below(12), ack, 20
+        ack = ack - 3 + below(3)
+    elif kind == 4:
+        flags, seq, room = ODD[below(5)], seq + 2 + below(7), 20
+        ack = draws.draw()
+    else:
+        flags, seq, room = "S", seq + [-1, -1, 0, 69999][below(4)], 1
+    window = below(65536)
+    text = bytes([below(256)]) * 20
+    text = text[: below(room)]
+    return model.Segment(flags, seq % 2**32, ack % 2**32 if "A" in flags else 0, window, None, text)
+
+class Target(Played):
+    """The same, with a further client that sends hostile segments."""
+
+    def blows(self, count, seed, kinds):
+        """So many hostile segments, in one line, round the numbers that this client's connection has before them. Returns what is sent."""
+        place = self.server.places.get(HOSTILE)
+        live = isinstance(place, model.Connection)
+        seq = ((place.cisn if live else 77) + 1 + (place.taken() if live else 0)) % 2**32
+        ack = ((place.sisn if live else 5000) + 1 + (place.sent if live else 0)) % 2**32
+        draws, sent = Generator(seed), []
+        for _ in range(count):
+            sent += self.server.on_segment(HOSTILE, hostile(draws, kinds, seq, ack))
+        say(f"strike {count} {seed} {kinds} {seq} {ack}", digest_of(sent))
+        return sent
+
 class Guesser(Played):
     """A client that sends text with acknowledgements that are drawn over all numbers, and so almost never those of what it was sent."""
 

@@ -15,8 +15,8 @@ sys.path.insert(0, str(pathlib.Path(__file__).parent.parent / "tools"))
 
 import loggers  # noqa: E402
 import model  # noqa: E402
-from node_lines import (BOOTS, K, SERVER, SERVICES, Played, conn, fields, guess_in_each_state, key_bytes, key_of, lines, message, msg, numbers, packet, pkt, prints, say, segment, to_client, to_logger, told)  # noqa: E402
-from seed_model import Generator, packet_words  # noqa: E402
+from node_lines import (BOOTS, HOSTILE, K, SERVER, SERVICES, Played, Target, conn, fields, guess_in_each_state, key_bytes, key_of, lines, message, msg, numbers, packet, pkt, prints, say, segment, to_client, to_logger, told)  # noqa: E402
+from seed_model import packet_words  # noqa: E402
 from stored_parts import FOLDER, write_part  # noqa: E402
 
 REPORTS = sys.argv[1]
@@ -499,25 +499,10 @@ say("attack 10000 4", "wrong 0")
 say(conn(Z), numbers((77 - 5000) % 2**32, 2, 2, 2, 1, 0, 0))
 # ---- one client against the others, by the model -----------------------------------------------------------------------------------------------
 
-HOSTILE = "192.0.2.66:666"
 GOOD = ["192.0.2.11:40000", "192.0.2.12:40000", "192.0.2.13:7"]
 
 
-ODD = ["AF", "AR", "AS", "F", "A"]
-
-
-def digest_of(sent):
-    """How many packets, and a polynomial hash of them at 257, modulo 2^32 - 5: of each the client's address, if it goes to one, and its bytes."""
-    total = 0
-    for key, content in sent:
-        words = packet_words(content).split()
-        data = key_bytes(key_of(key)) + segment("S>1", words, {"1": key_of(key)}) if key else told(words[0], words[1:])
-        for byte in data:
-            total = (total * 257 + byte + 1) % (2**32 - 5)
-    return f"sent {len(sent)} digest {total}"
-
-
-class Struck(Played):
+class Struck(Target):
     """The same, with a fourth client that sends hostile datagrams between all turns. The log doesn't answer what that client's connection tells."""
 
     def __init__(self, service, strikes, profile):
@@ -551,41 +536,9 @@ class Struck(Played):
         count = self.strikes * times
         if not count:
             return
-        place = self.server.places.get(HOSTILE)
-        live = isinstance(place, model.Connection)
-        seq = ((place.cisn if live else 77) + 1 + (place.taken() if live else 0)) % 2**32
-        ack = ((place.sisn if live else 5000) + 1 + (place.sent if live else 0)) % 2**32
-        kinds = 6 if self.may_open else 5
         self.lines += 1
-        draws, sent = Generator(self.lines), []
-        for _ in range(count):
-            sent += self.server.on_segment(HOSTILE, self.hostile(draws, kinds, seq, ack))
         self.struck += count
-        self.keep(sent)
-        say(f"strike {count} {self.lines} {kinds} {seq} {ack}", digest_of(sent))
-
-    def hostile(self, draws, kinds, seq, ack):
-        """Acknowledgements far ahead, wrong edges, RSTs beside the number, text that overlaps with other bytes, odd flags, and SYNs."""
-        below = lambda bound: draws.draw() % bound
-        kind = below(kinds)
-        if kind == 0:
-            flags, ack, room = "A", ack + 1 + below(1 << 30), 1
-        elif kind == 1:
-            flags, seq, room = "A", seq + 65534 + below(4), 2
-        elif kind == 2:
-            flags, seq, room = "R", seq + [-1, 64, 65, 65534, 65536][below(5)], 1
-        elif kind == 3:
-            flags, seq, ack, room = "A", seq - 12 + below(12), ack, 20
-            ack = ack - 3 + below(3)
-        elif kind == 4:
-            flags, seq, room = ODD[below(5)], seq + 2 + below(7), 20
-            ack = draws.draw()
-        else:
-            flags, seq, room = "S", seq + [-1, -1, 0, 69999][below(4)], 1
-        window = below(65536)
-        text = bytes([below(256)]) * 20
-        text = text[: below(room)]
-        return model.Segment(flags, seq % 2**32, ack % 2**32 if "A" in flags else 0, window, None, text)
+        self.keep(self.blows(count, self.lines, 6 if self.may_open else 5))
 
     def opens_hostile(self):
         """The log answers the fourth client's opening after all: it has a connection."""

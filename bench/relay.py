@@ -8,7 +8,8 @@ after later ones, and a flipped one has one bit changed. SEED determines which o
                                 so addresses, ports and checksums are changed in them, as in network address translation
     tun:NAME tun:NAME           packets between two TUN devices, which it makes, for sockets of the kernel in two network namespaces; it needs root
 
-It prints `up` once it listens, runs until SIGTERM, and then prints how many packets arrived, were lost, were swapped and were flipped.
+It prints `up` once it listens, runs until SIGTERM, and then prints how many packets arrived, were lost, were swapped and were flipped; how many had text that had been
+sent before, and how many were acknowledgements that repeat the last one.
 """
 import fcntl
 import heapq
@@ -23,7 +24,7 @@ import sys
 import time
 
 sys.path.insert(0, str(pathlib.Path(__file__).parent.parent / "tools"))
-from internet import between  # noqa: E402
+from internet import ACK, between  # noqa: E402
 
 SET_DEVICE, TUN, NO_HEADER = 0x400454CA, 0x0001, 0x1000  # TUNSETIFF, IFF_TUN, IFF_NO_PI
 BEHIND = 0.002  # seconds that a swapped packet is late
@@ -31,8 +32,28 @@ BEHIND = 0.002  # seconds that a swapped packet is late
 
 def translated(packet, source, target):
     """The packet between other ends; without a TCP header in IPv4 of 20 bytes it stays."""
-    is_tcp = len(packet) >= 40 and packet[0] == 0x45 and packet[9] == 6
-    return between(packet, source, target) if is_tcp else packet
+    return between(packet, source, target) if is_tcp(packet) else packet
+
+
+def is_tcp(packet):
+    return len(packet) >= 40 and packet[0] == 0x45 and packet[9] == 6
+
+
+class Said:
+    """What one end has said of a connection, and how often it said it again."""
+
+    def __init__(self):
+        self.end = self.told = None  # the end of its text so far, and its last acknowledgement with its window
+
+    def again(self, packet):
+        """Whether a packet has only text that was sent before, and whether it is nothing but an acknowledgement that repeats the last one."""
+        seq, ack = struct.unpack(">II", packet[24:32])
+        length = struct.unpack(">H", packet[2:4])[0] - 20 - 4 * (packet[32] >> 4)
+        told, end = (ack, packet[34:36]), seq + length
+        is_known = self.end is not None and length > 0 and (self.end - end) % 2**32 < 2**31
+        is_repeated = length == 0 and packet[33] == ACK and told == self.told
+        self.end, self.told = self.end if is_known else end, told
+        return is_known, is_repeated
 
 
 class Way:
@@ -41,6 +62,14 @@ class Way:
     def __init__(self, loss, delay, seed, swapped=0.0, flipped=0.0):
         self.dice, self.loss, self.delay, self.swapped, self.flipped = random.Random(seed), loss, delay, swapped, flipped
         self.waiting, self.count, self.lost, self.late, self.damaged = [], 0, 0, 0, 0
+        self.said, self.known, self.repeated = {}, 0, 0
+
+    def note(self, packet):
+        """Counts what is said again, by the ends that a packet names."""
+        if is_tcp(packet):
+            is_known, is_repeated = self.said.setdefault(packet[12:24], Said()).again(packet)
+            self.known += is_known
+            self.repeated += is_repeated
 
     def damage(self, packet):
         """The packet, or one with a flipped bit in its place."""
@@ -79,6 +108,7 @@ class Datagrams:
 
     def from_client(self):
         data, client = self.front.recvfrom(65536)
+        self.way.note(data)
         data = self.way.damage(data)
         if client not in self.clients:
             self.clients[client] = bound((self.front.getsockname()[0], 0))
@@ -89,6 +119,7 @@ class Datagrams:
 
     def to_client(self, client):
         data, _ = self.clients[client].recvfrom(65536)
+        self.way.note(data)
         data = self.way.damage(data)
         data = translated(data, packed(self.front.getsockname()), packed(client))
         self.way.take(lambda: self.front.sendto(data, client))
@@ -103,7 +134,9 @@ class Devices:
             selector.register(came, selectors.EVENT_READ, lambda came=came, goes=goes: self.pass_on(came, goes))
 
     def pass_on(self, came, goes):
-        packet = self.way.damage(os.read(came, 65536))
+        packet = os.read(came, 65536)
+        self.way.note(packet)
+        packet = self.way.damage(packet)
         self.way.take(lambda: os.write(goes, packet))
 
 
@@ -148,7 +181,8 @@ def main():
     except OSError as why:
         sys.exit(f"relay: {why}")
     except KeyboardInterrupt:
-        print(f"{way.count} packets, {way.lost} lost, {way.late} swapped, {way.damaged} flipped", flush=True)
+        print(f"{way.count} packets, {way.lost} lost, {way.late} swapped, {way.damaged} flipped, {way.known} sent again, {way.repeated} repeated acknowledgements",
+              flush=True)
 
 
 if __name__ == "__main__":
