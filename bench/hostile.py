@@ -1,10 +1,11 @@
 #!/usr/bin/env python3
 """Hostile segments in each state of a connection, to a server with each profile: hostile.py [COUNT] [PROGRAM].
 
-COUNT segments in each state have acknowledgements far ahead, wrong edges, RSTs beside the number, overlapping text, odd flags or a SYN, all near the connection's
-numbers. A connection gets 20 of them, and then two ticks pass; so each state is reached COUNT / 20 times. `node_cases node` must send what the model in
-tools/model.py sends, to the byte, and its connection must have the model's numbers. Defaults: 10,000, and the program crates/node_cases/out/node_cases. The stored
-run of node_cases has 60,000 such segments with the plain profile and 10,000 with `wan`, among other clients' turns.
+COUNT segments in each state have acknowledgements far ahead, wrong edges, RSTs beside the number, overlapping text, odd flags or a SYN, all near the
+connection's numbers. A connection gets 20 of them, and then two ticks pass; so each state is reached COUNT / 20 times. `node_cases node` must send what the
+model in tools/model.py sends, to the byte, and its connection must have the model's numbers. Defaults: 10,000, and the program
+crates/node_cases/out/node_cases. The stored run of node_cases has over 40,000 such segments with the plain profile and over 7,000 with `wan`, among other
+clients' turns.
 """
 import pathlib
 import subprocess

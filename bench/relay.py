@@ -8,8 +8,8 @@ after later ones, and a flipped one has one bit changed. SEED determines which o
                                 so addresses, ports and checksums are changed in them, as in network address translation
     tun:NAME tun:NAME           packets between two TUN devices, which it makes, for sockets of the kernel in two network namespaces; it needs root
 
-It prints `up` once it listens, runs until SIGTERM, and then prints how many packets arrived, were lost, were swapped and were flipped; how many had text that had been
-sent before, and how many were acknowledgements that repeat the last one.
+It prints `up` once it listens, runs until SIGTERM, and then prints how many packets arrived, were lost, were swapped and were flipped; how many had text that
+had been sent before, and how many were acknowledgements that repeat the last one.
 """
 import fcntl
 import heapq

@@ -4,22 +4,23 @@
     bench/wan.py run PROGRAM [--size BYTES] [--delays MS..] [--losses PERCENT..] [--seeds N..] [--kinds KIND..] [--ways WAY..] [--patience SECONDS]
     bench/wan.py table FILE..
 
-`run` makes each transfer of SIZE bytes in turn, each way with the same seeds, and prints a line for each. A delay is that of a round trip. KIND is `echo`, or
-`download`, which is a script of requests to the service Transfer. A transfer that isn't done in time ends there, and its line says how many bytes had come. A WAY is
-one of these, with each of the kernel's congestion controls `reno` and `bbr` in place of CONTROL:
+`run` makes each transfer of so many bytes in turn, each way with the same seeds, and prints a line for each. A delay is that of a round trip. KIND is `echo`, or
+`download`, which is a script of requests to the service Transfer. A transfer that isn't done in time ends there, and its line says how many bytes had come. A
+WAY is one of these, with each of the kernel's congestion controls `reno` and `bbr` in place of CONTROL:
 
     ftnode-PROFILE           `ftnode client` to `ftnode server`, both with this profile
     CONTROL-to-PROFILE       a client of the kernel, through tools/bridge.py, to `ftnode server` with this profile
     kernel-CONTROL-bare      two sockets of the kernel without window scaling, selective acknowledgements and timestamps, which `ftnode` hasn't
     kernel-CONTROL-options   two sockets of the kernel with them
 
-`table` reads such lines, of one run or of several, and prints tables of their medians, and which goals are met: at 50 ms at least half as fast as two bare sockets
-of the kernel at 0 and at 1 % loss, and at most 1.4 times their packets without loss.
+`table` reads such lines, of one run or of several, and prints tables of their medians, and which goals are met: at 50 ms at least half as fast as two bare
+sockets of the kernel at 0 and at 1 % loss, and at most 1.4 times their packets without loss.
 
 All is done in network namespaces that it makes and removes, so it needs Linux, root and TUN devices. Runs at the same time don't meet.
 """
 import argparse
 import collections
+import itertools
 import os
 import pathlib
 import re
@@ -136,7 +137,7 @@ class Transfer:
         return self.by_socket(control, relay)
 
     def go(self, way):
-        """The transfer by this way: how many bytes came, in which time, and the relay's counts."""
+        """The transfer by this way: how many bytes came, in which time, which is all that it had if not all bytes came, and the relay's counts."""
         try:
             first, second, *more = way.split("-")
             if first == "ftnode":
@@ -146,7 +147,7 @@ class Transfer:
             if back != self.wanted[: len(back)]:
                 raise OSError(f"{way}: other bytes came")
             relay.send_signal(signal.SIGTERM)
-            return len(back), seconds, relay.communicate()[0].decode()
+            return len(back), seconds if len(back) == self.words.size else self.words.patience, relay.communicate()[0].decode()
         finally:
             for it in self.processes:
                 it.kill()
@@ -184,7 +185,7 @@ def dropped():
 def run(words):
     make_spaces()
     try:
-        for delay, loss, kind, seed, way in ((d, l, k, s, w) for d in words.delays for l in words.losses for k in words.kinds for s in words.seeds for w in words.ways):
+        for delay, loss, kind, seed, way in itertools.product(words.delays, words.losses, words.kinds, words.seeds, words.ways):
             before = dropped()
             came, seconds, counts = Transfer(words, kind, loss, delay, seed).go(way)
             packets, lost, _, _, known, repeated = map(int, re.findall(r"(\d+) ", counts))
