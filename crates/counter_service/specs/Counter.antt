@@ -1,7 +1,7 @@
 -- Counter: the bytes of the input are counted, and each line feed is answered by the count. The empty chunk closes.
 use Rattle.std.specs.Prelude.{ℕ, ◌+◌, ◌-◌, ◌^◌, min, List, [], ◌∷◌, ◌++◌, length, decimal, codes, ◌==◌, Option, Some, None, if◌then◌else◌}
 use Rattle.std.specs.Int.{w64, to_be_bytes, from_be_bytes}
-use Rattle.server_trait.specs.Service.{Served, Machine, machine}
+use Rattle.server_trait.specs.Service.{Served, Machine, silent}
 use Rattle.counter_service.specs.declared.counter.Counter.{Counter}
 
 -- nothing is counted yet
@@ -33,7 +33,7 @@ counter_after counter chunk =
 
 -- the service as runs see it
 abbrev pub counter_machine : Machine Counter
-counter_machine = machine counter_started counter_after
+counter_machine = silent counter_started counter_after
 
 -- its saved form: the count, in 8 bytes
 abbrev pub counter_form : Counter → List ℕ

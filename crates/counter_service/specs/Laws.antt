@@ -61,12 +61,12 @@ served : (s : Counter) (chunk : List ℕ) → IsCounter s → AreBytes chunk →
 served s chunk small given = (bytes-ascii (answers s.count chunk) (ascii-answers s.count chunk), small-count_after s.count chunk small)
 
 pub bytes-counter : WritesBytes counter_machine
-bytes-counter = bytes_fold counter_machine IsCounter (omega arith) served
+bytes-counter = bytes_fold counter_machine IsCounter tt (omega arith) served
 
 pub counter_reads_back : ReadsBack counter_machine (writing counter_form counter_of)
 counter_reads_back chunks given running =
     let s = (fold counter_machine chunks).state in
-    let small : s.count < 2 ^ 64 = (run_kept counter_machine IsCounter (omega arith) served chunks given).1 in
+    let small : s.count < 2 ^ 64 = (run_kept counter_machine IsCounter tt (omega arith) served chunks given).1 in
     record { same = rw (from_be_bytes-to_be_bytes_8 s.count small) refl; short = omega arith; bytes = bytes_of_64 s.count }
 
 pub counter_one_form : HasOneForm (writing counter_form counter_of)

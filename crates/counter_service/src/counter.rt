@@ -33,12 +33,17 @@ impl Counter {
 
 impl Service for Counter {
     ghost use Rattle.std.proofs.Common.{rules};
+    ghost use Rattle.server_trait.specs.Service.{short_greeting};
     ghost use Rattle.counter_service.specs.Counter.{counter_started, counter_after};
     ghost use Rattle.counter_service.specs.Laws.{length-counter_after-le, bytes-counter};
 
     ghost started = { λ _. counter_started };
 
     ghost after = { counter_after };
+
+    fn greeting(&self) -> &[u8] {
+        &[]
+    }
 
     fn fresh(_alloc: Global, _kind: u8) -> Counter {
         Counter { count: 0 }
@@ -55,6 +60,8 @@ impl Service for Counter {
     }
 
     ghost closes = { λ _. Prim.search rules };
+
+    ghost greets_shortly = { short_greeting };
 
     ghost is_short = { length-counter_after-le };
 

@@ -1,7 +1,7 @@
 -- One of the four services, chosen by a number: 1 Echo, 2 Line, 3 Transfer, 4 Meter, and every other number Echo.
 use Rattle.std.specs.Prelude.{ℕ, List, ◌==◌, Option, if◌then◌else◌}
 use Rattle.std.specs.Option.{option_map}
-use Rattle.server_trait.specs.Service.{Served, Machine, machine}
+use Rattle.server_trait.specs.Service.{Served, Machine, silent}
 use Rattle.sample_servers.specs.OneState.{empty_form, only_state}
 use Rattle.sample_servers.specs.Echo.{echo_started, echo_after}
 use Rattle.sample_servers.specs.Line.{line_started, line_after, line_form, line_state_of}
@@ -30,7 +30,7 @@ any_after (Meter meter) chunk = mapped Meter (meter_after meter chunk)
 
 -- the service of each kind as runs see it
 abbrev pub any_machine : ℕ → Machine AnyService
-any_machine kind = machine (any_started kind) any_after
+any_machine kind = silent (any_started kind) any_after
 
 -- its saved form: that of the service in it. Which service it is isn't saved, since its kind says so
 abbrev pub any_form : AnyService → List ℕ

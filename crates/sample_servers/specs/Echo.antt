@@ -1,6 +1,6 @@
 -- Echo: the output of a chunk is the chunk. The empty chunk closes.
 use Rattle.std.specs.Prelude.{ℕ, List, length, ◌==◌}
-use Rattle.server_trait.specs.Service.{Served, Machine, machine}
+use Rattle.server_trait.specs.Service.{Served, Machine, silent}
 use Rattle.sample_servers.specs.declared.echo.Echo.{Echo}
 
 -- its only state
@@ -13,4 +13,4 @@ echo_after echo chunk = record { next = echo; output = chunk; closed = length ch
 
 -- the service as runs see it
 abbrev pub echo_machine : Machine Echo
-echo_machine = machine echo_started echo_after
+echo_machine = silent echo_started echo_after

@@ -1,5 +1,6 @@
 -- The output of a chunk is short: proofs for the laws of the services.
-use Rattle.std.proofs.Common.{◌≡◌, ℕ, zero, suc, ◌+◌, ◌*◌, ◌/◌, ◌^◌, ◌≤◌, ◌==◌, Bool, true, false, List, [], ◌∷◌, ◌++◌, length, min, refl, ap, arith, length-append, length-take}
+use Rattle.std.proofs.Common.{◌≡◌, ℕ, zero, suc, ◌+◌, ◌*◌, ◌/◌, ◌^◌, ◌≤◌, ◌==◌, Bool, true, false, List, [], ◌∷◌, ◌++◌, length, min, refl, ap, arith}
+use Rattle.std.proofs.Common.{length-append, length-take}
 use Rattle.std.specs.Prelude.{decimal, if◌then◌else◌}
 use Rattle.std.proofs.lemmas.Fmt.{length-decimal-le}
 use Rattle.server_trait.specs.Service.{Served}
@@ -25,7 +26,8 @@ length-length_line-le chunk short =
     grind (arith, length-append {A = ℕ})
 
 -- a step and what comes after it are no longer than both
-pub length-and_then-le : {S : Type 0} (next : S) (output : List ℕ) (closed : Bool) (f : S → Served S) (n : ℕ) → length output + length (f next).output ≤ n → length (and_then (record { next = next; output = output; closed = closed }) f).output ≤ n
+pub length-and_then-le : {S : Type 0} (next : S) (output : List ℕ) (closed : Bool) (f : S → Served S) (n : ℕ) → length output + length (f next).output ≤ n
+    → length (and_then (record { next = next; output = output; closed = closed }) f).output ≤ n
 length-and_then-le next output true f n within = omega arith
 length-and_then-le next output false f n within = rw length-append within
 
@@ -67,7 +69,11 @@ length-bytes_served-le s chunk short =
 
 pub length-transfer_after-le : (s : transfer.TransferState) (chunk : List ℕ) → length chunk ≤ 2048 → length (transfer_after s chunk).output ≤ 2 ^ 20
 length-transfer_after-le s chunk short =
-    length-if-le (length chunk == 0) (record { next = s; output = []; closed = true }) (bytes_served s chunk) (2 ^ 20) (omega arith) (length-bytes_served-le s chunk short)
+    length-if-le (length chunk == 0) (record {
+      next = s;
+      output = [];
+      closed = true;
+    }) (bytes_served s chunk) (2 ^ 20) (omega arith) (length-bytes_served-le s chunk short)
 
 -- a line comes back with at most 22 more bytes around it
 pub length-line_finished-le : (finished : ℕ) (line : List ℕ) → length (line_finished finished line).output ≤ min 1024 (length line) + 22
@@ -82,7 +88,8 @@ unfolding line_finished
 held-line_finished finished line = grind arith
 
 -- one byte adds at most 23 bytes to the output and the unfinished line together
-pub length-line_byte-le : (s : LineState) (byte : ℕ) → length (line_byte s byte).output + min 1024 (length (line_byte s byte).next.held) ≤ min 1024 (length s.held) + 23
+pub length-line_byte-le : (s : LineState) (byte : ℕ)
+    → length (line_byte s byte).output + min 1024 (length (line_byte s byte).next.held) ≤ min 1024 (length s.held) + 23
 length-line_byte-le s byte =
     let line = s.held ++ byte ∷ [] in
     let longer : length line ≡ length s.held + 1 = length-append s.held (byte ∷ []) in

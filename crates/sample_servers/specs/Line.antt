@@ -1,9 +1,10 @@
 -- Line: the input is split at line feeds, and each line comes back with its number. It is a fold over the bytes, so that a line may
 -- be cut over any number of chunks.
-use Rattle.std.specs.Prelude.{◌≡◌, ℕ, ◌<◌, ◌≤◌, drop, Bool, true, false, not, List, [], ◌∷◌, ◌++◌, ◌+◌, ◌-◌, ◌^◌, min, take, length, decimal, codes, bytes_eq, nat_lt, nat_le, ◌==◌, ◌&&◌, Option, Some, None, if◌then◌else◌}
+use Rattle.std.specs.Prelude.{◌≡◌, ℕ, ◌<◌, ◌≤◌, drop, Bool, true, false, not, List, [], ◌∷◌, ◌++◌, ◌+◌, ◌-◌, ◌^◌, min, take, length, decimal, codes}
+use Rattle.std.specs.Prelude.{bytes_eq, nat_lt, nat_le, ◌==◌, ◌&&◌, Option, Some, None, if◌then◌else◌}
 use Rattle.std.specs.List.{All, list_any}
 use Rattle.std.specs.Int.{w64, to_be_bytes, from_be_bytes}
-use Rattle.server_trait.specs.Service.{Served, Machine, machine}
+use Rattle.server_trait.specs.Service.{Served, Machine, silent}
 use Rattle.sample_servers.specs.Stream.{waiting, and_then, each_byte}
 use Rattle.sample_servers.specs.declared.line.Piece.{Piece}
 use Rattle.sample_servers.specs.declared.line.Piece.TheVariants.{Ends, GoesOn}
@@ -59,7 +60,7 @@ line_after state chunk = if length chunk == 0 then line_end state else each_byte
 
 -- the service as runs see it
 abbrev pub line_machine : Machine LineState
-line_machine = machine line_started line_after
+line_machine = silent line_started line_after
 
 -- its saved form: how many lines are finished, in 8 bytes, and then the bytes of the unfinished one
 abbrev pub line_form : LineState → List ℕ
@@ -86,7 +87,8 @@ pub record EndsAt (state : LineState) (bytes : List ℕ) (len used : ℕ) : Type
   pub within : len ≤ used
   pub some : 0 < used
   pub enough : used ≤ length bytes
-  pub served : each_byte line_byte state bytes ≡ and_then (line_finished state.finished (state.held ++ take len bytes)) (λ next. each_byte line_byte next (drop used bytes))
+  pub served : each_byte line_byte state bytes
+      ≡ and_then (line_finished state.finished (state.held ++ take len bytes)) (λ next. each_byte line_byte next (drop used bytes))
 
 -- the unfinished line continues through all the bytes
 pub record StaysOpen (state : LineState) (bytes : List ℕ) : Type 0 where

@@ -1,5 +1,6 @@
 -- Each service's saved form is read back: proofs for the laws of the services.
-use Rattle.std.proofs.Common.{◌≡◌, ℕ, zero, suc, ◌<◌, ◌≤◌, ◌==◌, ◌&&◌, Bool, true, false, List, [], ◌∷◌, ◌++◌, length, take, drop, Option, Some, None, refl, sym, ap, subst, ◌∙◌, arith}
+use Rattle.std.proofs.Common.{◌≡◌, ℕ, zero, suc, ◌<◌, ◌≤◌, ◌==◌, ◌&&◌, Bool, true, false, List, [], ◌∷◌, ◌++◌, length, take, drop, Option, Some, None}
+use Rattle.std.proofs.Common.{refl, sym, ap, subst, ◌∙◌, arith}
 use Rattle.std.specs.Prelude.{nat_lt, nat_le, get_or, if◌then◌else◌}
 use Rattle.std.specs.Option.{option_map}
 use Rattle.std.specs.Int.{w64, to_be_bytes, from_be_bytes}
@@ -8,7 +9,7 @@ use Rattle.std.proofs.lemmas.List.{length-take-le, take-append-drop, nil_from_le
 use Rattle.std.proofs.lemmas.Option.{none-some}
 use Rattle.std.proofs.lemmas.Bool.{lt-ltb}
 use Rattle.ft_io.proofs.Choices.{by_cases, same_some}
-use Rattle.server_trait.specs.Service.{Machine, Run, machine, AreBytes, with_served, fold, fold_from}
+use Rattle.server_trait.specs.Service.{Machine, Run, silent, AreBytes, with_served, fold, fold_from}
 use Rattle.server_trait.specs.Saved.{Writing, writing, IsReadBack, ReadsBack, HasOneForm}
 use Rattle.sample_servers.specs.Line.{LineState, line_started, line_machine, line_form, is_unfinished, line_state_of}
 use Rattle.sample_servers.specs.Transfer.{TransferState, held_bytes, transfer_started, transfer_machine, transfer_form, held_of, transfer_state_of}
@@ -28,7 +29,8 @@ abbrev pub mapped_run : {A B : Type 0} → (A → B) → Run A → Run B
 mapped_run to run = record { state = to run.state; output = run.output; closed = run.closed }
 
 -- a service with one state is read back from no bytes
-pub only_read_back : {State : Type 0} (service : Machine State) (state : State) → ((s : State) → s ≡ state) → ReadsBack service (writing empty_form (only_state state))
+pub only_read_back : {State : Type 0} (service : Machine State) (state : State) → ((s : State) → s ≡ state)
+    → ReadsBack service (writing empty_form (only_state state))
 only_read_back service state only chunks given running = record {
   same = ap Some (sym (only (fold service chunks).state));
   short = omega arith;
@@ -69,7 +71,7 @@ line_back s line =
     }
 
 pub line_reads_back : ReadsBack line_machine (writing line_form line_state_of)
-line_reads_back chunks given running = line_back (fold line_machine chunks).state (run_kept line_machine IsLine fresh_line served_line chunks given).1
+line_reads_back chunks given running = line_back (fold line_machine chunks).state (run_kept line_machine IsLine tt fresh_line served_line chunks given).1
 
 line_same : (bytes : List ℕ) (s : LineState) → AreBytes bytes → 8 ≤ length bytes
     → Some (record { finished = from_be_bytes w64 (take 8 bytes); held = drop 8 bytes }) ≡ Some s → line_form s ≡ bytes
@@ -81,7 +83,8 @@ line_same bytes s given long same =
 
 pub line_one_form : HasOneForm (writing line_form line_state_of)
 line_one_form bytes s given same =
-    let there = when_some (nat_le 8 (length bytes) && is_unfinished (drop 8 bytes)) (record { finished = from_be_bytes w64 (take 8 bytes); held = drop 8 bytes }) s same in
+    let there = when_some (nat_le 8 (length bytes)
+    && is_unfinished (drop 8 bytes)) (record { finished = from_be_bytes w64 (take 8 bytes); held = drop 8 bytes }) s same in
     let long : 8 ≤ length bytes = let t = there.0 in grind arith in
     line_same bytes s given long there.1
 
@@ -104,9 +107,10 @@ transfer_back s transfer =
 
 pub transfer_reads_back : ReadsBack transfer_machine (writing transfer_form transfer_state_of)
 transfer_reads_back chunks given running =
-    transfer_back (fold transfer_machine chunks).state (run_kept transfer_machine IsTransfer fresh_transfer served_transfer chunks given).1
+    transfer_back (fold transfer_machine chunks).state (run_kept transfer_machine IsTransfer tt fresh_transfer served_transfer chunks given).1
 
-held_same : (bytes : List ℕ) (place : ℕ) (s : TransferState) → option_map (λ held. record { place = place; held = held }) (held_of bytes) ≡ Some s → transfer_form s ≡ place ∷ bytes
+held_same : (bytes : List ℕ) (place : ℕ) (s : TransferState) → option_map (λ held. record { place = place; held = held }) (held_of bytes) ≡ Some s
+    → transfer_form s ≡ place ∷ bytes
 held_same [] place s same = ap transfer_form (sym (same_some same))
 held_same (a ∷ []) place s same = ap transfer_form (sym (same_some same))
 held_same (a ∷ b ∷ []) place s same = ap transfer_form (sym (same_some same))
@@ -117,13 +121,17 @@ pub transfer_one_form : HasOneForm (writing transfer_form transfer_state_of)
 transfer_one_form [] s given same = absurd (none-some s same)
 transfer_one_form (place ∷ bytes) s given same =
     by_cases (nat_lt place 251)
-    (λ small. held_same bytes place s (subst (λ b. (if b then option_map (λ held. record { place = place; held = held }) (held_of bytes) else None) ≡ Some s) small same))
-    (λ large. absurd (none-some s (subst (λ b. (if b then option_map (λ held. record { place = place; held = held }) (held_of bytes) else None) ≡ Some s) large same)))
+    (λ small. held_same bytes place s (subst (λ b. (if b then option_map (λ held. record { place = place; held = held }) (held_of bytes) else None)
+    ≡ Some s) small same))
+    (λ large. absurd (none-some s (subst (λ b. (if b then option_map (λ held. record { place = place; held = held }) (held_of bytes) else None)
+    ≡ Some s) large same)))
 
 -- a service that does what another does, with its state as one of another type
-mapped_fold : {A B : Type 0} (to : A → B) (service : Machine A) (other : Machine B) → ((s : A) (chunk : List ℕ) → other.after (to s) chunk ≡ mapped to (service.after s chunk))
+mapped_fold : {A B : Type 0} (to : A → B) (service : Machine A) (other : Machine B)
+    → ((s : A) (chunk : List ℕ) → other.after (to s) chunk ≡ mapped to (service.after s chunk))
     → (state : A) (output : List ℕ) (closed : Bool) (chunks : List (List ℕ))
-    → fold_from other (record { state = to state; output = output; closed = closed }) chunks ≡ mapped_run to (fold_from service (record { state = state; output = output; closed = closed }) chunks)
+    → fold_from other (record { state = to state; output = output; closed = closed }) chunks
+    ≡ mapped_run to (fold_from service (record { state = state; output = output; closed = closed }) chunks)
 mapped_fold to service other step state output closed [] = refl
 mapped_fold to service other step state output true (chunk ∷ chunks) = mapped_fold to service other step state output true chunks
 mapped_fold to service other step state output false (chunk ∷ chunks) =
@@ -133,12 +141,14 @@ mapped_fold to service other step state output false (chunk ∷ chunks) =
 
 -- is read back where the other is
 mapped_reads_back : {A B : Type 0} (to : A → B) (service : Machine A) (other : Machine B) (own : Writing A) (written : Writing B)
-    → other.fresh ≡ to service.fresh → ((s : A) (chunk : List ℕ) → other.after (to s) chunk ≡ mapped to (service.after s chunk))
+    → other.fresh ≡ to service.fresh → other.greeting ≡ service.greeting
+    → ((s : A) (chunk : List ℕ) → other.after (to s) chunk ≡ mapped to (service.after s chunk))
     → ((s : A) → written.form (to s) ≡ own.form s) → ((bytes : List ℕ) → written.state_of bytes ≡ option_map to (own.state_of bytes))
     → ReadsBack service own → ReadsBack other written
-mapped_reads_back to service other own written start step form state_of back chunks given running =
+mapped_reads_back to service other own written start greets step form state_of back chunks given running =
     let run : fold other chunks ≡ mapped_run to (fold service chunks) =
-    ap (λ s. fold_from other (record { state = s; output = []; closed = false }) chunks) start ∙ mapped_fold to service other step service.fresh [] false chunks in
+    (λ j. fold_from other (record { state = start j; output = greets j; closed = false }) chunks)
+    ∙ mapped_fold to service other step service.fresh service.greeting false chunks in
     let s = (fold service chunks).state in
     let there : IsReadBack own s = back chunks given (sym (ap (λ r. r.closed) run) ∙ running) in
     subst (λ r. IsReadBack written r.state) (sym run) (record {
@@ -148,15 +158,16 @@ mapped_reads_back to service other own written start step form state_of back chu
     })
 
 -- what is found by way of another service is the image of what it finds
-mapped_same : {A B : Type 0} (to : A → B) (found : Option A) (t : B) (P : B → Type 0) → option_map to found ≡ Some t → ((s : A) → found ≡ Some s → P (to s)) → P t
+mapped_same : {A B : Type 0} (to : A → B) (found : Option A) (t : B) (P : B → Type 0) → option_map to found ≡ Some t → ((s : A) → found ≡ Some s → P (to s))
+    → P t
 mapped_same to None t P same holds = absurd (none-some t same)
 mapped_same to (Some s) t P same holds = subst P (same_some same) (holds s refl)
 
 pub echo_reads_back : ReadsBack echo_machine (writing empty_form (only_state echo_started))
 echo_reads_back = only_read_back echo_machine echo_started (λ s. refl)
 
-pub meter_reads_back : ReadsBack (machine meter_started meter_after) (writing empty_form (only_state meter_started))
-meter_reads_back = only_read_back (machine meter_started meter_after) meter_started (λ s. refl)
+pub meter_reads_back : ReadsBack (silent meter_started meter_after) (writing empty_form (only_state meter_started))
+meter_reads_back = only_read_back (silent meter_started meter_after) meter_started (λ s. refl)
 
 -- the machine and the forms of a service out of the four, by the three tests of its kind
 abbrev pub chosen : Bool → Bool → Bool → AnyService
@@ -170,19 +181,22 @@ chosen_state a b c bytes =
     else (if b then option_map services.Transfer (transfer_state_of bytes)
     else (if c then option_map services.Meter (only_state meter_started bytes) else option_map services.Echo (only_state echo_started bytes)))
 
-chosen_reads_back : (a b c : Bool) → ReadsBack (machine (chosen a b c) any_after) (writing any_form (chosen_state a b c))
+chosen_reads_back : (a b c : Bool) → ReadsBack (silent (chosen a b c) any_after) (writing any_form (chosen_state a b c))
 chosen_reads_back true b c =
-    mapped_reads_back services.Line line_machine (machine (services.Line line_started) any_after) (writing line_form line_state_of) (writing any_form (chosen_state true b c))
-    refl (λ s chunk. refl) (λ s. refl) (λ bytes. refl) line_reads_back
+    mapped_reads_back services.Line line_machine (silent (services.Line line_started) any_after) (writing line_form line_state_of)
+    (writing any_form (chosen_state true b c))
+    refl refl (λ s chunk. refl) (λ s. refl) (λ bytes. refl) line_reads_back
 chosen_reads_back false true c =
-    mapped_reads_back services.Transfer transfer_machine (machine (services.Transfer transfer_started) any_after) (writing transfer_form transfer_state_of) (writing any_form (chosen_state false true c))
-    refl (λ s chunk. refl) (λ s. refl) (λ bytes. refl) transfer_reads_back
+    mapped_reads_back services.Transfer transfer_machine (silent (services.Transfer transfer_started) any_after) (writing transfer_form transfer_state_of)
+    (writing any_form (chosen_state false true c))
+    refl refl (λ s chunk. refl) (λ s. refl) (λ bytes. refl) transfer_reads_back
 chosen_reads_back false false true =
-    mapped_reads_back services.Meter (machine meter_started meter_after) (machine (services.Meter meter_started) any_after) (writing empty_form (only_state meter_started))
-    (writing any_form (chosen_state false false true)) refl (λ s chunk. refl) (λ s. refl) (λ bytes. refl) meter_reads_back
+    mapped_reads_back services.Meter (silent meter_started meter_after) (silent (services.Meter meter_started) any_after)
+    (writing empty_form (only_state meter_started))
+    (writing any_form (chosen_state false false true)) refl refl (λ s chunk. refl) (λ s. refl) (λ bytes. refl) meter_reads_back
 chosen_reads_back false false false =
-    mapped_reads_back services.Echo echo_machine (machine (services.Echo echo_started) any_after) (writing empty_form (only_state echo_started))
-    (writing any_form (chosen_state false false false)) refl (λ s chunk. refl) (λ s. refl) (λ bytes. refl) echo_reads_back
+    mapped_reads_back services.Echo echo_machine (silent (services.Echo echo_started) any_after) (writing empty_form (only_state echo_started))
+    (writing any_form (chosen_state false false false)) refl refl (λ s chunk. refl) (λ s. refl) (λ bytes. refl) echo_reads_back
 
 pub any_reads_back : (kind : ℕ) → ReadsBack (any_machine kind) (writing any_form (any_state_of kind))
 any_reads_back kind = chosen_reads_back (kind == 2) (kind == 3) (kind == 4)

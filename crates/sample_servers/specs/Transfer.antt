@@ -1,9 +1,10 @@
 -- Transfer: the input is requests of four bytes, each a number, big-endian. A request gives as many bytes as it says, at most 2,047,
 -- of the pattern whose byte i, over the whole output, is i modulo 251. Request 0 closes.
-use Rattle.std.specs.Prelude.{sum_by, ℕ, zero, suc, true, false, List, [], ◌∷◌, ◌++◌, ◌+◌, ◌*◌, ◌%◌, min, length, nat_lt, ◌==◌, Option, Some, None, if◌then◌else◌}
+use Rattle.std.specs.Prelude.{sum_by, ℕ, zero, suc, true, false, List, [], ◌∷◌, ◌++◌, ◌+◌, ◌*◌, ◌%◌, min, length, nat_lt, ◌==◌, Option, Some, None}
+use Rattle.std.specs.Prelude.{if◌then◌else◌}
 use Rattle.std.specs.List.{before_first}
 use Rattle.std.specs.Option.{option_map}
-use Rattle.server_trait.specs.Service.{Served, Machine, machine}
+use Rattle.server_trait.specs.Service.{Served, Machine, silent}
 use Rattle.sample_servers.specs.Stream.{waiting, and_then}
 use Rattle.sample_servers.specs.declared.transfer.Held.{Held}
 use Rattle.sample_servers.specs.declared.transfer.Held.TheVariants.{Nothing, One, Two, Three}
@@ -74,7 +75,7 @@ transfer_after transfer chunk =
 
 -- the service as runs see it
 abbrev pub transfer_machine : Machine TransferState
-transfer_machine = machine transfer_started transfer_after
+transfer_machine = silent transfer_started transfer_after
 
 -- its saved form: how many bytes are written, modulo 251, in one byte, and then the bytes of an incomplete request
 abbrev pub transfer_form : TransferState → List ℕ

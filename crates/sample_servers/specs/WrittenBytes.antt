@@ -4,15 +4,17 @@ use Rattle.std.specs.Prelude.{decimal, codes, bytes_eq, nat_lt, if◌then◌else
 use Rattle.std.specs.Fmt.{digit_glyph, digits, digits_onto}
 use Rattle.std.specs.List.{AllByRecursion}
 use Rattle.std.proofs.lemmas.List.Folds.{list_any-append}
-use Rattle.server_trait.specs.Service.{Served, Machine, Run, machine, AreBytes, WritesBytes, fold, fold_from}
+use Rattle.server_trait.specs.Service.{Served, Machine, Run, silent, AreBytes, WritesBytes, fold, fold_from}
 use Rattle.sample_servers.specs.Stream.{waiting, and_then, each_byte}
 use Rattle.sample_servers.specs.Echo.{echo_started, echo_after}
 use Rattle.sample_servers.specs.Meter.{meter_started, meter_after, length_line}
 use Rattle.sample_servers.specs.AnyService.{any_started, any_after}
 use Rattle.sample_servers.specs.declared.any_service.AnyService.{AnyService}
 use Rattle.sample_servers.specs.declared.any_service.AnyService.TheVariants.{Echo, Line, Transfer, Meter}
-use Rattle.sample_servers.specs.Line.{LineState, number_after, numbered, line_started, line_finished, line_longer, line_byte, line_end, line_after, is_unfinished}
-use Rattle.sample_servers.specs.Transfer.{held_bytes, request_of, size_of, pattern, request_served, requests_served, bytes_served, transfer_started, transfer_after}
+use Rattle.sample_servers.specs.Line.{LineState, number_after, numbered, line_started, line_finished, line_longer, line_byte, line_end, line_after}
+use Rattle.sample_servers.specs.Line.{is_unfinished}
+use Rattle.sample_servers.specs.Transfer.{held_bytes, request_of, size_of, pattern, request_served, requests_served, bytes_served, transfer_started}
+use Rattle.sample_servers.specs.Transfer.{transfer_after}
 use Rattle.sample_servers.specs.Transfer as transfer
 use Rattle.sample_servers.specs.declared.transfer.Held.TheVariants.{Nothing}
 
@@ -35,7 +37,8 @@ served_if P true s t left right = left
 served_if P false s t left right = right
 
 -- the same, where each side may take the choice for granted
-served_when : {S : Type 0} (P : S → Type 0) (b : Bool) (s t : Served S) → (b ≡ true → IsServed P s) → (b ≡ false → IsServed P t) → IsServed P (if b then s else t)
+served_when : {S : Type 0} (P : S → Type 0) (b : Bool) (s t : Served S) → (b ≡ true → IsServed P s) → (b ≡ false → IsServed P t)
+    → IsServed P (if b then s else t)
 served_when P true s t left right = left refl
 served_when P false s t left right = right refl
 
@@ -61,14 +64,14 @@ served_fed service P step state output false (chunk ∷ chunks) here bytes given
     served_fed service P step served.next (output ++ served.output) served.closed chunks one.1 (bytes_append output served.output bytes one.0) given.1
 
 -- a run writes bytes, and its state satisfies the invariant, where each step does so from a state that satisfies it
-pub run_kept : {S : Type 0} (service : Machine S) (P : S → Type 0) → P service.fresh
+pub run_kept : {S : Type 0} (service : Machine S) (P : S → Type 0) → AreBytes service.greeting → P service.fresh
     → ((s : S) (chunk : List ℕ) → P s → AreBytes chunk → IsServed P (service.after s chunk))
     → (chunks : List (List ℕ)) → AllByRecursion AreBytes chunks → IsRunning P (fold service chunks)
-run_kept service P start step chunks given = served_fed service P step service.fresh [] false chunks start tt given
+run_kept service P civil start step chunks given = served_fed service P step service.fresh service.greeting false chunks start civil given
 
-pub bytes_fold : {S : Type 0} (service : Machine S) (P : S → Type 0) → P service.fresh
+pub bytes_fold : {S : Type 0} (service : Machine S) (P : S → Type 0) → AreBytes service.greeting → P service.fresh
     → ((s : S) (chunk : List ℕ) → P s → AreBytes chunk → IsServed P (service.after s chunk)) → WritesBytes service
-bytes_fold service P start step chunks given = (run_kept service P start step chunks given).0
+bytes_fold service P civil start step chunks given = (run_kept service P civil start step chunks given).0
 
 -- the invariant of a service that has only one state: it says nothing
 abbrev pub Anything : {S : Type 0} → S → Type 0
@@ -92,7 +95,8 @@ bytes_decimal n = bytes_digits_onto 64 n [] tt
 
 bytes_length_line : (chunk : List ℕ) → AreBytes (length_line chunk)
 bytes_length_line chunk =
-    bytes_if (length chunk == 0) [] (decimal (length chunk) ++ codes "\n") tt (bytes_append (decimal (length chunk)) (codes "\n") (bytes_decimal (length chunk)) (omega arith, tt))
+    bytes_if (length chunk == 0) [] (decimal (length chunk) ++ codes "\n") tt
+    (bytes_append (decimal (length chunk)) (codes "\n") (bytes_decimal (length chunk)) (omega arith, tt))
 
 bytes_pattern : (place size : ℕ) → AreBytes (pattern place size)
 unfolding pattern
@@ -180,22 +184,23 @@ served_line_end s held =
     (tt, held) (served_line_finished s.finished s.held held.number held.bytes)
 
 pub served_line : (s : LineState) (chunk : List ℕ) → IsLine s → AreBytes chunk → IsServed IsLine (line_after s chunk)
-served_line s chunk held given = served_if IsLine (length chunk == 0) (line_end s) (each_byte line_byte s chunk) (served_line_end s held) (served_line_bytes s chunk held given)
+served_line s chunk held given = served_if IsLine (length chunk == 0) (line_end s) (each_byte line_byte s chunk) (served_line_end s held)
+    (served_line_bytes s chunk held given)
 
-pub bytes-echo : WritesBytes (machine echo_started echo_after)
-bytes-echo = bytes_fold (machine echo_started echo_after) Anything tt (λ s chunk _ given. (given, tt))
+pub bytes-echo : WritesBytes (silent echo_started echo_after)
+bytes-echo = bytes_fold (silent echo_started echo_after) Anything tt tt (λ s chunk _ given. (given, tt))
 
 pub fresh_line : IsLine line_started
 fresh_line = record { number = omega arith; bytes = tt; unfinished = refl }
 
-pub bytes-line : WritesBytes (machine line_started line_after)
-bytes-line = bytes_fold (machine line_started line_after) IsLine fresh_line served_line
+pub bytes-line : WritesBytes (silent line_started line_after)
+bytes-line = bytes_fold (silent line_started line_after) IsLine tt fresh_line served_line
 
-pub bytes-transfer : WritesBytes (machine transfer_started transfer_after)
-bytes-transfer = bytes_fold (machine transfer_started transfer_after) IsTransfer fresh_transfer served_transfer
+pub bytes-transfer : WritesBytes (silent transfer_started transfer_after)
+bytes-transfer = bytes_fold (silent transfer_started transfer_after) IsTransfer tt fresh_transfer served_transfer
 
-pub bytes-meter : WritesBytes (machine meter_started meter_after)
-bytes-meter = bytes_fold (machine meter_started meter_after) Anything tt (λ s chunk _ _. (bytes_length_line chunk, tt))
+pub bytes-meter : WritesBytes (silent meter_started meter_after)
+bytes-meter = bytes_fold (silent meter_started meter_after) Anything tt tt (λ s chunk _ _. (bytes_length_line chunk, tt))
 
 -- the invariant of a service out of the four
 abbrev pub IsAny : AnyService → Type 0
@@ -213,11 +218,12 @@ served_any (Meter meter) chunk held given = (bytes_length_line chunk, tt)
 any_started_is : (kind : ℕ) → IsAny (any_started kind)
 any_started_is kind = start (kind == 2) (kind == 3) (kind == 4)
   where
-    start : (a b c : Bool) → IsAny (if a then Line line_started else (if b then Transfer transfer_started else (if c then Meter meter_started else Echo echo_started)))
+    start : (a b c : Bool) → IsAny (if a then Line line_started
+        else (if b then Transfer transfer_started else (if c then Meter meter_started else Echo echo_started)))
     start true b c = fresh_line
     start false true c = fresh_transfer
     start false false true = tt
     start false false false = tt
 
-pub bytes-any : (kind : ℕ) → WritesBytes (machine (any_started kind) any_after)
-bytes-any kind = bytes_fold (machine (any_started kind) any_after) IsAny (any_started_is kind) served_any
+pub bytes-any : (kind : ℕ) → WritesBytes (silent (any_started kind) any_after)
+bytes-any kind = bytes_fold (silent (any_started kind) any_after) IsAny tt (any_started_is kind) served_any

@@ -20,10 +20,15 @@ impl Service for AnyService {
     ghost use Rattle.sample_servers.specs.AnyService.{any_started, any_after};
     ghost use Rattle.sample_servers.specs.Lengths.{closed-any_after, length-any_after-le};
     ghost use Rattle.sample_servers.specs.WrittenBytes.{bytes-any};
+    ghost use Rattle.server_trait.specs.Service.{short_greeting};
 
     ghost started = { any_started };
 
     ghost after = { any_after };
+
+    fn greeting(&self) -> &[u8] {
+        &[]
+    }
 
     fn fresh(alloc: Global, kind: u8) -> AnyService {
         match kind {
@@ -44,6 +49,8 @@ impl Service for AnyService {
     }
 
     ghost closes = { closed-any_after };
+
+    ghost greets_shortly = { short_greeting };
 
     ghost is_short = { length-any_after-le };
 

@@ -14,10 +14,15 @@ impl Service for Echo {
     ghost use Rattle.std.proofs.Common.{rules};
     ghost use Rattle.sample_servers.specs.Echo.{echo_started, echo_after};
     ghost use Rattle.sample_servers.specs.WrittenBytes.{bytes-echo};
+    ghost use Rattle.server_trait.specs.Service.{short_greeting};
 
     ghost started = { λ _. echo_started };
 
     ghost after = { echo_after };
+
+    fn greeting(&self) -> &[u8] {
+        &[]
+    }
 
     fn fresh(_alloc: Global, _kind: u8) -> Echo {
         Echo
@@ -33,6 +38,8 @@ impl Service for Echo {
     }
 
     ghost closes = { λ _. Prim.search rules };
+
+    ghost greets_shortly = { short_greeting };
 
     ghost is_short = { λ _ _ short. Prim.search rules };
 

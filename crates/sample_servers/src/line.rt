@@ -162,10 +162,15 @@ impl Service for Line {
     ghost use Rattle.sample_servers.specs.Line.{line_started, line_after};
     ghost use Rattle.sample_servers.specs.Lengths.{length-line_after-le, closed-line_after};
     ghost use Rattle.sample_servers.specs.WrittenBytes.{bytes-line};
+    ghost use Rattle.server_trait.specs.Service.{short_greeting};
 
     ghost started = { λ _. line_started };
 
     ghost after = { line_after };
+
+    fn greeting(&self) -> &[u8] {
+        &[]
+    }
 
     fn fresh(alloc: Global, _kind: u8) -> Line {
         Line {
@@ -182,6 +187,8 @@ impl Service for Line {
     }
 
     ghost closes = { closed-line_after };
+
+    ghost greets_shortly = { short_greeting };
 
     ghost is_short = { length-line_after-le };
 

@@ -16,10 +16,15 @@ impl Service for Meter {
     ghost use Rattle.sample_servers.specs.Meter.{meter_started, meter_after};
     ghost use Rattle.sample_servers.specs.Lengths.{length-length_line-le};
     ghost use Rattle.sample_servers.specs.WrittenBytes.{bytes-meter};
+    ghost use Rattle.server_trait.specs.Service.{short_greeting};
 
     ghost started = { λ _. meter_started };
 
     ghost after = { meter_after };
+
+    fn greeting(&self) -> &[u8] {
+        &[]
+    }
 
     fn fresh(_alloc: Global, _kind: u8) -> Meter {
         Meter
@@ -36,6 +41,8 @@ impl Service for Meter {
     }
 
     ghost closes = { λ _. Prim.search rules };
+
+    ghost greets_shortly = { short_greeting };
 
     ghost is_short = { λ _ chunk short. Prim.omega (arith, length-length_line-le chunk short) };
 

@@ -155,10 +155,15 @@ impl Service for Transfer {
     ghost use Rattle.sample_servers.specs.Transfer.{transfer_started, transfer_after};
     ghost use Rattle.sample_servers.specs.Lengths.{length-transfer_after-le};
     ghost use Rattle.sample_servers.specs.WrittenBytes.{bytes-transfer};
+    ghost use Rattle.server_trait.specs.Service.{short_greeting};
 
     ghost started = { λ _. transfer_started };
 
     ghost after = { transfer_after };
+
+    fn greeting(&self) -> &[u8] {
+        &[]
+    }
 
     fn fresh(_alloc: Global, _kind: u8) -> Transfer {
         Transfer {
@@ -175,6 +180,8 @@ impl Service for Transfer {
     }
 
     ghost closes = { λ _. Prim.search rules };
+
+    ghost greets_shortly = { short_greeting };
 
     ghost is_short = { length-transfer_after-le };
 

@@ -2,6 +2,7 @@
 -- machine whose only freedom is how long each read is).
 use Rattle.std.specs.Prelude.{ℕ, Bool, false, ◌≢◌, ◌<◌, ◌≤◌, List, [], ◌∷◌, ◌++◌, take, drop, length, sum, if◌then◌else◌}
 use Rattle.std.specs.List.{AllByRecursion}
+use Rattle.std.proofs.Common.{arith}
 use Rattle.server_trait.specs.declared.Next.{Next}
 use Rattle.server_trait.specs.declared.Next.TheVariants.{Go, Close}
 
@@ -11,9 +12,11 @@ pub record Served (State : Type 0) : Type 0 where
   pub output : List ℕ
   pub closed : Bool
 
--- a service as the definitions see it: the state in which it starts, and what it does with a chunk
+-- a service as the definitions see it: the state in which it starts, its greeting, that is, the output that is there before the first read, and what it does
+-- with a chunk
 pub record Machine (State : Type 0) : Type 0 where
   pub fresh : State
+  pub greeting : List ℕ
   pub after : State → List ℕ → Served State
 
 -- the state of a run of a service: the service's state, all its output so far, and whether it has closed
@@ -22,12 +25,22 @@ pub record Run (State : Type 0) : Type 0 where
   pub output : List ℕ
   pub closed : Bool
 
-abbrev pub machine : {State : Type 0} → State → (State → List ℕ → Served State) → Machine State
-machine fresh after = record { fresh = fresh; after = after }
+abbrev pub machine : {State : Type 0} → State → (State → List ℕ → Served State) → (State → List ℕ) → Machine State
+machine fresh after greeting = record { fresh = fresh; greeting = greeting fresh; after = after }
 
--- a run starts fresh, with no output, not closed
+-- a service that waits for its client: it has no greeting
+abbrev pub no_greeting : {State : Type 0} → State → List ℕ
+no_greeting state = []
+
+pub short_greeting : {State : Type 0} (state : State) → length (no_greeting state) ≤ 65535
+short_greeting state = omega arith
+
+abbrev pub silent : {State : Type 0} → State → (State → List ℕ → Served State) → Machine State
+silent fresh after = machine fresh after no_greeting
+
+-- a run starts fresh, with the greeting, not closed
 abbrev pub begun : {State : Type 0} → Machine State → Run State
-begun service = record { state = service.fresh; output = []; closed = false }
+begun service = record { state = service.fresh; output = service.greeting; closed = false }
 
 -- a run continues by what the service does with one more chunk
 abbrev pub with_served : {State : Type 0} → Run State → Served State → Run State

@@ -21,13 +21,20 @@ pub enum Next {
 
 /// A deterministic service. An empty chunk is the end of input.
 pub trait Service: Drop {
-    ghost use Rattle.server_trait.specs.Service.{Served, machine, WritesBytes, next_of};
+    ghost use Rattle.server_trait.specs.Service.{Served, machine, no_greeting, WritesBytes, next_of};
 
     /// The state in which a service of this kind starts.
     ghost started: { ℕ → Self };
 
     /// What a chunk does: the next state, the output, and whether the service closes.
     ghost after: { Self → List ℕ → Served Self };
+
+    /// The greeting of a service that starts in this state: its output before the first chunk. Most services have none.
+    ghost greeting: { Self → List ℕ } = { no_greeting };
+
+    /// Returns the greeting of a service in its first state.
+    fn greeting(&self) -> &[u8]
+        ensures { result.now ≡ greeting self.now };
 
     /// Returns a service of this kind in its first state. Allocates nothing.
     fn fresh(alloc: Global, kind: u8) -> Self
@@ -46,8 +53,11 @@ pub trait Service: Drop {
     /// The output of one chunk is at most a mebibyte.
     ghost is_short: { (s : Self) (chunk : List ℕ) → length chunk ≤ 2048 → length (after s chunk).output ≤ 2 ^ 20 };
 
+    /// A greeting is at most 65,535 bytes: all of it fits into the send buffer.
+    ghost greets_shortly: { (s : Self) → length (greeting s) ≤ 65535 };
+
     /// A service of any kind that is given bytes from its start on writes bytes.
-    ghost writes_bytes: { (kind : ℕ) → WritesBytes (machine (started kind) after) };
+    ghost writes_bytes: { (kind : ℕ) → WritesBytes (machine (started kind) after greeting) };
 }
 
 /// A service whose state can be saved as bytes, its form, and restored from them. Any service can implement this trait: one whose states aren't to be saved
@@ -79,7 +89,7 @@ pub trait Saved: Service {
         ensures { IfOk result (λ loaded. loaded ≡ state_of kind bytes.now) };
 
     /// Where states can be saved, each state that a run reaches before it closes is read back, and its form is at most 1,100 bytes.
-    ghost reads_back: { is_savable ≡ true → (kind : ℕ) → ReadsBack (machine (Self.started kind) Self.after) (writing form (state_of kind)) };
+    ghost reads_back: { is_savable ≡ true → (kind : ℕ) → ReadsBack (machine (Self.started kind) Self.after Self.greeting) (writing form (state_of kind)) };
 
     /// Bytes that are read as a state are its form.
     ghost one_form: { (kind : ℕ) → HasOneForm (writing form (state_of kind)) };

@@ -38,7 +38,7 @@ option_first word bytes k within none here =
     ∙ ap (λ (n : ℕ). same_word (trimmed (take n bytes)) word || any_option word (drop (n + 1) bytes)) place
 
 -- what is left after the last comma is the last part
-or_nothing : (b : Bool) → (b || false) ≡ b
+pub or_nothing : (b : Bool) → (b || false) ≡ b
 or_nothing true = refl
 or_nothing false = refl
 

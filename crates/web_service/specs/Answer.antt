@@ -8,7 +8,8 @@ use Rattle.web_service.specs.declared.request.Version.{Version}
 use Rattle.web_service.specs.declared.request.Version.TheVariants.{Ten, Eleven}
 use Rattle.web_service.specs.declared.request.Request.{Request}
 use Rattle.web_service.specs.declared.answer.Status.{Status}
-use Rattle.web_service.specs.declared.answer.Status.TheVariants.{Good, BadRequest, NotFound, MethodNotAllowed, UriTooLong, FieldsTooLarge, NotImplemented, Unavailable, VersionNotSupported}
+use Rattle.web_service.specs.declared.answer.Status.TheVariants.{Good, BadRequest, NotFound, MethodNotAllowed, UriTooLong, FieldsTooLarge}
+use Rattle.web_service.specs.declared.answer.Status.TheVariants.{NotImplemented, Unavailable, VersionNotSupported}
 
 -- the status line. Status 405 lists the methods that are allowed
 unfoldable pub status_line : Status → List ℕ

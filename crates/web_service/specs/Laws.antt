@@ -1,5 +1,6 @@
 -- What the trait requires of the web server: the output of a chunk is short, and consists of bytes.
-use Rattle.std.proofs.Common.{◌≡◌, ℕ, zero, suc, ◌+◌, ◌-◌, ◌%◌, ◌/◌, ◌^◌, ◌<◌, ◌≤◌, ◌==◌, Bool, true, false, List, [], ◌∷◌, ◌++◌, length, refl, arith, length-append}
+use Rattle.std.proofs.Common.{◌≡◌, ℕ, zero, suc, ◌+◌, ◌-◌, ◌%◌, ◌/◌, ◌^◌, ◌<◌, ◌≤◌, ◌==◌, Bool, true, false, List, [], ◌∷◌, ◌++◌, length, refl, arith}
+use Rattle.std.proofs.Common.{length-append}
 use Rattle.std.specs.Prelude.{Option, Some, None, nat_lt, decimal, codes, if◌then◌else◌}
 use Rattle.std.specs.Fmt.{digit_glyph, digits, digits_onto}
 use Rattle.std.proofs.lemmas.Fmt.{length-decimal-le}
@@ -13,15 +14,17 @@ use Rattle.web_service.specs.declared.request.Page.{Page}
 use Rattle.web_service.specs.declared.request.Page.TheVariants.{Home, Bytes, Count, Missing}
 use Rattle.web_service.specs.declared.request.Request.{Request}
 use Rattle.web_service.specs.declared.answer.Status.{Status}
-use Rattle.web_service.specs.declared.answer.Status.TheVariants.{Good, BadRequest, NotFound, MethodNotAllowed, UriTooLong, FieldsTooLarge, NotImplemented, Unavailable, VersionNotSupported}
-use Rattle.web_service.specs.Answer.{status_line, connection_line, head_of, made_bytes, made_lines, home_text, content, status_of, body_of, sent_body, closes, answer_of}
+use Rattle.web_service.specs.declared.answer.Status.TheVariants.{Good, BadRequest, NotFound, MethodNotAllowed, UriTooLong, FieldsTooLarge}
+use Rattle.web_service.specs.declared.answer.Status.TheVariants.{NotImplemented, Unavailable, VersionNotSupported}
+use Rattle.web_service.specs.Answer.{status_line, connection_line, head_of, made_bytes, made_lines, home_text, content, status_of, body_of, sent_body}
+use Rattle.web_service.specs.Answer.{closes, answer_of}
 use Rattle.web_service.specs.declared.answer.Reply.{Reply}
 use Rattle.web_service.specs.declared.answer.Reply.TheVariants.{Answer, Refusal}
 use Rattle.web_service.specs.Reader.{read_byte}
 use Rattle.web_service.specs.Web.{WebState, refused, answered, replied, answer_room, web_byte, web_after, web_machine}
 
 -- what holds of both sides of a choice holds of it
-either_way : {S : Type 0} (Q : S → Type 0) (b : Bool) (s t : S) → Q s → Q t → Q (if b then s else t)
+pub either_way : {S : Type 0} (Q : S → Type 0) (b : Bool) (s t : S) → Q s → Q t → Q (if b then s else t)
 either_way Q true s t left right = left
 either_way Q false s t left right = right
 
@@ -74,7 +77,8 @@ within_given : (room : ℕ) (answer : List ℕ) (next : WebState) (closed : Bool
 within_given room answer next closed rest fits = let more = still-le closed next.room in omega arith
 
 within_chosen : (state : WebState) (answer : List ℕ) (closed : Bool) (b : Bool) → nat_lt state.room (length answer) ≡ b
-    → IsWithin state.room (if b then refused state Unavailable else record { next = record state { room = state.room - length answer }; output = answer; closed = closed })
+    → IsWithin state.room (if b then refused state Unavailable
+    else record { next = record state { room = state.room - length answer }; output = answer; closed = closed })
 within_chosen state answer closed true is = within_refused state Unavailable
 within_chosen state answer closed false is =
     let fits : length answer ≤ state.room = grind (arith, nat_tests) in
@@ -105,7 +109,11 @@ pub length-web_after-le : (s : WebState) (chunk : List ℕ) → length chunk ≤
 length-web_after-le s chunk short =
     let roomy = record s { room = answer_room } in
     let most : length (each_byte web_byte roomy chunk).output ≤ 2 ^ 20 - 256 + 256 = length-each_byte-le roomy chunk in
-    either_way (λ (t : Served WebState). length t.output ≤ 2 ^ 20) (length chunk == 0) (record { next = s; output = []; closed = true }) (each_byte web_byte roomy chunk)
+    either_way (λ (t : Served WebState). length t.output ≤ 2 ^ 20) (length chunk == 0) (record {
+      next = s;
+      output = [];
+      closed = true;
+    }) (each_byte web_byte roomy chunk)
     (omega arith) (omega arith)
 
 bytes_append : (xs ys : List ℕ) → AreBytes xs → AreBytes ys → AreBytes (xs ++ ys)
@@ -119,12 +127,12 @@ bytes_digits_onto (suc k) n acc bytes =
     either_way AreBytes (n / 10 == 0) (digit_glyph false (n % 10) ∷ acc) (digits_onto k 10 false (n / 10) (digit_glyph false (n % 10) ∷ acc)) (digit, bytes)
     (bytes_digits_onto k (n / 10) (digit_glyph false (n % 10) ∷ acc) (digit, bytes))
 
-bytes_decimal : (n : ℕ) → AreBytes (decimal n)
+pub bytes_decimal : (n : ℕ) → AreBytes (decimal n)
 unfolding digits
 bytes_decimal n = bytes_digits_onto 64 n [] tt
 
 -- a text that is written out is bytes, by a test that computes
-abbrev bytes_test : List ℕ → Bool
+abbrev pub bytes_test : List ℕ → Bool
 bytes_test [] = true
 bytes_test (x ∷ xs) = if nat_lt x 256 then bytes_test xs else false
 
@@ -136,7 +144,7 @@ test_rest : (c rest : Bool) → (if c then rest else false) ≡ true → rest �
 test_rest true rest passes = passes
 test_rest false rest passes = cc
 
-bytes_text : (xs : List ℕ) → bytes_test xs ≡ true → AreBytes xs
+pub bytes_text : (xs : List ℕ) → bytes_test xs ≡ true → AreBytes xs
 bytes_text [] passes = tt
 bytes_text (x ∷ xs) passes =
     let small : nat_lt x 256 ≡ true = test_first (nat_lt x 256) (bytes_test xs) passes in
@@ -177,7 +185,8 @@ bytes_made_lines : (n : ℕ) → AreBytes (made_lines n)
 unfolding made_lines
 bytes_made_lines zero = tt
 bytes_made_lines (suc n) =
-    bytes_append (made_lines n ++ decimal (suc n)) (codes "\n") (bytes_append (made_lines n) (decimal (suc n)) (bytes_made_lines n) (bytes_decimal (suc n))) (bytes_text (codes "\n") refl)
+    bytes_append (made_lines n ++ decimal (suc n)) (codes "\n") (bytes_append (made_lines n) (decimal (suc n)) (bytes_made_lines n) (bytes_decimal (suc n)))
+    (bytes_text (codes "\n") refl)
 
 bytes_content : (page : Page) → AreBytes (content page)
 unfolding content home_text
@@ -232,4 +241,4 @@ bytes_after s chunk =
     (each_byte web_byte (record s { room = answer_room }) chunk) tt (bytes_each (record s { room = answer_room }) chunk)
 
 pub bytes-web : WritesBytes web_machine
-bytes-web = bytes_fold web_machine Anything tt (λ s chunk _ _. (bytes_after s chunk, tt))
+bytes-web = bytes_fold web_machine Anything tt tt (λ s chunk _ _. (bytes_after s chunk, tt))

@@ -1,6 +1,7 @@
 -- The bytes of a connection, read as one request after another (RFC 9112, section 2.1): a request line, field lines, an empty line, and a body. It is a fold
 -- over the bytes, so that a request may be cut over any number of chunks.
-use Rattle.std.specs.Prelude.{ℕ, ◌+◌, ◌-◌, Bool, false, ◌==◌, not, nat_lt, Option, Some, None, Result, Ok, Err, List, [], ◌∷◌, ◌++◌, length, take, drop, bytes_eq, codes, if◌then◌else◌}
+use Rattle.std.specs.Prelude.{ℕ, ◌+◌, ◌-◌, Bool, false, ◌==◌, not, nat_lt, Option, Some, None, Result, Ok, Err, List, [], ◌∷◌, ◌++◌, length, take}
+use Rattle.std.specs.Prelude.{drop, bytes_eq, codes, if◌then◌else◌}
 use Rattle.web_service.specs.Request.{request_line, with_field}
 use Rattle.web_service.specs.declared.request.Request.{Request}
 use Rattle.web_service.specs.declared.request.Version.{Version}

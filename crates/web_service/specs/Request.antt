@@ -1,5 +1,6 @@
 -- What a request says: its request line and its fields (RFC 9112, sections 3 and 5), as far as they matter to this server.
-use Rattle.std.specs.Prelude.{ℕ, Bool, true, false, ◌==◌, ◌&&◌, ◌||◌, not, nat_le, Some, None, is_some, Result, Ok, Err, List, length, take, drop, bytes_eq, codes, slice_index, if◌then◌else◌}
+use Rattle.std.specs.Prelude.{ℕ, Bool, true, false, ◌==◌, ◌&&◌, ◌||◌, not, nat_le, Some, None, is_some, Result, Ok, Err, List, length, take, drop}
+use Rattle.std.specs.Prelude.{bytes_eq, codes, slice_index, if◌then◌else◌}
 use Rattle.std.specs.List.{list_any, before_first, after_first, position_or_len}
 use Rattle.std.specs.Char.{is_ascii_digit}
 use Rattle.web_service.specs.Text.{is_plain, is_token, is_host, is_number, number, same_word, trimmed, has_option}
@@ -16,7 +17,8 @@ use Rattle.web_service.specs.declared.answer.Status.TheVariants.{BadRequest, Ver
 -- HTTP-version = "HTTP/" DIGIT "." DIGIT
 unfoldable pub is_version : List ℕ → Bool
 is_version word =
-    length word == 8 && bytes_eq (take 5 word) (codes "HTTP/") && is_ascii_digit (slice_index word 5) && slice_index word 6 == 46 && is_ascii_digit (slice_index word 7)
+    length word == 8 && bytes_eq (take 5 word) (codes "HTTP/") && is_ascii_digit (slice_index word 5) && slice_index word 6 == 46
+    && is_ascii_digit (slice_index word 7)
 
 -- a minor version above 1 is taken as 1
 unfoldable pub version_of : List ℕ → Result Version Status

@@ -1,6 +1,6 @@
 -- An HTTP/1.0 and 1.1 server as a service: each request is answered where its fields end.
 use Rattle.std.specs.Prelude.{ℕ, ◌-◌, ◌^◌, true, ◌==◌, nat_lt, Option, Some, None, List, [], length, if◌then◌else◌}
-use Rattle.server_trait.specs.Service.{Served, Machine, machine}
+use Rattle.server_trait.specs.Service.{Served, Machine, silent}
 use Rattle.sample_servers.specs.Stream.{waiting, each_byte}
 use Rattle.web_service.specs.Answer.{head_of, answer_of, closes}
 use Rattle.web_service.specs.Reader.{Reading, at_start, read_byte}
@@ -55,4 +55,4 @@ web_after state chunk =
 
 -- the service as runs see it
 abbrev pub web_machine : Machine WebState
-web_machine = machine web_started web_after
+web_machine = silent web_started web_after

@@ -1,7 +1,8 @@
 //! The answers to requests. Each is made from the request alone.
 
 ghost use Rattle.std.specs.Prelude.{◌≡◌, ℕ, ◌+◌, ◌^◌, ◌≤◌, Bool, true, false, List, [], ◌++◌, length, OnOk, IfOk};
-ghost use Rattle.web_service.specs.Answer.{status_line, connection_line, head_of, made_bytes, made_lines, content, is_found, allowed, status_of, body_of, sent_body, closes, closes_by_itself, answer_of};
+ghost use Rattle.web_service.specs.Answer.{status_line, connection_line, head_of, made_bytes, made_lines, content, is_found, allowed, status_of};
+ghost use Rattle.web_service.specs.Answer.{body_of, sent_body, closes, closes_by_itself, answer_of};
 
 use crate::request::{Method, Page, Request, Version};
 use ft_io::NoMemory;

@@ -11,5 +11,5 @@ mod excluded;
 pub mod laws;
 mod reader;
 mod request;
-mod text;
+pub mod text;
 mod web;

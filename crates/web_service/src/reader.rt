@@ -1,7 +1,8 @@
 //! The bytes of a connection, read as one request after another.
 
 ghost use Rattle.std.specs.Prelude.{◌≡◌, ℕ, ◌+◌, ◌-◌, ◌<◌, ◌≤◌, Option, Some, None, List, [], ◌∷◌, ◌++◌, length, IfOk};
-ghost use Rattle.web_service.specs.Reader.{Reading, at_start, without_return, lacks_host, reply_to, stage_after, refused, fields_follow, request_line_end, field_line_end, line_end, at_line_end, too_long, line_byte, read_byte};
+ghost use Rattle.web_service.specs.Reader.{Reading, at_start, without_return, lacks_host, reply_to, stage_after, refused, fields_follow};
+ghost use Rattle.web_service.specs.Reader.{request_line_end, field_line_end, line_end, at_line_end, too_long, line_byte, read_byte};
 
 use crate::answer::{Reply, Status};
 use crate::request::{Request, Version, request_line};

@@ -1,7 +1,8 @@
 //! What a request says: its request line and its fields.
 
 ghost use Rattle.std.specs.Prelude.{◌≡◌, ℕ, ◌+◌, ◌^◌, ◌≤◌, ◌<◌, Result, Ok, Err, List, length};
-ghost use Rattle.web_service.specs.Request.{is_version, version_of, method_of, path_of, page_at, page_of, request_line, with_named, with_field, bytes_page, count_page, from_slash};
+ghost use Rattle.web_service.specs.Request.{is_version, version_of, method_of, path_of, page_at, page_of, request_line, with_named, with_field};
+ghost use Rattle.web_service.specs.Request.{bytes_page, count_page, from_slash};
 
 use crate::answer::Status;
 use crate::text;

@@ -3,7 +3,8 @@
 ghost use Rattle.std.specs.Prelude.{◌≡◌, ℕ, ◌+◌, ◌-◌, ◌*◌, ◌^◌, ◌≤◌, ◌<◌, ◌==◌, min, List, length, true};
 ghost use Rattle.std.specs.Char.{is_ascii_digit};
 ghost use Rattle.std.specs.List.{before_first, after_first, list_all};
-ghost use Rattle.web_service.specs.Text.{is_token_byte, is_token, is_host_byte, is_host, is_plain_byte, is_plain, trimmed, same_word, has_option, is_number, number, digit_more};
+ghost use Rattle.web_service.specs.Text.{is_token_byte, is_token, is_host_byte, is_host, is_plain_byte, is_plain, trimmed, same_word, has_option};
+ghost use Rattle.web_service.specs.Text.{is_number, number, digit_more};
 
 use memchr::memchr;
 
@@ -66,7 +67,7 @@ pub(crate) fn is_plain(line: &[u8]) -> bool
 
 /// The bytes before the first `byte`, and the bytes after it. Where there is no such byte, all bytes, and none.
 #[tactic(auto, using(crate::proofs::Texts::place_found, crate::proofs::Texts::place_none))]
-pub(crate) fn split_at_byte(byte: u8, bytes: &[u8]) -> (&[u8], &[u8])
+pub fn split_at_byte(byte: u8, bytes: &[u8]) -> (&[u8], &[u8])
     ensures front { result.0.now ≡ before_first (λ b. b == byte) bytes.now }
     ensures back { result.1.now ≡ after_first (λ b. b == byte) bytes.now }
 {
@@ -84,7 +85,7 @@ pub(crate) fn trimmed(bytes: &[u8]) -> &[u8]
 }
 
 /// Whether two words are equal, whatever the case of their letters.
-pub(crate) fn same_word(a: &[u8], b: &[u8]) -> bool
+pub fn same_word(a: &[u8], b: &[u8]) -> bool
     ensures { result ≡ same_word a.now b.now }
 {
     a.eq_ignore_ascii_case(b)
@@ -113,7 +114,7 @@ fn are_digits(bytes: &[u8]) -> bool
 
 /// Whether these bytes are one digit or more.
 #[tactic(auto, unfolding(crate::specs::Text::is_number))]
-pub(crate) fn is_number(word: &[u8]) -> bool
+pub fn is_number(word: &[u8]) -> bool
     ensures { result ≡ is_number word.now }
 {
     are_digits(word) && !word.is_empty()
@@ -130,7 +131,7 @@ fn digit_more(number: u64, byte: u8) -> u64
 
 /// The number that digits spell.
 #[tactic(auto, unfolding(crate::specs::Text::number))]
-pub(crate) fn number(word: &[u8]) -> u64
+pub fn number(word: &[u8]) -> u64
     ensures value { result ≡ number word.now }
 {
     let mut number = 0;

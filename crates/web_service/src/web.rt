@@ -94,12 +94,17 @@ fn refuse(status: Status, out: &mut Vec<u8>) -> Result<Next, NoMemory>
 
 impl Service for Web {
     ghost use Rattle.std.proofs.Common.{rules};
+    ghost use Rattle.server_trait.specs.Service.{short_greeting};
     ghost use Rattle.web_service.specs.Web.{web_started, web_after};
     ghost use Rattle.web_service.specs.Laws.{length-web_after-le, bytes-web};
 
     ghost started = { λ _. web_started };
 
     ghost after = { web_after };
+
+    fn greeting(&self) -> &[u8] {
+        &[]
+    }
 
     fn fresh(alloc: Global, _kind: u8) -> Web {
         Web {
@@ -119,6 +124,8 @@ impl Service for Web {
 
     ghost closes = { λ _. Prim.search rules };
 
+    ghost greets_shortly = { short_greeting };
+
     ghost is_short = { length-web_after-le };
 
     ghost writes_bytes = { λ _. bytes-web };
@@ -128,7 +135,7 @@ impl Service for Web {
 impl Saved for Web {
     ghost use Rattle.std.specs.Prelude.{false};
     ghost use Rattle.server_trait.specs.Saved.{no_form, no_state, unsaved_reads_back, unsaved_one_form};
-    ghost use Rattle.server_trait.specs.Service.{machine};
+    ghost use Rattle.server_trait.specs.Service.{silent};
     ghost use Rattle.web_service.specs.Web.{web_started, web_after};
 
     ghost is_savable = { false };
@@ -149,7 +156,7 @@ impl Saved for Web {
         Ok(None)
     }
 
-    ghost reads_back = { unsaved_reads_back (λ _. machine web_started web_after) };
+    ghost reads_back = { unsaved_reads_back (λ _. silent web_started web_after) };
 
     ghost one_form = { unsaved_one_form };
 }
