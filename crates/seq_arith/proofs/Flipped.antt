@@ -4,6 +4,8 @@ use Rattle.std.specs.Prelude.{Option, None, Some, Result, Ok, Err, IsOk, IsErr, 
 use Rattle.seq_arith.specs.Bytes.{word_at}
 use Rattle.seq_arith.specs.Checksum.{checksum}
 use Rattle.seq_arith.specs.Damage.{flipped}
+use Rattle.seq_arith.specs.declared.kinds.Grammar.{Grammar}
+use Rattle.seq_arith.specs.declared.kinds.Grammar.TheVariants as grammars
 use Rattle.seq_arith.specs.declared.twin.BadTwin.TheVariants as bad_twin
 use Rattle.seq_arith.specs.declared.twin.TwinKind.{TwinKind}
 use Rattle.seq_arith.specs.declared.mark.BadMark.TheVariants as bad_mark
@@ -30,19 +32,19 @@ kind_comes {V = V} {E = E} short magic version short_why magic_why version_why l
     let third : Result V E = if version then Err version_why else last
     in (goes_on version version_why last (goes_on magic magic_why third (goes_on short short_why (if magic then Err magic_why else third) ok).1).1).1
 
-twin_sum_if : (kind : Option TwinKind) (bytes : List ℕ) → IsOk (twins.reading_if kind bytes) → checksum bytes ≡ 0
+twin_sum_if : (grammar : Grammar) (kind : Option TwinKind) (bytes : List ℕ) → IsOk (twins.reading_if grammar kind bytes) → checksum bytes ≡ 0
 unfolding twins.reading_of
-twin_sum_if None bytes ok = absurd (cc)
-twin_sum_if (Some kind) bytes ok =
+twin_sum_if grammar None bytes ok = absurd (cc)
+twin_sum_if grammar (Some kind) bytes ok =
     sum_held (not (nat_eq (word_at bytes 4) (length bytes)) || not (twins.has_length kind (length bytes))) bad_twin.Length bad_twin.Sum bytes
-    (if not (twins.is_sound_in kind bytes) then Err bad_twin.Field else Ok (twins.datagram_in kind bytes)) ok
+    (if not (twins.is_sound_in grammar kind bytes) then Err bad_twin.Field else Ok (twins.datagram_in kind bytes)) ok
 
-twin_sum : (bytes : List ℕ) → IsOk (twins.reading bytes) → checksum bytes ≡ 0
-unfolding twins.reading
-twin_sum bytes ok =
-    twin_sum_if (twins.kind_numbered (slice_index bytes 3)) bytes
+twin_sum : (grammar : Grammar) (bytes : List ℕ) → IsOk (twins.reading_by grammar bytes) → checksum bytes ≡ 0
+unfolding twins.reading_by
+twin_sum grammar bytes ok =
+    twin_sum_if grammar (twins.kind_numbered (slice_index bytes 3)) bytes
     (kind_comes (nat_lt (length bytes) 16) (not (nat_eq (word_at bytes 0) 18005)) (not (nat_eq (slice_index bytes 2) 1)) bad_twin.Short bad_twin.Magic bad_twin.Version
-    (twins.reading_if (twins.kind_numbered (slice_index bytes 3)) bytes) ok)
+    (twins.reading_if grammar (twins.kind_numbered (slice_index bytes 3)) bytes) ok)
 
 pub mark_sum_if : (kind : Option MarkKind) (bytes : List ℕ) → IsOk (marks.reading_if kind bytes) → checksum bytes ≡ 0
 unfolding marks.reading_of
@@ -58,9 +60,14 @@ mark_sum bytes ok =
     (kind_comes (nat_lt (length bytes) 16) (not (nat_eq (word_at bytes 0) 18006)) (not (nat_eq (slice_index bytes 2) 1)) bad_mark.Short bad_mark.Magic bad_mark.Version
     (marks.reading_if (marks.kind_numbered (slice_index bytes 3)) bytes) ok)
 
+pub flipped_twin_is_refused_by : (grammar : Grammar) (bit : ℕ) (bytes : List ℕ) (d : TwinDatagram) → twins.reading_by grammar bytes ≡ Ok d → bit < 8 * length bytes
+    → IsErr (twins.reading_by grammar (flipped bit bytes))
+flipped_twin_is_refused_by grammar bit bytes d is within =
+    refused (twins.reading_by grammar (flipped bit bytes))
+    (λ ok. flip_is_seen bit bytes within (twin_sum grammar bytes (accepted is)) (twin_sum grammar (flipped bit bytes) ok))
+
 pub flipped_twin_is_refused : (bit : ℕ) (bytes : List ℕ) (d : TwinDatagram) → twins.reading bytes ≡ Ok d → bit < 8 * length bytes → IsErr (twins.reading (flipped bit bytes))
-flipped_twin_is_refused bit bytes d is within =
-    refused (twins.reading (flipped bit bytes)) (λ ok. flip_is_seen bit bytes within (twin_sum bytes (accepted is)) (twin_sum (flipped bit bytes) ok))
+flipped_twin_is_refused = flipped_twin_is_refused_by grammars.Plain
 
 pub flipped_mark_is_refused : (bit : ℕ) (bytes : List ℕ) (m : MarkMessage) → marks.reading bytes ≡ Ok m → bit < 8 * length bytes → IsErr (marks.reading (flipped bit bytes))
 flipped_mark_is_refused bit bytes m is within =

@@ -1,5 +1,5 @@
--- A spelling says its message: each test of the message grammar fails at it, and each number is read where it was put.
-use Rattle.std.proofs.Common.{◌≡◌, ℕ, zero, suc, ◌<◌, ◌≤◌, ◌+◌, ◌*◌, ◌/◌, ◌%◌, ◌^◌, Bool, true, false, not, List, [], ◌∷◌, ◌++◌, length, length-append, take, drop, ap, refl, sym, arith, ◌∙◌, append_assoc}
+-- A spelling says its message: each test of its grammar fails at it, and each number is read where it was put.
+use Rattle.std.proofs.Common.{◌≡◌, ℕ, zero, suc, ◌<◌, ◌≤◌, ◌+◌, ◌*◌, ◌/◌, ◌%◌, ◌^◌, Bool, true, false, not, List, [], ◌∷◌, ◌++◌, length, length-append, take, drop, ap, refl, sym, arith, ◌∙◌, append_assoc, if◌then◌else◌}
 use Rattle.std.specs.Prelude.{Some, Ok, slice_index, nat_eq, nat_le, nat_lt}
 use Rattle.std.specs.Int.{byte_at, bytes_high_first}
 use Rattle.std.specs.List.{list_all}
@@ -11,11 +11,13 @@ use Rattle.std.proofs.lemmas.Bool.{le-ltb, leb-true, and_parts}
 use Rattle.seq_arith.specs.declared.kinds.Kind.{Kind}
 use Rattle.seq_arith.specs.declared.kinds.Kind.TheVariants as kinds
 use Rattle.seq_arith.specs.declared.kinds.Field.{Field}
+use Rattle.seq_arith.specs.declared.kinds.Grammar.{Grammar}
+use Rattle.seq_arith.specs.declared.kinds.Grammar.TheVariants as grammars
 use Rattle.seq_arith.specs.Bytes.{two, word_at}
 use Rattle.seq_arith.specs.Checksum.{checksum}
 use Rattle.seq_arith.specs.Message.{Body, Message}
 use Rattle.seq_arith.specs.Message.{Body as bodies}
-use Rattle.seq_arith.specs.MessageGrammar.{number_bytes, number_from, number_in, kind_number, kind_numbered, fields_of, most_behind, fewest_behind, width, fields_length, behind_at, has_length, numbers_in, numbers_bytes, lens_in, lens_bytes, kind_of, numbers_of, behind_of, lens_of, flag, body_in, message_in, is_sound, is_sound_in, reading_of, reading, message_length, header, spelled, spelling, AllFit, IsSpellable}
+use Rattle.seq_arith.specs.MessageGrammar.{number_bytes, number_from, number_in, kind_number, kind_numbered, fields_of, most_behind, fewest_behind, width, fields_length, behind_at, has_length, numbers_in, numbers_bytes, lens_in, lens_bytes, kind_of, numbers_of, behind_of, lens_of, flag, ending, most_ending, version, all_in_range_by, body_in, message_in, is_sound_by, is_sound_in, reading_of, reading_by, message_length, header, spelled, spelling_by, AllFit, IsSpellableBy}
 use Rattle.seq_arith.proofs.Passing.{no_difference}
 use Rattle.seq_arith.proofs.Spelling.{word_back}
 use Rattle.seq_arith.proofs.Sums.{checked_in_place}
@@ -77,26 +79,41 @@ flag_back : (b : Bool) → nat_eq (flag b) 1 ≡ b
 flag_back false = refl
 flag_back true = refl
 
+-- an ending is in no grammar above 2, and so it says one thing at most
+ending_small : (grammar : Grammar) (n : ℕ) → nat_le n (most_ending grammar) ≡ true → n ≤ 2
+ending_small grammars.Plain n h = omega (arith, leb-true n 1 h)
+ending_small grammars.Wide n h = leb-true n 2 h
+
+ending_back : (fin more : Bool) → flag fin + (if more then 2 else 0) ≤ 2 → (nat_eq (flag fin + (if more then 2 else 0)) 1 ≡ fin) × (nat_eq (flag fin + (if more then 2 else 0)) 2 ≡ more)
+ending_back false false small = (refl, refl)
+ending_back false true small = (refl, refl)
+ending_back true false small = (refl, refl)
+ending_back true true small = absurd (omega (arith, small))
+
 -- a body's numbers and what comes after them say that body
-pub body_back : (body : Body) → list_all (λ len. nat_le len 2048) (lens_of body) ≡ true → body_in (kind_of body) (numbers_of body) (behind_of body) ≡ body
-body_back bodies.HelloMsg small = refl
-body_back (bodies.SummaryMsg count) small = refl
-body_back (bodies.ListMsg index) small = refl
-body_back (bodies.EntryMsg index entry) small = rw (flag_back entry.fin, flag_back entry.done) refl
-body_back (bodies.BytesMsg key offset) small = refl
-body_back (bodies.PartMsg key offset bytes) small = refl
-body_back (bodies.CutsMsg key first) small = refl
-body_back (bodies.LensMsg key first lens) small = ap (bodies.LensMsg key first) (lens_back lens small)
-body_back (bodies.OpenMsg numbers) small = refl
-body_back (bodies.OpenedMsg numbers) small = refl
-body_back (bodies.DataMsg part) small = rw (flag_back part.fin) refl
-body_back (bodies.StableMsg kept) small = rw (flag_back kept.fin) refl
-body_back (bodies.ReadMsg key index length) small = refl
-body_back (bodies.ReadsMsg kept) small = rw (flag_back kept.fin) refl
-body_back (bodies.DoneMsg key) small = refl
-body_back (bodies.EndedMsg key) small = refl
-body_back (bodies.StaleMsg newer) small = refl
-body_back (bodies.FullMsg key) small = refl
+pub body_back : (grammar : Grammar) (boot behind : ℕ) (body : Body) → all_in_range_by grammar boot behind (fields_of (kind_of body)) (numbers_of body) ≡ true
+    → list_all (λ len. nat_le len 2048) (lens_of body) ≡ true → body_in (kind_of body) (numbers_of body) (behind_of body) ≡ body
+body_back grammar boot behind bodies.HelloMsg ranges small = refl
+body_back grammar boot behind (bodies.SummaryMsg count) ranges small = refl
+body_back grammar boot behind (bodies.ListMsg index) ranges small = refl
+body_back grammar boot behind (bodies.EntryMsg index entry) ranges small = rw (flag_back entry.fin, flag_back entry.done) refl
+body_back grammar boot behind (bodies.BytesMsg key offset) ranges small = refl
+body_back grammar boot behind (bodies.PartMsg key offset bytes) ranges small = refl
+body_back grammar boot behind (bodies.CutsMsg key first) ranges small = refl
+body_back grammar boot behind (bodies.LensMsg key first lens) ranges small = ap (bodies.LensMsg key first) (lens_back lens small)
+body_back grammar boot behind (bodies.OpenMsg numbers) ranges small = refl
+body_back grammar boot behind (bodies.OpenedMsg numbers) ranges small = refl
+body_back grammar boot behind (bodies.DataMsg part) ranges small =
+    let last : nat_le (ending part) (most_ending grammar) ≡ true = (and_parts _ _ (and_parts _ _ (and_parts _ _ ranges).1).1).0
+    in let back : (nat_eq (ending part) 1 ≡ part.fin) × (nat_eq (ending part) 2 ≡ part.more) = ending_back part.fin part.more (ending_small grammar (ending part) last)
+    in rw (back.0, back.1) refl
+body_back grammar boot behind (bodies.StableMsg kept) ranges small = rw (flag_back kept.fin) refl
+body_back grammar boot behind (bodies.ReadMsg key index length) ranges small = refl
+body_back grammar boot behind (bodies.ReadsMsg kept) ranges small = rw (flag_back kept.fin) refl
+body_back grammar boot behind (bodies.DoneMsg key) ranges small = refl
+body_back grammar boot behind (bodies.EndedMsg key) ranges small = refl
+body_back grammar boot behind (bodies.StaleMsg newer) ranges small = refl
+body_back grammar boot behind (bodies.FullMsg key) ranges small = refl
 
 pub kind_back : (kind : Kind) → kind_numbered (kind_number kind) ≡ Some kind
 unfolding kind_numbered
@@ -147,44 +164,44 @@ fields_part message = numbers_bytes (fields_of (kind_of message.body)) (numbers_
 abbrev behind_header : Message → List ℕ
 behind_header message = fields_part message ++ behind_of message.body
 
-pub spelled_length : (message : Message) (check : ℕ) → AllFit (fields_of (kind_of message.body)) (numbers_of message.body)
-    → length (spelled message check) ≡ message_length message.body
+pub spelled_length : (grammar : Grammar) (message : Message) (check : ℕ) → AllFit (fields_of (kind_of message.body)) (numbers_of message.body)
+    → length (spelled grammar message check) ≡ message_length message.body
 unfolding spelled header two number_bytes
-spelled_length message check fit =
+spelled_length grammar message check fit =
     omega (arith, length-append (fields_part message) (behind_of message.body), numbers_length (fields_of (kind_of message.body)) (numbers_of message.body) fit)
 
-pub behind_fields : (message : Message) (check : ℕ) → AllFit (fields_of (kind_of message.body)) (numbers_of message.body)
-    → drop (behind_at (kind_of message.body)) (spelled message check) ≡ behind_of message.body
+pub behind_fields : (grammar : Grammar) (message : Message) (check : ℕ) → AllFit (fields_of (kind_of message.body)) (numbers_of message.body)
+    → drop (behind_at (kind_of message.body)) (spelled grammar message check) ≡ behind_of message.body
 unfolding spelled header two number_bytes
-behind_fields message check fit =
-    sym (drop-drop (fields_length (fields_of (kind_of message.body))) 16 (spelled message check))
+behind_fields grammar message check fit =
+    sym (drop-drop (fields_length (fields_of (kind_of message.body))) 16 (spelled grammar message check))
     ∙ ap (λ n. drop n (behind_header message)) (sym (numbers_length (fields_of (kind_of message.body)) (numbers_of message.body) fit))
     ∙ drop-append_seam (fields_part message) (behind_of message.body)
 
-pub fields_back : (message : Message) (check : ℕ) → AllFit (fields_of (kind_of message.body)) (numbers_of message.body)
-    → numbers_in (fields_of (kind_of message.body)) (drop 16 (spelled message check)) ≡ numbers_of message.body
+pub fields_back : (grammar : Grammar) (message : Message) (check : ℕ) → AllFit (fields_of (kind_of message.body)) (numbers_of message.body)
+    → numbers_in (fields_of (kind_of message.body)) (drop 16 (spelled grammar message check)) ≡ numbers_of message.body
 unfolding spelled header two number_bytes
-fields_back message check fit = numbers_back (fields_of (kind_of message.body)) (numbers_of message.body) (behind_of message.body) fit
+fields_back grammar message check fit = numbers_back (fields_of (kind_of message.body)) (numbers_of message.body) (behind_of message.body) fit
 
-pub boot_back : (message : Message) (check : ℕ) → message.boot < 256 ^ 8 → number_in 8 (drop 8 (spelled message check)) ≡ message.boot
+pub boot_back : (grammar : Grammar) (message : Message) (check : ℕ) → message.boot < 256 ^ 8 → number_in 8 (drop 8 (spelled grammar message check)) ≡ message.boot
 unfolding spelled header two
-boot_back message check small = number_back 8 message.boot (behind_header message) small
+boot_back grammar message check small = number_back 8 message.boot (behind_header message) small
 
-sums : (message : Message) (check : ℕ) → check ≡ checksum (spelled message 0) → checksum (spelled message check) ≡ 0
+sums : (grammar : Grammar) (message : Message) (check : ℕ) → check ≡ checksum (spelled grammar message 0) → checksum (spelled grammar message check) ≡ 0
 unfolding spelled header two
-sums message check is = checked_in_place (take 6 (spelled message 0)) (drop 8 (spelled message 0)) check refl is
+sums grammar message check is = checked_in_place (take 6 (spelled grammar message 0)) (drop 8 (spelled grammar message 0)) check refl is
 
-magic : (message : Message) (check : ℕ) → not (nat_eq (word_at (spelled message check) 0) 18004) ≡ false
+magic : (grammar : Grammar) (message : Message) (check : ℕ) → not (nat_eq (word_at (spelled grammar message check) 0) 18004) ≡ false
 unfolding spelled header two word_at
-magic message check = refl
+magic grammar message check = refl
 
-version : (message : Message) (check : ℕ) → not (nat_eq (slice_index (spelled message check) 2) 1) ≡ false
+same_version : (grammar : Grammar) (message : Message) (check : ℕ) → not (nat_eq (slice_index (spelled grammar message check) 2) (version grammar)) ≡ false
 unfolding spelled header two
-version message check = refl
+same_version grammar message check = no_difference (version grammar) (version grammar) refl
 
-kind : (message : Message) (check : ℕ) → kind_numbered (slice_index (spelled message check) 3) ≡ Some (kind_of message.body)
+kind : (grammar : Grammar) (message : Message) (check : ℕ) → kind_numbered (slice_index (spelled grammar message check) 3) ≡ Some (kind_of message.body)
 unfolding spelled header two
-kind message check = kind_back (kind_of message.body)
+kind grammar message check = kind_back (kind_of message.body)
 
 -- a message of one of its kind's lengths is no longer than any
 pub bounded : (kind : Kind) (n : ℕ) → has_length kind n ≡ true → (behind_at kind + fewest_behind kind ≤ n) × (n ≤ behind_at kind + most_behind kind)
@@ -194,9 +211,9 @@ bounded kind n is =
     in let few : nat_le n (behind_at kind + most_behind kind) ≡ true = (and_parts _ _ (and_parts _ _ is).0).1
     in (leb-true _ _ enough, leb-true _ _ few)
 
-whole : (message : Message) (check : ℕ) → message_length message.body < 2 ^ 16 → word_at (spelled message check) 4 ≡ message_length message.body
+whole : (grammar : Grammar) (message : Message) (check : ℕ) → message_length message.body < 2 ^ 16 → word_at (spelled grammar message check) 4 ≡ message_length message.body
 unfolding spelled header two word_at
-whole message check small = word_back (message_length message.body) small
+whole grammar message check small = word_back (message_length message.body) small
 
 abbrev message_of : ℕ → Body → Message
 message_of boot body = record { boot = boot; body = body }
@@ -204,37 +221,39 @@ message_of boot body = record { boot = boot; body = body }
 joined : {boot : ℕ} {body : Body} {message : Message} → boot ≡ message.boot → body ≡ message.body → message_of boot body ≡ message_of message.boot message.body
 joined boot body = cc
 
-says : (message : Message) (check : ℕ) → IsSpellable message → message_in (kind_of message.body) (spelled message check) ≡ message
-unfolding message_in is_sound
-says message check spellable =
+says : {grammar : Grammar} (message : Message) (check : ℕ) → IsSpellableBy grammar message → message_in (kind_of message.body) (spelled grammar message check) ≡ message
+unfolding message_in is_sound_by
+says {grammar} message check spellable =
     let lens : list_all (λ len. nat_le len 2048) (lens_of message.body) ≡ true = (and_parts _ _ spellable.sound).1
-    in let body : body_in (kind_of message.body) (numbers_in (fields_of (kind_of message.body)) (drop 16 (spelled message check))) (drop (behind_at (kind_of message.body)) (spelled message check)) ≡ message.body =
-    ap (λ numbers. body_in (kind_of message.body) numbers (drop (behind_at (kind_of message.body)) (spelled message check))) (fields_back message check spellable.numbers)
-    ∙ ap (body_in (kind_of message.body) (numbers_of message.body)) (behind_fields message check spellable.numbers) ∙ body_back message.body lens
-    in let boot : number_in 8 (drop 8 (spelled message check)) ≡ message.boot = boot_back message check spellable.boot
+    in let ranges : all_in_range_by grammar message.boot (length (behind_of message.body)) (fields_of (kind_of message.body)) (numbers_of message.body) ≡ true =
+    (and_parts _ _ (and_parts _ _ spellable.sound).0).1
+    in let body : body_in (kind_of message.body) (numbers_in (fields_of (kind_of message.body)) (drop 16 (spelled grammar message check))) (drop (behind_at (kind_of message.body)) (spelled grammar message check)) ≡ message.body =
+    ap (λ numbers. body_in (kind_of message.body) numbers (drop (behind_at (kind_of message.body)) (spelled grammar message check))) (fields_back grammar message check spellable.numbers)
+    ∙ ap (body_in (kind_of message.body) (numbers_of message.body)) (behind_fields grammar message check spellable.numbers) ∙ body_back grammar message.boot (length (behind_of message.body)) message.body ranges lens
+    in let boot : number_in 8 (drop 8 (spelled grammar message check)) ≡ message.boot = boot_back grammar message check spellable.boot
     in joined boot body
 
-sound : (message : Message) (check : ℕ) → IsSpellable message → is_sound_in (kind_of message.body) (spelled message check) ≡ true
+sound : {grammar : Grammar} (message : Message) (check : ℕ) → IsSpellableBy grammar message → is_sound_in grammar (kind_of message.body) (spelled grammar message check) ≡ true
 unfolding is_sound_in
-sound message check spellable =
-    rw (says message check spellable, fields_back message check spellable.numbers, behind_fields message check spellable.numbers) spellable.sound
+sound {grammar} message check spellable =
+    rw (says {grammar = grammar} message check spellable, fields_back grammar message check spellable.numbers, behind_fields grammar message check spellable.numbers) spellable.sound
 
 -- the tests that hold of no spelling leave what it says
-passes : (kind : Kind) (bytes : List ℕ) → nat_lt (length bytes) 16 ≡ false → not (nat_eq (word_at bytes 0) 18004) ≡ false
-    → not (nat_eq (slice_index bytes 2) 1) ≡ false → kind_numbered (slice_index bytes 3) ≡ Some kind → not (nat_eq (word_at bytes 4) (length bytes)) ≡ false
-    → has_length kind (length bytes) ≡ true → not (nat_eq (checksum bytes) 0) ≡ false → is_sound_in kind bytes ≡ true → reading bytes ≡ Ok (message_in kind bytes)
-unfolding reading reading_of
-passes kind bytes long magic version is same size sum sound = rw (long, magic, version, is, same, size, sum, sound) refl
+passes : (grammar : Grammar) (kind : Kind) (bytes : List ℕ) → nat_lt (length bytes) 16 ≡ false → not (nat_eq (word_at bytes 0) 18004) ≡ false
+    → not (nat_eq (slice_index bytes 2) (version grammar)) ≡ false → kind_numbered (slice_index bytes 3) ≡ Some kind → not (nat_eq (word_at bytes 4) (length bytes)) ≡ false
+    → has_length kind (length bytes) ≡ true → not (nat_eq (checksum bytes) 0) ≡ false → is_sound_in grammar kind bytes ≡ true → reading_by grammar bytes ≡ Ok (message_in kind bytes)
+unfolding reading_by reading_of
+passes grammar kind bytes long magic same_version is same size sum sound = rw (long, magic, same_version, is, same, size, sum, sound) refl
 
-spelled_is_read : (message : Message) (check : ℕ) → IsSpellable message → check ≡ checksum (spelled message 0) → reading (spelled message check) ≡ Ok message
-spelled_is_read message check spellable is =
-    let long : length (spelled message check) ≡ message_length message.body = spelled_length message check spellable.numbers
+spelled_is_read : (grammar : Grammar) (message : Message) (check : ℕ) → IsSpellableBy grammar message → check ≡ checksum (spelled grammar message 0) → reading_by grammar (spelled grammar message check) ≡ Ok message
+spelled_is_read grammar message check spellable is =
+    let long : length (spelled grammar message check) ≡ message_length message.body = spelled_length grammar message check spellable.numbers
     in let within : message_length message.body ≤ 1491 =
     omega (arith, (bounded (kind_of message.body) (message_length message.body) spellable.size).1, room (kind_of message.body))
-    in passes (kind_of message.body) (spelled message check) (le-ltb (length (spelled message check)) 16 (omega arith)) (magic message check)
-    (version message check) (kind message check) (no_difference _ _ (whole message check (omega arith) ∙ sym long)) (ap (has_length (kind_of message.body)) long ∙ spellable.size)
-    (no_difference _ _ (sums message check is)) (sound message check spellable) ∙ ap Ok (says message check spellable)
+    in passes grammar (kind_of message.body) (spelled grammar message check) (le-ltb (length (spelled grammar message check)) 16 (omega arith)) (magic grammar message check)
+    (same_version grammar message check) (kind grammar message check) (no_difference _ _ (whole grammar message check (omega arith) ∙ sym long)) (ap (has_length (kind_of message.body)) long ∙ spellable.size)
+    (no_difference _ _ (sums grammar message check is)) (sound {grammar = grammar} message check spellable) ∙ ap Ok (says {grammar = grammar} message check spellable)
 
-pub message_is_read : (message : Message) → IsSpellable message → reading (spelling message) ≡ Ok message
-unfolding spelling
-message_is_read message spellable = spelled_is_read message (checksum (spelled message 0)) spellable refl
+pub message_is_read : {grammar : Grammar} (message : Message) → IsSpellableBy grammar message → reading_by grammar (spelling_by grammar message) ≡ Ok message
+unfolding spelling_by
+message_is_read {grammar} message spellable = spelled_is_read grammar message (checksum (spelled grammar message 0)) spellable refl

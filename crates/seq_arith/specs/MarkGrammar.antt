@@ -1,6 +1,7 @@
 -- The grammar of messages about marks: which strings of bytes are such a message and what they say, and the one spelling in which this project writes it. It
 -- has the header of a message with another magic, fields of the same sizes and ranges, and after the fields of Mark and Held the bytes of a state.
-use Rattle.std.specs.Prelude.{ℕ, Bool, true, not, List, [], ◌∷◌, ◌++◌, length, drop, slice_index, find, Option, None, Some, Result, Ok, Err, ◌≡◌, ◌+◌, ◌^◌, ◌<◌, ◌==◌, ◌&&◌, ◌||◌, nat_lt, nat_le, if◌then◌else◌}
+use Rattle.std.specs.Prelude.{ℕ, Bool, true, not, List, [], ◌∷◌, ◌++◌, length, drop, slice_index, find, Option, None, Some, Result, Ok, Err, ◌≡◌, ◌+◌}
+use Rattle.std.specs.Prelude.{◌^◌, ◌<◌, ◌==◌, ◌&&◌, ◌||◌, nat_lt, nat_le, if◌then◌else◌}
 use Rattle.ft_io.specs.declared.Key.{Key}
 use Rattle.seq_arith.specs.declared.kinds.Field.{Field}
 use Rattle.seq_arith.specs.declared.kinds.Field.TheVariants as fields

@@ -33,7 +33,8 @@ pub record Part : Type 0 where
   pub key : Key
   pub offset : ℕ
   pub acked : ℕ
-  pub fin : Bool
+  pub fin : Bool  -- the FIN follows
+  pub more : Bool  -- it doesn't, and the same turn sends a later part of this stream: that one is answered, and this one isn't
   pub bytes : List ℕ
 
 pub data Body : Type 0 where

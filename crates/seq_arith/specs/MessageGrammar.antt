@@ -1,8 +1,10 @@
--- The message grammar: which strings of bytes are a message between server and logger and what they say, and the one spelling in which this project writes a
+-- The message grammars: which strings of bytes are a message between server and logger and what they say, and the one spelling in which this project writes a
 -- message. The format is this project's own. A message has a header of 16 bytes: the magic, the version, the kind, the length of the whole message, its
--- checksum, and the boot number. The fields of its kind follow, and then the bytes of Part and Data, or the lengths of Lens.
+-- checksum, and the boot number. The fields of its kind follow, and then the bytes of Part and Data, or the lengths of Lens. There are two grammars, each with
+-- its own version. They differ in one field: what a Data may say of its turn.
 use Rattle.limits.specs.Limits.{largest_segment, least_segment, longest_stream, most_entries, most_units}
-use Rattle.std.specs.Prelude.{ℕ, zero, suc, Bool, true, false, not, List, [], ◌∷◌, ◌++◌, length, drop, slice_index, find, Option, None, Some, Result, Ok, Err, ◌≡◌, ◌+◌, ◌*◌, ◌%◌, ◌^◌, ◌<◌, ◌==◌, ◌&&◌, ◌||◌, nat_lt, nat_le, if◌then◌else◌}
+use Rattle.std.specs.Prelude.{ℕ, zero, suc, Bool, true, false, not, List, [], ◌∷◌, ◌++◌, length, drop, slice_index, find, Option, None, Some, Result}
+use Rattle.std.specs.Prelude.{Ok, Err, ◌≡◌, ◌+◌, ◌*◌, ◌%◌, ◌^◌, ◌<◌, ◌==◌, ◌&&◌, ◌||◌, nat_lt, nat_le, if◌then◌else◌}
 use Rattle.std.specs.Int.{bytes_high_first}
 use Rattle.std.specs.List.{flat_map, list_all}
 use Rattle.ft_io.specs.declared.Key.{Key}
@@ -12,6 +14,8 @@ use Rattle.seq_arith.specs.declared.kinds.Kind.{Kind}
 use Rattle.seq_arith.specs.declared.kinds.Kind.TheVariants as kinds
 use Rattle.seq_arith.specs.declared.kinds.Field.{Field}
 use Rattle.seq_arith.specs.declared.kinds.Field.TheVariants as fields
+use Rattle.seq_arith.specs.declared.kinds.Grammar.{Grammar}
+use Rattle.seq_arith.specs.declared.kinds.Grammar.TheVariants as grammars
 use Rattle.seq_arith.specs.Bytes.{two, word_at}
 use Rattle.seq_arith.specs.Checksum.{checksum}
 use Rattle.seq_arith.specs.Message.{Body, EntryHead, Kept, Message, Numbers, Part}
@@ -27,6 +31,17 @@ number_from (suc width) bytes = slice_index bytes 0 * 256 ^ width + number_from 
 
 unfoldable pub number_in : ℕ → List ℕ → ℕ
 number_in width bytes = number_from width bytes
+
+-- the version of a grammar
+abbrev pub version : Grammar → ℕ
+version grammars.Plain = 1
+version grammars.Wide = 2
+
+-- the most that the ending of a Data may be: 0 and 1 say whether the FIN follows its bytes. 2 says that it doesn't, and that the same turn sends a later Data
+-- of the connection
+abbrev pub most_ending : Grammar → ℕ
+most_ending grammars.Plain = 1
+most_ending grammars.Wide = 2
 
 -- the kinds, and the number of each
 abbrev pub all_kinds : List Kind
@@ -79,7 +94,7 @@ fields_of kinds.Cuts = with_key (fields.Units ∷ [])
 fields_of kinds.Lens = with_key (fields.Units ∷ [])
 fields_of kinds.Open = opening
 fields_of kinds.Opened = opening
-fields_of kinds.Data = with_key (fields.Offset ∷ fields.Units ∷ fields.Flag ∷ [])
+fields_of kinds.Data = with_key (fields.Offset ∷ fields.Units ∷ fields.Ending ∷ [])
 fields_of kinds.Stable = kept
 fields_of kinds.Read = with_key (fields.Units ∷ fields.ReadLength ∷ [])
 fields_of kinds.Reads = kept
@@ -107,6 +122,7 @@ is_lens _ = false
 -- the size of a field in bytes
 abbrev pub width : Field → ℕ
 width fields.Flag = 1
+width fields.Ending = 1
 width fields.Count = 2
 width fields.Place = 2
 width fields.Port = 2
@@ -121,17 +137,21 @@ width fields.Newer = 8
 
 -- The range of a field, in a message with this boot number and this many bytes after its fields. An offset and those bytes stay within a stream, which has at
 -- most 2^24 bytes. A count of units may also count the FIN, or a last read of length 0. Keys and initial sequence numbers are unrestricted
+abbrev pub is_in_range_by : Grammar → (boot behind : ℕ) → Field → ℕ → Bool
+is_in_range_by grammar boot behind fields.Count n = nat_le n most_entries
+is_in_range_by grammar boot behind fields.Place n = nat_le n 63
+is_in_range_by grammar boot behind fields.Mss n = nat_le least_segment n && nat_le n largest_segment
+is_in_range_by grammar boot behind fields.Length n = nat_le n longest_stream
+is_in_range_by grammar boot behind fields.Offset n = nat_le (n + behind) longest_stream
+is_in_range_by grammar boot behind fields.Units n = nat_le n most_units
+is_in_range_by grammar boot behind fields.ReadLength n = nat_le n 2048
+is_in_range_by grammar boot behind fields.Flag n = nat_le n 1
+is_in_range_by grammar boot behind fields.Ending n = nat_le n (most_ending grammar)
+is_in_range_by grammar boot behind fields.Newer n = nat_lt boot n
+is_in_range_by grammar boot behind _ n = true
+
 abbrev pub is_in_range : (boot behind : ℕ) → Field → ℕ → Bool
-is_in_range boot behind fields.Count n = nat_le n most_entries
-is_in_range boot behind fields.Place n = nat_le n 63
-is_in_range boot behind fields.Mss n = nat_le least_segment n && nat_le n largest_segment
-is_in_range boot behind fields.Length n = nat_le n longest_stream
-is_in_range boot behind fields.Offset n = nat_le (n + behind) longest_stream
-is_in_range boot behind fields.Units n = nat_le n most_units
-is_in_range boot behind fields.ReadLength n = nat_le n 2048
-is_in_range boot behind fields.Flag n = nat_le n 1
-is_in_range boot behind fields.Newer n = nat_lt boot n
-is_in_range boot behind _ n = true
+is_in_range boot behind field n = is_in_range_by grammars.Plain boot behind field n
 
 -- where a kind's fields end
 abbrev pub fields_length : List Field → ℕ
@@ -156,10 +176,14 @@ numbers_bytes [] numbers = []
 numbers_bytes (field ∷ rest) [] = []
 numbers_bytes (field ∷ rest) (n ∷ numbers) = number_bytes (width field) n ++ numbers_bytes rest numbers
 
+abbrev pub all_in_range_by : Grammar → (boot behind : ℕ) → List Field → List ℕ → Bool
+all_in_range_by grammar boot behind [] numbers = true
+all_in_range_by grammar boot behind (field ∷ rest) [] = false
+all_in_range_by grammar boot behind (field ∷ rest) (n ∷ numbers) =
+    is_in_range_by grammar boot behind field n && all_in_range_by grammar boot behind rest numbers
+
 abbrev pub all_in_range : (boot behind : ℕ) → List Field → List ℕ → Bool
-all_in_range boot behind [] numbers = true
-all_in_range boot behind (field ∷ rest) [] = false
-all_in_range boot behind (field ∷ rest) (n ∷ numbers) = is_in_range boot behind field n && all_in_range boot behind rest numbers
+all_in_range boot behind all numbers = all_in_range_by grammars.Plain boot behind all numbers
 
 -- lengths of two bytes each
 abbrev pub lens_in : List ℕ → List ℕ
@@ -195,6 +219,10 @@ abbrev pub flag : Bool → ℕ
 flag false = 0
 flag true = 1
 
+-- 1 where the FIN follows, 2 where a later Data does. Both can't be said
+abbrev pub ending : Part → ℕ
+ending part = flag part.fin + (if part.more then 2 else 0)
+
 abbrev pub key_and : Key → List ℕ → List ℕ
 key_and key rest = key.ip ∷ key.port ∷ rest
 
@@ -216,7 +244,7 @@ numbers_of (bodies.CutsMsg key first) = key_and key (first ∷ [])
 numbers_of (bodies.LensMsg key first lens) = key_and key (first ∷ [])
 numbers_of (bodies.OpenMsg numbers) = opening_numbers numbers
 numbers_of (bodies.OpenedMsg numbers) = opening_numbers numbers
-numbers_of (bodies.DataMsg part) = key_and part.key (part.offset ∷ part.acked ∷ flag part.fin ∷ [])
+numbers_of (bodies.DataMsg part) = key_and part.key (part.offset ∷ part.acked ∷ ending part ∷ [])
 numbers_of (bodies.StableMsg kept) = kept_numbers kept
 numbers_of (bodies.ReadMsg key index length) = key_and key (index ∷ length ∷ [])
 numbers_of (bodies.ReadsMsg kept) = kept_numbers kept
@@ -264,6 +292,7 @@ part_in numbers behind = record {
   offset = slice_index numbers 2;
   acked = slice_index numbers 3;
   fin = slice_index numbers 4 == 1;
+  more = slice_index numbers 4 == 2;
   bytes = behind;
 }
 
@@ -295,48 +324,60 @@ message_in kind bytes = record {
 }
 
 -- whether all that a message says is in its range. Boot numbers begin at 1, and no read is longer than 2,048 bytes
-unfoldable pub is_sound : Kind → (boot behind : ℕ) → (numbers lens : List ℕ) → Bool
-is_sound kind boot behind numbers lens = nat_le 1 boot && all_in_range boot behind (fields_of kind) numbers && list_all (λ len. nat_le len 2048) lens
+unfoldable pub is_sound_by : Grammar → Kind → (boot behind : ℕ) → (numbers lens : List ℕ) → Bool
+is_sound_by grammar kind boot behind numbers lens =
+    nat_le 1 boot && all_in_range_by grammar boot behind (fields_of kind) numbers && list_all (λ len. nat_le len 2048) lens
 
-unfoldable pub is_sound_in : Kind → List ℕ → Bool
-is_sound_in kind bytes =
+abbrev pub is_sound : Kind → (boot behind : ℕ) → (numbers lens : List ℕ) → Bool
+is_sound kind boot behind numbers lens = is_sound_by grammars.Plain kind boot behind numbers lens
+
+unfoldable pub is_sound_in : Grammar → Kind → List ℕ → Bool
+is_sound_in grammar kind bytes =
     let message = message_in kind bytes
-    in is_sound kind message.boot (length (drop (behind_at kind) bytes)) (numbers_in (fields_of kind) (drop 16 bytes)) (lens_of message.body)
+    in is_sound_by grammar kind message.boot (length (drop (behind_at kind) bytes)) (numbers_in (fields_of kind) (drop 16 bytes)) (lens_of message.body)
 
--- What a string of bytes says, or why it is no message: the first test that holds. A string that holds its checksum has the checksum 0
+-- What a string of bytes says by a grammar, or why it is no message of it: the first test that holds. A string that holds its checksum has the checksum 0
 -- where its words sum to FFFF
-unfoldable pub reading_of : Kind → List ℕ → Result Message BadMsg
-reading_of kind bytes =
+unfoldable pub reading_of : Grammar → Kind → List ℕ → Result Message BadMsg
+reading_of grammar kind bytes =
     if not (word_at bytes 4 == length bytes) || not (has_length kind (length bytes)) then Err bad.Length
     else (if not (checksum bytes == 0) then Err bad.Sum
-    else (if not (is_sound_in kind bytes) then Err bad.Field else Ok (message_in kind bytes)))
+    else (if not (is_sound_in grammar kind bytes) then Err bad.Field else Ok (message_in kind bytes)))
 
-abbrev pub reading_if : Option Kind → List ℕ → Result Message BadMsg
-reading_if None bytes = Err bad.Kind
-reading_if (Some kind) bytes = reading_of kind bytes
+abbrev pub reading_if : Grammar → Option Kind → List ℕ → Result Message BadMsg
+reading_if grammar None bytes = Err bad.Kind
+reading_if grammar (Some kind) bytes = reading_of grammar kind bytes
 
-unfoldable pub reading : List ℕ → Result Message BadMsg
-reading bytes =
+unfoldable pub reading_by : Grammar → List ℕ → Result Message BadMsg
+reading_by grammar bytes =
     if nat_lt (length bytes) 16 then Err bad.Short
     else (if not (word_at bytes 0 == 18004) then Err bad.Magic
-    else (if not (slice_index bytes 2 == 1) then Err bad.Version else reading_if (kind_numbered (slice_index bytes 3)) bytes))
+    else (if not (slice_index bytes 2 == version grammar) then Err bad.Version else reading_if grammar (kind_numbered (slice_index bytes 3)) bytes))
+
+-- .. by the plain grammar, of version 1
+abbrev pub reading : List ℕ → Result Message BadMsg
+reading bytes = reading_by grammars.Plain bytes
 
 abbrev pub message_length : Body → ℕ
 message_length body = behind_at (kind_of body) + length (behind_of body)
 
 -- the header of a message of this length, with this checksum
-unfoldable pub header : Kind → (len check boot : ℕ) → List ℕ
-header kind len check boot = (70 ∷ 84 ∷ 1 ∷ kind_number kind ∷ two len) ++ two check ++ number_bytes 8 boot
+unfoldable pub header : Grammar → Kind → (len check boot : ℕ) → List ℕ
+header grammar kind len check boot = (70 ∷ 84 ∷ version grammar ∷ kind_number kind ∷ two len) ++ two check ++ number_bytes 8 boot
 
 -- the spelling with this checksum
-unfoldable pub spelled : Message → ℕ → List ℕ
-spelled message check =
-    header (kind_of message.body) (message_length message.body) check message.boot
+unfoldable pub spelled : Grammar → Message → ℕ → List ℕ
+spelled grammar message check =
+    header grammar (kind_of message.body) (message_length message.body) check message.boot
     ++ (numbers_bytes (fields_of (kind_of message.body)) (numbers_of message.body) ++ behind_of message.body)
 
--- the one spelling of a message
-unfoldable pub spelling : Message → List ℕ
-spelling message = spelled message (checksum (spelled message 0))
+-- the one spelling of a message in a grammar
+unfoldable pub spelling_by : Grammar → Message → List ℕ
+spelling_by grammar message = spelled grammar message (checksum (spelled grammar message 0))
+
+-- .. in the plain one
+abbrev pub spelling : Message → List ℕ
+spelling message = spelling_by grammars.Plain message
 
 -- each number fits its field's bytes
 abbrev pub AllFit : List Field → List ℕ → Type 0
@@ -345,9 +386,13 @@ AllFit [] (n ∷ numbers) = ⊥
 AllFit (field ∷ rest) [] = ⊥
 AllFit (field ∷ rest) (n ∷ numbers) = (n < 256 ^ width field) × AllFit rest numbers
 
--- what has a spelling: each number fits its bytes and is in its range, and the message has one of its kind's lengths
-pub record IsSpellable (message : Message) : Type 0 where
+-- what has a spelling in a grammar: each number fits its bytes and is in its range, and the message has one of its kind's lengths
+pub record IsSpellableBy (grammar : Grammar) (message : Message) : Type 0 where
   pub boot : message.boot < 256 ^ 8
   pub numbers : AllFit (fields_of (kind_of message.body)) (numbers_of message.body)
-  pub sound : is_sound (kind_of message.body) message.boot (length (behind_of message.body)) (numbers_of message.body) (lens_of message.body) ≡ true
+  pub sound : is_sound_by grammar (kind_of message.body) message.boot (length (behind_of message.body)) (numbers_of message.body) (lens_of message.body) ≡ true
   pub size : has_length (kind_of message.body) (message_length message.body) ≡ true
+
+-- .. in the plain one
+abbrev pub IsSpellable : Message → Type 0
+IsSpellable message = IsSpellableBy grammars.Plain message

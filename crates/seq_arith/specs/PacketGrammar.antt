@@ -1,9 +1,11 @@
 -- The packet grammar: which strings of bytes are a TCP packet over IPv4 and what they say (RFC 791, 3.1; RFC 9293, 3.1 and 3.2), and
 -- the one spelling in which this project writes a packet. Places are counted in the whole packet, from 0.
 use Rattle.limits.specs.Limits.{longest_packet}
-use Rattle.std.specs.Prelude.{ℕ, zero, suc, Bool, true, false, not, List, [], ◌∷◌, ◌++◌, length, take, drop, slice_index, Option, None, Some, Result, Ok, Err, IfSome, ◌+◌, ◌-◌, ◌*◌, ◌/◌, ◌%◌, ◌^◌, ◌<◌, ◌≤◌, ◌==◌, ◌&&◌, ◌||◌, nat_lt, if◌then◌else◌}
+use Rattle.std.specs.Prelude.{ℕ, zero, suc, Bool, true, false, not, List, [], ◌∷◌, ◌++◌, length, take, drop, slice_index, Option, None, Some, Result}
+use Rattle.std.specs.Prelude.{Ok, Err, IfSome, ◌+◌, ◌-◌, ◌*◌, ◌/◌, ◌%◌, ◌^◌, ◌<◌, ◌≤◌, ◌==◌, ◌&&◌, ◌||◌, nat_lt, if◌then◌else◌}
 use Rattle.seq_arith.specs.declared.BadPacket.{BadPacket}
-use Rattle.seq_arith.specs.declared.BadPacket.TheVariants.{Short, Version, HeaderLength, TotalLength, Fragment, Protocol, IpChecksum, DataOffset, OptionLength, TcpChecksum, TooLong}
+use Rattle.seq_arith.specs.declared.BadPacket.TheVariants.{Short, Version, HeaderLength, TotalLength, Fragment, Protocol, IpChecksum, DataOffset}
+use Rattle.seq_arith.specs.declared.BadPacket.TheVariants.{OptionLength, TcpChecksum, TooLong}
 use Rattle.seq_arith.specs.Bytes.{two, four, word_at, long_at}
 use Rattle.seq_arith.specs.Checksum.{checksum}
 use Rattle.seq_arith.specs.Packet.{Head, Segment}

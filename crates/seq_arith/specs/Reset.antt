@@ -6,7 +6,17 @@ use Rattle.seq_arith.specs.declared.flags.TheConstants.{RST, ACK}
 use Rattle.seq_arith.specs.Packet.{Head}
 
 abbrev pub reset : Addr → Key → (seq ack flags : ℕ) → Head
-reset local peer seq ack flags = record { src = local.ip; dst = peer.ip; sport = local.port; dport = peer.port; seq = seq; ack = ack; flags = flags; window = 0; mss = None }
+reset local peer seq ack flags = record {
+  src = local.ip;
+  dst = peer.ip;
+  sport = local.port;
+  dport = peer.port;
+  seq = seq;
+  ack = ack;
+  flags = flags;
+  window = 0;
+  mss = None;
+}
 
 -- <SEQ=SEG.ACK><CTL=RST>
 abbrev pub reset_at_ack : Addr → Head → Head

@@ -1,7 +1,11 @@
 -- The grammar of datagrams between two loggers: which strings of bytes are such a datagram and what they say, and the one spelling in which this project writes
--- it. It has the header of a message, with another magic and a number in place of the boot number. In a Forward a server's message follows the header.
-use Rattle.std.specs.Prelude.{ℕ, Bool, true, false, not, List, [], length, drop, slice_index, find, Option, None, Some, ◌∷◌, Result, Ok, Err, ◌≡◌, ◌+◌, ◌^◌, ◌<◌, ◌==◌, ◌&&◌, ◌||◌, nat_lt, nat_le, if◌then◌else◌}
+-- it. It has the header of a message, with another magic and a number in place of the boot number. In a Forward a server's message follows the header, in the
+-- grammar of the loggers' messages.
+use Rattle.std.specs.Prelude.{ℕ, Bool, true, false, not, List, [], length, drop, slice_index, find, Option, None, Some, ◌∷◌, Result, Ok, Err, ◌≡◌}
+use Rattle.std.specs.Prelude.{◌+◌, ◌^◌, ◌<◌, ◌==◌, ◌&&◌, ◌||◌, nat_lt, nat_le, if◌then◌else◌}
 use Rattle.seq_arith.specs.declared.kinds.BadMsg.{BadMsg}
+use Rattle.seq_arith.specs.declared.kinds.Grammar.{Grammar}
+use Rattle.seq_arith.specs.declared.kinds.Grammar.TheVariants as grammars
 use Rattle.seq_arith.specs.declared.twin.BadTwin.{BadTwin}
 use Rattle.seq_arith.specs.declared.twin.BadTwin.TheVariants as bad
 use Rattle.seq_arith.specs.declared.twin.TwinKind.{TwinKind}
@@ -38,14 +42,14 @@ abbrev pub says_asking : Result Message BadMsg → Bool
 says_asking (Ok message) = not (is_answer message.body)
 says_asking (Err why) = false
 
-unfoldable pub is_asking : List ℕ → Bool
-is_asking bytes = says_asking (messages.reading bytes)
+unfoldable pub is_asking_by : Grammar → List ℕ → Bool
+is_asking_by grammar bytes = says_asking (messages.reading_by grammar bytes)
 
 -- whether what a datagram of a kind says is in its range, with this number and these bytes after its header
-unfoldable pub is_sound : TwinKind → (number : ℕ) → (behind : List ℕ) → Bool
-is_sound kinds.Forward number behind = nat_le 1 number && is_asking behind
-is_sound kinds.Got number behind = nat_le 1 number
-is_sound kinds.Alone number behind = number == 0
+unfoldable pub is_sound_by : Grammar → TwinKind → (number : ℕ) → (behind : List ℕ) → Bool
+is_sound_by grammar kinds.Forward number behind = nat_le 1 number && is_asking_by grammar behind
+is_sound_by grammar kinds.Got number behind = nat_le 1 number
+is_sound_by grammar kinds.Alone number behind = number == 0
 
 -- what it says
 abbrev pub datagram_of : TwinKind → (number : ℕ) → (behind : List ℕ) → TwinDatagram
@@ -53,28 +57,38 @@ datagram_of kinds.Forward number behind = datagrams.Forward number behind
 datagram_of kinds.Got number behind = datagrams.Got number
 datagram_of kinds.Alone number behind = datagrams.Alone
 
-unfoldable pub is_sound_in : TwinKind → List ℕ → Bool
-is_sound_in kind bytes = is_sound kind (number_in 8 (drop 8 bytes)) (drop 16 bytes)
+unfoldable pub is_sound_in : Grammar → TwinKind → List ℕ → Bool
+is_sound_in grammar kind bytes = is_sound_by grammar kind (number_in 8 (drop 8 bytes)) (drop 16 bytes)
 
 unfoldable pub datagram_in : TwinKind → List ℕ → TwinDatagram
 datagram_in kind bytes = datagram_of kind (number_in 8 (drop 8 bytes)) (drop 16 bytes)
 
--- What a string of bytes says, or why it is no such datagram: the first test that holds
-unfoldable pub reading_of : TwinKind → List ℕ → Result TwinDatagram BadTwin
-reading_of kind bytes =
+-- What a string of bytes says between loggers whose messages have this grammar, or why it is no such datagram: the first test that holds
+unfoldable pub reading_of : Grammar → TwinKind → List ℕ → Result TwinDatagram BadTwin
+reading_of grammar kind bytes =
     if not (word_at bytes 4 == length bytes) || not (has_length kind (length bytes)) then Err bad.Length
     else (if not (checksum bytes == 0) then Err bad.Sum
-    else (if not (is_sound_in kind bytes) then Err bad.Field else Ok (datagram_in kind bytes)))
+    else (if not (is_sound_in grammar kind bytes) then Err bad.Field else Ok (datagram_in kind bytes)))
 
-abbrev pub reading_if : Option TwinKind → List ℕ → Result TwinDatagram BadTwin
-reading_if None bytes = Err bad.Kind
-reading_if (Some kind) bytes = reading_of kind bytes
+abbrev pub reading_if : Grammar → Option TwinKind → List ℕ → Result TwinDatagram BadTwin
+reading_if grammar None bytes = Err bad.Kind
+reading_if grammar (Some kind) bytes = reading_of grammar kind bytes
 
-unfoldable pub reading : List ℕ → Result TwinDatagram BadTwin
-reading bytes =
+unfoldable pub reading_by : Grammar → List ℕ → Result TwinDatagram BadTwin
+reading_by grammar bytes =
     if nat_lt (length bytes) 16 then Err bad.Short
     else (if not (word_at bytes 0 == 18005) then Err bad.Magic
-    else (if not (slice_index bytes 2 == 1) then Err bad.Version else reading_if (kind_numbered (slice_index bytes 3)) bytes))
+    else (if not (slice_index bytes 2 == 1) then Err bad.Version else reading_if grammar (kind_numbered (slice_index bytes 3)) bytes))
+
+-- .. whose messages have the plain one
+abbrev pub is_sound : TwinKind → (number : ℕ) → (behind : List ℕ) → Bool
+is_sound kind number behind = is_sound_by grammars.Plain kind number behind
+
+abbrev pub is_asking : List ℕ → Bool
+is_asking bytes = is_asking_by grammars.Plain bytes
+
+abbrev pub reading : List ℕ → Result TwinDatagram BadTwin
+reading bytes = reading_by grammars.Plain bytes
 
 -- what a datagram says is its kind, its number, and what follows its header
 abbrev pub kind_of : TwinDatagram → TwinKind
@@ -100,7 +114,10 @@ unfoldable pub spelling : TwinDatagram → List ℕ
 spelling datagram = spelled datagram (checksum (spelled datagram 0))
 
 -- what has a spelling: the number fits its bytes, all is in its range, and the datagram has one of its kind's lengths
-pub record IsSpellable (datagram : TwinDatagram) : Type 0 where
+pub record IsSpellableBy (grammar : Grammar) (datagram : TwinDatagram) : Type 0 where
   pub number : number_of datagram < 256 ^ 8
-  pub sound : is_sound (kind_of datagram) (number_of datagram) (behind_of datagram) ≡ true
+  pub sound : is_sound_by grammar (kind_of datagram) (number_of datagram) (behind_of datagram) ≡ true
   pub size : has_length (kind_of datagram) (16 + length (behind_of datagram)) ≡ true
+
+abbrev pub IsSpellable : TwinDatagram → Type 0
+IsSpellable datagram = IsSpellableBy grammars.Plain datagram

@@ -7,7 +7,7 @@ pub enum BadMsg {
     Short,
     /// The first two bytes aren't the magic.
     Magic,
-    /// The version isn't 1.
+    /// The version isn't the grammar's.
     Version,
     /// The kind isn't 1 to 18.
     Kind,
@@ -17,6 +17,15 @@ pub enum BadMsg {
     Sum,
     /// A field is outside its range.
     Field,
+}
+
+/// How a server and its logger write their messages. Both use the same grammar as long as the log lasts, and read no message of the other one.
+#[derive(Clone, Copy, Debug, PartialEq, Eq)]
+pub enum Grammar {
+    /// Version 1. Every Data is answered.
+    Plain,
+    /// Version 2. Of the Data that one turn sends of a connection, only the last is answered.
+    Wide,
 }
 
 /// The kinds of messages, each with its number on the wire. Those that answer another are listed after what they answer.
@@ -85,6 +94,8 @@ pub enum Field {
     ReadLength,
     /// A flag: 0 or 1.
     Flag,
+    /// Whether the FIN follows the bytes of a Data, and in the wide grammar also whether a later Data of the same turn does.
+    Ending,
     /// A boot number above the message's own.
     Newer,
 }

@@ -2,7 +2,7 @@
 //! checksums, and on packets and messages that are read back, or damaged and refused.
 
 ghost use Rattle.std.specs.Prelude.{◌≡◌, ◌<◌, ◌≤◌, ◌+◌, ◌-◌, ◌*◌, ◌/◌, ◌%◌, ◌^◌, ℕ, ℤ, pos, ◌-ℤ◌, ◌≤ℤ◌, false, List, ◌∷◌, ◌++◌, length, take};
-ghost use Rattle.std.specs.Prelude.{Ok, IsErr};
+ghost use Rattle.std.specs.Prelude.{Ok, Err, IsErr};
 ghost use Rattle.seq_arith.specs.Number.{gap, number_at, offset_of};
 ghost use Rattle.seq_arith.specs.Checksum.{word_sum, odd_after, check_of, Summed, with_bytes};
 ghost use Rattle.seq_arith.specs.Damage.{flipped};
@@ -10,6 +10,9 @@ ghost use Rattle.seq_arith.specs.Packet.{Segment};
 ghost use Rattle.seq_arith.specs.PacketGrammar.{IsSpellable, reading, spelling};
 ghost use Rattle.seq_arith.specs.Message.{Message};
 ghost use Rattle.seq_arith.specs.MessageGrammar.{IsSpellable as IsSpellableMessage, reading as message_reading, spelling as message_spelling};
+ghost use Rattle.seq_arith.specs.MessageGrammar.{IsSpellableBy, reading_by, spelling_by};
+ghost use Rattle.seq_arith.specs.declared.kinds.BadMsg.{BadMsg};
+ghost use Rattle.seq_arith.specs.declared.kinds.Grammar.{Grammar};
 ghost use Rattle.seq_arith.specs.TwinDatagram.{TwinDatagram};
 ghost use Rattle.seq_arith.specs.TwinGrammar.{IsSpellable as IsSpellableTwin, reading as twin_reading, spelling as twin_spelling};
 ghost use Rattle.seq_arith.specs.Mark.{MarkMessage};
@@ -99,6 +102,23 @@ pub fn shortened_message_is_refused()
 /// And so is one with further bytes after it.
 pub fn lengthened_message_is_refused()
     ensures { (bytes behind : List ℕ) (message : Message) → message_reading bytes ≡ Ok message → 0 < length behind → IsErr (message_reading (bytes ++ behind)) }
+{}
+
+/// In each grammar the spelling of a message is read back as that message.
+pub fn message_is_read_in_its_grammar()
+    ensures { (grammar : Grammar) (message : Message) → IsSpellableBy grammar message → reading_by grammar (spelling_by grammar message) ≡ Ok message }
+{}
+
+/// What one grammar reads, the other refuses, because of its version.
+pub fn no_grammar_reads_the_other()
+    ensures { (grammar other : Grammar) (bytes : List ℕ) (message : Message) → reading_by grammar bytes ≡ Ok message → (grammar ≡ other → ⊥)
+        → reading_by other bytes ≡ Err BadMsg.Version }
+{}
+
+/// A message of either grammar with one bit inverted is refused by it.
+pub fn flipped_message_is_refused_by_its_grammar()
+    ensures { (grammar : Grammar) (bit : ℕ) (bytes : List ℕ) (message : Message) → reading_by grammar bytes ≡ Ok message → bit < 8 * length bytes
+        → IsErr (reading_by grammar (flipped bit bytes)) }
 {}
 
 /// The spelling of a datagram between two loggers is read back as that datagram.

@@ -8,7 +8,7 @@ pub use checksum::{Sum16, patch16};
 pub use damage::flip;
 pub use flags::{ACK, CWR, ECE, FIN, PSH, RST, SYN, URG, has};
 pub use head::Head;
-pub use kinds::{BadMsg, Field, Kind};
+pub use kinds::{BadMsg, Field, Grammar, Kind};
 pub use mark::{BadMark, MarkKind};
 pub use options::segment_size;
 pub use twin::{BadTwin, TwinKind};

@@ -1,7 +1,8 @@
 -- What the text and the FIN of a segment do to the peer's stream (RFC 9293, 3.10.7.4, seventh and eighth check; segments past RCV.NXT may be held there). `n`
 -- bytes of the stream are taken before the segment, `edge` is the window's right edge, `fin` says whether the peer's FIN is taken, `early` is what is held, and
 -- the segment's text begins at `first`. Each rule is one definition, and the rules apply in this order.
-use Rattle.std.specs.Prelude.{◌≡◌, ℕ, ℤ, Bool, true, false, pos, negsuc, ◌+◌, ◌-◌, ◌<◌, ◌≤◌, ◌+ℤ◌, ◌==◌, ◌&&◌, not, min, int_le, int_lt, nat_abs, Option, None, Some, IfSome, option_map, List, [], ◌++◌, length, take, drop, if◌then◌else◌}
+use Rattle.std.specs.Prelude.{◌≡◌, ℕ, ℤ, Bool, true, false, pos, negsuc, ◌+◌, ◌-◌, ◌<◌, ◌≤◌, ◌+ℤ◌, ◌==◌, ◌&&◌, not, min, int_le, int_lt, nat_abs}
+use Rattle.std.specs.Prelude.{Option, None, Some, IfSome, option_map, List, [], ◌++◌, length, take, drop, if◌then◌else◌}
 use Rattle.tcp_rules.specs.Arrival.{below}
 use Rattle.tcp_rules.specs.Early.{held_with, front_run, behind_front_run, holds_some}
 
@@ -51,7 +52,10 @@ new_text n edge fin early first text = take (text_edge n edge fin early - (n + a
 unfoldable pub with_text : (n edge : ℕ) → ℤ → List ℕ → Came → Came
 with_text n edge first text c =
     if ahead n first == 0
-    then record c { added = new_text n edge c.fin c.early first text; early = record c.early { text = drop (length (new_text n edge c.fin c.early first text)) c.early.text } }
+    then record c {
+      added = new_text n edge c.fin c.early first text;
+      early = record c.early { text = drop (length (new_text n edge c.fin c.early first text)) c.early.text };
+    }
     else record c { early = record c.early { text = held_with (ahead n first) (new_text n edge c.fin c.early first text) c.early.text } }
 
 abbrev pub is_none : Option ℕ → Bool

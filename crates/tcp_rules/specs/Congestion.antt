@@ -1,5 +1,5 @@
--- Congestion control (RFC 5681, 3.1 and 3.2; RFC 6582, 3.2): how far past SND.UNA new data may be sent, and how acknowledgements and losses change that. `mss` is the
--- segment size, and `flight` is what is sent and not acknowledged. All counts are in units, and divisions are of whole numbers.
+-- Congestion control (RFC 5681, 3.1 and 3.2; RFC 6582, 3.2): how far past SND.UNA new data may be sent, and how acknowledgements and losses change that.
+-- `mss` is the segment size, and `flight` is what is sent and not acknowledged. All counts are in units, and divisions are of whole numbers.
 use Rattle.std.specs.Prelude.{ℕ, Bool, ◌≤◌, ◌+◌, ◌-◌, ◌*◌, ◌/◌, ◌^◌, ◌==◌, ◌&&◌, not, nat_le, nat_lt, max, min, if◌then◌else◌}
 
 pub record Congestion : Type 0 where
@@ -61,14 +61,25 @@ unfoldable pub with_duplicate : (mss flight : ℕ) → Congestion → Congestion
 with_duplicate mss flight c =
     if nat_le 3 c.dups then record c { cwnd = min most_window (c.cwnd + mss); dups = 4 }
     else (if is_third c
-    then record c { cwnd = min most_window (lowered_threshold mss flight + 3 * mss); ssthresh = lowered_threshold mss flight; dups = 3; lost = if c.recovers then flight else 0 }
+    then record c {
+      cwnd = min most_window (lowered_threshold mss flight + 3 * mss);
+      ssthresh = lowered_threshold mss flight;
+      dups = 3;
+      lost = if c.recovers then flight else 0;
+    }
     else record c { dups = if is_recovering c then min 2 (c.dups + 1) else c.dups + 1 })
 
 -- The timer expires: all that is in flight counts as lost (3.1). Only the first expiry lowers the threshold. It stays the same at further expiries, while the
 -- same segment is retransmitted
 unfoldable pub with_expiry : (mss flight : ℕ) → (first : Bool) → Congestion → Congestion
 with_expiry mss flight first c =
-    record c { cwnd = min most_window mss; ssthresh = if first then lowered_threshold mss flight else c.ssthresh; dups = 0; lost = if c.recovers then flight else 0 }
+    record c {
+      cwnd = min most_window mss;
+      ssthresh = if first then lowered_threshold mss flight else c.ssthresh;
+      dups = 0;
+      lost = if c.recovers then flight
+          else 0;
+    }
 
 -- neither window nor threshold is 0, so that something may always be sent where nothing is in flight
 pub record IsOpen (mss : ℕ) (c : Congestion) : Type 0 where

@@ -1,11 +1,12 @@
-//! Laws of the definitions in `specs`, each the contract of a function with an empty body, for the crates above to cite. Most say that a test on offsets has the
-//! same result if both sides of it move by the same number.
+//! Laws of the definitions in `specs`, each the contract of a function with an empty body, for the crates above to cite. Most say that a test on offsets has
+//! the same result if both sides of it move by the same number.
 
 ghost use Rattle.std.specs.Prelude.{◌≡◌, ◌<◌, ◌≤◌, ◌+◌, ◌-◌, ◌*◌, ℕ, ℤ, pos, ◌+ℤ◌, Bool, true, false, List, [], length, take, drop};
 ghost use Rattle.std.specs.Prelude.{nat_abs, ◌==◌, nat_le, min, if◌then◌else◌};
 ghost use Rattle.tcp_rules.specs.Arrival.{is_acceptable, is_usable, below, text_between, is_new_ack, is_beyond, una_after, updates_window};
 ghost use Rattle.tcp_rules.specs.Coming.{Early, early_from, came_from, nothing_came, comes, StandsBehind};
-ghost use Rattle.tcp_rules.specs.Congestion.{Congestion, most_window, initial_congestion, growth, with_new_data, lowered_threshold, is_third, with_duplicate, with_expiry, IsOpen};
+ghost use Rattle.tcp_rules.specs.Congestion.{Congestion, most_window, initial_congestion, growth, with_new_data, lowered_threshold, is_third};
+ghost use Rattle.tcp_rules.specs.Congestion.{with_duplicate, with_expiry, IsOpen};
 ghost use Rattle.tcp_rules.specs.Timing.{initial_timing, with_acknowledged, with_tick, without_trip, with_backoff, with_sent};
 
 /// Whether a segment is acceptable stays the same if RCV.NXT and the segment's offset move by the same number.
@@ -101,7 +102,11 @@ pub fn plain_congestion_notes_no_loss()
         then record c { cwnd = min most_window (lowered_threshold mss flight + 3 * mss); ssthresh = lowered_threshold mss flight; dups = 3 }
         else record c { dups = c.dups + 1 })) }
     ensures expiry { (mss flight : ℕ) (first : Bool) (c : Congestion) → c.recovers ≡ false → c.lost ≡ 0
-        → with_expiry mss flight first c ≡ record c { cwnd = min most_window mss; ssthresh = if first then lowered_threshold mss flight else c.ssthresh; dups = 0 } }
+        → with_expiry mss flight first c ≡ record c {
+          cwnd = min most_window mss;
+          ssthresh = if first then lowered_threshold mss flight else c.ssthresh;
+          dups = 0;
+        } }
 {}
 
 /// The estimate of a sender that doesn't measure never changes, and its timer starts with one tick.

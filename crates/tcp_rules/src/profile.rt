@@ -1,15 +1,18 @@
 //! What an operator chooses for a server or a client.
 
 ghost use Rattle.std.specs.Prelude.{◌≡◌};
+ghost use Rattle.tcp_rules.specs.Profile.{grammar_of};
 ghost use Rattle.tcp_rules.specs.Profiles.{profile_of};
+
+use seq_arith::Grammar;
 
 /// What an operator chooses for a server. It stays as long as the server's log.
 #[derive(Clone, Copy, Debug, PartialEq, Eq)]
 pub enum Profile {
     /// Every retransmission timer starts with one tick, and every ACK is sent at once: for clients that are a few milliseconds away.
     Plain,
-    /// The retransmission timer follows measured round trips, the losses of one flight are recovered one after another, and the ACK of what isn't logged yet
-    /// waits for the log: for clients beyond a wide-area network.
+    /// The retransmission timer follows measured round trips, the losses of one flight are recovered one after another, the ACK of what isn't logged yet waits
+    /// for the log, and of the Data that one turn sends of a connection only the last is answered: for clients beyond a wide-area network.
     Wan,
 }
 
@@ -26,5 +29,22 @@ impl Profile {
         ensures { result ≡ (profile_of self).delays }
     {
         matches!(self, Profile::Wan)
+    }
+
+    /// Whether the log answers only the last of the Data that one turn sends of a connection.
+    pub fn batches(self) -> bool
+        ensures { result ≡ (profile_of self).batches }
+    {
+        matches!(self, Profile::Wan)
+    }
+
+    /// How the server and its logger write their messages.
+    pub fn grammar(self) -> Grammar
+        ensures { result ≡ grammar_of (profile_of self) }
+    {
+        match self {
+            Profile::Plain => Grammar::Plain,
+            Profile::Wan => Grammar::Wide,
+        }
     }
 }

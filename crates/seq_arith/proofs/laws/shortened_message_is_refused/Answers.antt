@@ -1,5 +1,6 @@
-use Rattle.seq_arith.proofs.Refused.{shortened_message_is_refused}
+use Rattle.seq_arith.specs.declared.kinds.Grammar.TheVariants as grammars
+use Rattle.seq_arith.proofs.Refused.{shortened_is_refused_by}
 use Rattle.seq_arith.proofs.laws.shortened_message_is_refused.Goals as goal
 
 pub returns : goal.returns
-returns c = shortened_message_is_refused
+returns c = shortened_is_refused_by grammars.Plain
