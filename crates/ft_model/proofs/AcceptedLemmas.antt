@@ -1,9 +1,9 @@
 -- A text is accepted line by line, and each accepted line keeps what every accepted schedule keeps.
-use Rattle.std.proofs.Common.{◌≡◌, ℕ, ◌+◌, ◌-◌, ◌*◌, ◌<◌, ◌≤◌, ◌^◌, List, [], ◌∷◌, ◌++◌, length, drop, refl, arith, append_assoc, length-append, Bool, true, false}
-use Rattle.std.specs.Prelude.{cond, Option, Some, None, option_map, Result, Ok, Err, nat_le, ◌&&◌, is_none}
+use Rattle.std.proofs.Common.{◌≡◌, ℕ, ◌+◌, ◌-◌, ◌*◌, ◌<◌, ◌≤◌, ◌^◌, List, [], ◌∷◌, ◌++◌, length, drop, refl, sym, subst, arith, append_assoc, length-append, Bool, true, false}
+use Rattle.std.specs.Prelude.{cond, Option, Some, None, option_map, Result, Ok, Err, nat_le, ◌==◌, ◌&&◌, is_none}
 use Rattle.std.specs.Option.{ok_or, option_and_then}
 use Rattle.std.specs.List.{AllByRecursion}
-use Rattle.std.proofs.lemmas.Bool.{ltb-true, leb-true, leb-false}
+use Rattle.std.proofs.lemmas.Bool.{ltb-true, leb-true, leb-false, eqb-true}
 use Rattle.std.proofs.lemmas.List.{append-nil}
 use Rattle.std.proofs.lemmas.Option.{cond_some}
 use Rattle.ft_io.specs.declared.Addr.{Addr}
@@ -11,7 +11,7 @@ use Rattle.tcp_rules.specs.declared.profile.Profile.{Profile}
 use Rattle.ft_model.specs.Words.{words_of, lines_of}
 use Rattle.ft_model.specs.Spelling.{numeral, number_of, within, addr_of, is_hex, hex_bytes, script_of}
 use Rattle.ft_model.specs.Grammar.Refusal.{TooLong}
-use Rattle.ft_model.specs.Grammar.{◌>>=◌, line_of, line_of_words, line_behind, line_from, may_stand, may_join, keyword_of, verb_of, is_misnamed, is_printable, client_line, free_address, is_taken, service_line, server_line, bare_line, profile_line, marks_line, has_only_server, event_line, client_number, long_number, Objection, no_objection, unless_objected, after_line, read_lines, read_with, read_text, with_line, is_passed_over, is_too_much, at_line}
+use Rattle.ft_model.specs.Grammar.{◌>>=◌, line_of, line_of_words, line_behind, line_from, may_stand, may_join, keyword_of, verb_of, is_misnamed, is_printable, client_line, free_address, is_taken, service_line, server_line, bare_line, profile_line, marks_line, lasting_line, has_only_server, event_line, client_number, wait_number, silence_number, long_number, Objection, no_objection, unless_objected, after_line, read_lines, read_with, read_text, with_line, is_passed_over, is_too_much, at_line}
 use Rattle.ft_model.specs.Accepted.{AreApart, IsAccepted}
 use Rattle.ft_model.specs.Schedule.{bytes_of}
 use Rattle.ft_model.specs.declared.event.Event.{Event}
@@ -23,6 +23,7 @@ use Rattle.ft_model.specs.declared.line.Line.{Line}
 use Rattle.ft_model.specs.declared.line.Line.TheVariants as line
 use Rattle.ft_model.specs.declared.line.Verb.{Verb}
 use Rattle.ft_model.specs.declared.schedule.ClientLine.{ClientLine}
+use Rattle.ft_model.specs.declared.schedule.Lasting.{Lasting}
 use Rattle.ft_model.specs.declared.schedule.Limit.TheVariants as limit
 use Rattle.ft_model.specs.declared.schedule.LineWhy.{LineWhy}
 use Rattle.ft_model.specs.declared.schedule.LineWhy.TheVariants as why
@@ -93,6 +94,7 @@ says_event draft keyword.Server words e h = let b = bind_ok (server_line words) 
 says_event draft keyword.Profile words e h = let b = bind_ok (profile_line words) (λ profile. Ok (line.Profile profile)) (line.Event e) h in absurd (cc b.2)
 says_event draft keyword.Twin words e h = absurd (bare_says line.Twin words (line.Event e) (λ f. cc) h)
 says_event draft keyword.Marks words e h = let b = bind_ok (marks_line words) (λ every. Ok (line.Marks every)) (line.Event e) h in absurd (cc b.2)
+says_event draft keyword.Lasting words e h = let b = bind_ok (lasting_line words) (λ waits. Ok (line.Lasting waits)) (line.Event e) h in absurd (cc b.2)
 says_event draft keyword.Client words e h = let b = bind_ok (client_line draft words) (λ client. Ok (line.Client client)) (line.Event e) h in absurd (cc b.2)
 says_event draft (keyword.Event v) words e h = (v, refl)
 
@@ -102,6 +104,7 @@ says_client draft keyword.Server words c h = let b = bind_ok (server_line words)
 says_client draft keyword.Profile words c h = let b = bind_ok (profile_line words) (λ profile. Ok (line.Profile profile)) (line.Client c) h in absurd (cc b.2)
 says_client draft keyword.Twin words c h = absurd (bare_says line.Twin words (line.Client c) (λ f. cc) h)
 says_client draft keyword.Marks words c h = let b = bind_ok (marks_line words) (λ every. Ok (line.Marks every)) (line.Client c) h in absurd (cc b.2)
+says_client draft keyword.Lasting words c h = let b = bind_ok (lasting_line words) (λ waits. Ok (line.Lasting waits)) (line.Client c) h in absurd (cc b.2)
 says_client draft keyword.Client words c h = let b = bind_ok (client_line draft words) (λ client. Ok (line.Client client)) (line.Client c) h in (refl, (cc (b.1, b.2)))
 says_client draft (keyword.Event v) words c h = let b = bind_ok (event_line v words) (λ e. Ok (line.Event e)) (line.Client c) h in absurd (cc b.2)
 
@@ -115,7 +118,7 @@ verb_in None v e = absurd (cc)
 
 verb_behind : (word : List ℕ) (v : Verb) → keyword_of word ≡ Some (keyword.Event v) → verb_of word ≡ Some v
 unfolding keyword_of
-verb_behind word v e = verb_in (verb_of word) v (another _ keyword.Client (keyword.Event v) _ (λ h. cc) (another _ keyword.Marks (keyword.Event v) _ (λ h. cc) (another _ keyword.Twin (keyword.Event v) _ (λ h. cc) (another _ keyword.Profile (keyword.Event v) _ (λ h. cc) (another _ keyword.Server (keyword.Event v) _ (λ h. cc) (another _ keyword.Service (keyword.Event v) _ (λ h. cc) e))))))
+verb_behind word v e = verb_in (verb_of word) v (another _ keyword.Client (keyword.Event v) _ (λ h. cc) (another _ keyword.Lasting (keyword.Event v) _ (λ h. cc) (another _ keyword.Marks (keyword.Event v) _ (λ h. cc) (another _ keyword.Twin (keyword.Event v) _ (λ h. cc) (another _ keyword.Profile (keyword.Event v) _ (λ h. cc) (another _ keyword.Server (keyword.Event v) _ (λ h. cc) (another _ keyword.Service (keyword.Event v) _ (λ h. cc) e)))))))
 
 -- A script has at most 2^24 bytes.
 half : (digits : List ℕ) → 2 * length (hex_bytes digits) ≤ length digits
@@ -203,6 +206,7 @@ with_client s c h room apart script = record {
   scripts = all_push (λ client. length (bytes_of client.script) ≤ 2 ^ 24) s.clients c h.scripts script;
   events = h.events;
   marks = h.marks;
+  lasting = h.lasting;
 }
 
 with_event : (s : Schedule) (e : Event) → IsAccepted s → length s.events < 100000 → IsAccepted (record s { events = s.events ++ e ∷ [] })
@@ -213,6 +217,7 @@ with_event s e h room = record {
   scripts = h.scripts;
   events = omega (arith, length-append {A = Event});
   marks = h.marks;
+  lasting = h.lasting;
 }
 
 -- a line on two loggers or on marks is announced by its keyword
@@ -222,6 +227,7 @@ says_twin draft keyword.Server words h = let b = bind_ok (server_line words) (λ
 says_twin draft keyword.Profile words h = let b = bind_ok (profile_line words) (λ profile. Ok (line.Profile profile)) line.Twin h in absurd (cc b.2)
 says_twin draft keyword.Twin words h = refl
 says_twin draft keyword.Marks words h = let b = bind_ok (marks_line words) (λ every. Ok (line.Marks every)) line.Twin h in absurd (cc b.2)
+says_twin draft keyword.Lasting words h = let b = bind_ok (lasting_line words) (λ waits. Ok (line.Lasting waits)) line.Twin h in absurd (cc b.2)
 says_twin draft keyword.Client words h = let b = bind_ok (client_line draft words) (λ client. Ok (line.Client client)) line.Twin h in absurd (cc b.2)
 says_twin draft (keyword.Event v) words h = let b = bind_ok (event_line v words) (λ e. Ok (line.Event e)) line.Twin h in absurd (cc b.2)
 
@@ -232,8 +238,20 @@ says_marks draft keyword.Server words every h = let b = bind_ok (server_line wor
 says_marks draft keyword.Profile words every h = let b = bind_ok (profile_line words) (λ profile. Ok (line.Profile profile)) (line.Marks every) h in absurd (cc b.2)
 says_marks draft keyword.Twin words every h = absurd (bare_says line.Twin words (line.Marks every) (λ f. cc) h)
 says_marks draft keyword.Marks words every h = let b = bind_ok (marks_line words) (λ x. Ok (line.Marks x)) (line.Marks every) h in (refl, cc (b.1, b.2))
+says_marks draft keyword.Lasting words every h = let b = bind_ok (lasting_line words) (λ waits. Ok (line.Lasting waits)) (line.Marks every) h in absurd (cc b.2)
 says_marks draft keyword.Client words every h = let b = bind_ok (client_line draft words) (λ client. Ok (line.Client client)) (line.Marks every) h in absurd (cc b.2)
 says_marks draft (keyword.Event v) words every h = let b = bind_ok (event_line v words) (λ e. Ok (line.Event e)) (line.Marks every) h in absurd (cc b.2)
+
+pub says_lasting : (draft : Draft) (k : Keyword) (words : List (List ℕ)) (waits : Lasting) → line_from draft k words ≡ Ok (line.Lasting waits)
+    → (k ≡ keyword.Lasting) × (lasting_line words ≡ Ok waits)
+says_lasting draft keyword.Service words waits h = let b = bind_ok (service_line words) (λ kind. Ok (line.Service kind)) (line.Lasting waits) h in absurd (cc b.2)
+says_lasting draft keyword.Server words waits h = let b = bind_ok (server_line words) (λ addr. Ok (line.Server addr)) (line.Lasting waits) h in absurd (cc b.2)
+says_lasting draft keyword.Profile words waits h = let b = bind_ok (profile_line words) (λ profile. Ok (line.Profile profile)) (line.Lasting waits) h in absurd (cc b.2)
+says_lasting draft keyword.Twin words waits h = absurd (bare_says line.Twin words (line.Lasting waits) (λ f. cc) h)
+says_lasting draft keyword.Marks words waits h = let b = bind_ok (marks_line words) (λ every. Ok (line.Marks every)) (line.Lasting waits) h in absurd (cc b.2)
+says_lasting draft keyword.Lasting words waits h = let b = bind_ok (lasting_line words) (λ x. Ok (line.Lasting x)) (line.Lasting waits) h in (refl, cc (b.1, b.2))
+says_lasting draft keyword.Client words waits h = let b = bind_ok (client_line draft words) (λ client. Ok (line.Client client)) (line.Lasting waits) h in absurd (cc b.2)
+says_lasting draft (keyword.Event v) words waits h = let b = bind_ok (event_line v words) (λ e. Ok (line.Event e)) (line.Lasting waits) h in absurd (cc b.2)
 
 pub every_bounds : (words : List (List ℕ)) (every : ℕ) → marks_line words ≡ Ok every → (0 < every) × (every ≤ 1000)
 unfolding marks_line number_of
@@ -243,18 +261,40 @@ every_bounds (word ∷ []) every h =
 every_bounds [] every h = absurd (cc)
 every_bounds (word ∷ other ∷ more) every h = absurd (cc)
 
-no_number : (o : Option ℕ) (n : ℕ) → is_none o ≡ true → o ≡ Some n → ⊥
-no_number None n h e = cc
-no_number (Some m) n h e = cc
+pub lasting_bounds : (words : List (List ℕ)) (waits : Lasting) → lasting_line words ≡ Ok waits → (0 < waits.wait) × (waits.wait ≤ 100000) × (waits.silence ≤ 100000)
+unfolding lasting_line number_of
+lasting_bounds (wait ∷ silence ∷ []) waits h =
+    let w = bind_ok (wait_number wait) (λ w. silence_number silence >>= λ s. Ok (record { wait = w; silence = s })) waits h in
+    let s = bind_ok (silence_number silence) (λ s. Ok (record { wait = w.0; silence = s })) waits w.2 in
+    let same : record { wait = w.0; silence = s.0 } ≡ waits = cc s.2 in
+    let found : number_of 1 100000 wait ≡ Some w.0 = ok_or_ok (number_of 1 100000 wait) why.Number w.0 w.1 in
+    let also : number_of 0 100000 silence ≡ Some s.0 = ok_or_ok (number_of 0 100000 silence) why.Number s.0 s.1 in
+    subst (λ (x : Lasting). (0 < x.wait) × (x.wait ≤ 100000) × (x.silence ≤ 100000)) same
+    (within_least 1 100000 (numeral 20 wait) w.0 found, number_bound 1 100000 wait w.0 found, number_bound 0 100000 silence s.0 also)
+lasting_bounds [] waits h = absurd (cc)
+lasting_bounds (wait ∷ []) waits h = absurd (cc)
+lasting_bounds (wait ∷ silence ∷ word ∷ more) waits h = absurd (cc)
 
--- where either may stand, there are neither two loggers nor marks yet
+no_value : {A : Type 0} (o : Option A) (n : A) → is_none o ≡ true → o ≡ Some n → ⊥
+no_value None n h e = absurd (cc)
+no_value (Some m) n h e = absurd (cc)
+
+none_is : {A : Type 0} (o : Option A) → is_none o ≡ true → o ≡ None
+none_is None h = refl
+none_is (Some m) h = absurd (cc)
+
+-- where one of these lines may stand, there are neither two loggers nor marks yet, and the server isn't one that lasts
 is_single : (s : Schedule) → has_only_server s ≡ true → s.twin ≡ false
 unfolding has_only_server
-is_single s h = not_true s.twin (right_true _ _ (left_true _ _ h))
+is_single s h = not_true s.twin (right_true _ _ (left_true _ _ (left_true _ _ h)))
 
 is_unmarked : (s : Schedule) → has_only_server s ≡ true → is_none s.marks ≡ true
 unfolding has_only_server
-is_unmarked s h = right_true _ _ h
+is_unmarked s h = right_true _ _ (left_true _ _ h)
+
+lasts_not : (s : Schedule) → has_only_server s ≡ true → is_none s.lasting ≡ true
+unfolding has_only_server
+lasts_not s h = right_true _ _ h
 
 with_profile : (s : Schedule) (profile : Profile) → IsAccepted s → IsAccepted (record s { profile = profile })
 unfolding is_taken
@@ -264,27 +304,52 @@ with_profile s profile h = record {
   scripts = h.scripts;
   events = h.events;
   marks = h.marks;
+  lasting = h.lasting;
 }
 
-with_pair : (s : Schedule) → IsAccepted s → is_none s.marks ≡ true → IsAccepted (record s { twin = true })
+with_pair : (s : Schedule) → IsAccepted s → is_none s.marks ≡ true → is_none s.lasting ≡ true → IsAccepted (record s { twin = true })
 unfolding is_taken
-with_pair s h none = record {
+with_pair s h none fleeting = record {
   clients = h.clients;
   addresses = h.addresses;
   scripts = h.scripts;
   events = h.events;
-  marks = λ every e. absurd (no_number s.marks every none e);
+  marks = λ every e. absurd (no_value s.marks every none e);
+  lasting = λ waits e. absurd (no_value s.lasting waits fleeting e);
 }
 
-with_marks : (s : Schedule) (every : ℕ) → IsAccepted s → s.twin ≡ false → (0 < every) × (every ≤ 1000) → IsAccepted (record s { marks = Some every })
+with_marks : (s : Schedule) (every : ℕ) → IsAccepted s → s.twin ≡ false → is_none s.lasting ≡ true → (0 < every) × (every ≤ 1000) → IsAccepted (record s { marks = Some every })
 unfolding is_taken
-with_marks s every h single within = record {
+with_marks s every h single fleeting within = record {
   clients = h.clients;
   addresses = h.addresses;
   scripts = h.scripts;
   events = h.events;
   marks = λ n e. let is : every ≡ n = cc e in rw (← is) (within.0, within.1, single);
+  lasting = λ waits e. absurd (no_value s.lasting waits fleeting e);
 }
+
+-- a server that lasts: no client is there yet, so that all addresses are apart
+with_lasting : (s : Schedule) (waits : Lasting) → IsAccepted s → s.twin ≡ false → is_none s.marks ≡ true → s.clients ≡ []
+    → (0 < waits.wait) × (waits.wait ≤ 100000) × (waits.silence ≤ 100000) → IsAccepted (record s { lasting = Some waits })
+with_lasting s waits h single unmarked alone within = record {
+  clients = h.clients;
+  addresses = subst (AreApart (record s { lasting = Some waits }) []) (sym alone) tt;
+  scripts = h.scripts;
+  events = h.events;
+  marks = λ every e. absurd (no_value s.marks every unmarked e);
+  lasting = λ x e. let same : waits ≡ x = cc e in
+      subst (λ (y : Lasting). (0 < y.wait) × (y.wait ≤ 100000) × (y.silence ≤ 100000) × (s.twin ≡ false) × (s.marks ≡ None)) same
+      (within.0, within.1, within.2, single, none_is s.marks unmarked);
+}
+
+no_clients : (s : Schedule) → has_only_server s ≡ true → s.clients ≡ []
+unfolding has_only_server
+no_clients s h = empty s.clients (eqb-true (length s.clients) 0 (right_true _ _ (left_true _ _ (left_true _ _ (left_true _ _ h)))))
+  where
+    empty : (cs : List ClientLine) → length cs ≡ 0 → cs ≡ []
+    empty [] e = refl
+    empty (c ∷ cs) e = absurd (omega (arith, e))
 
 abbrev Kept : Draft → Type 0
 Kept Empty = Unit {0}
@@ -305,13 +370,15 @@ line_kept Empty text (line.Server addr) h few p = tt
 line_kept Empty text (line.Profile profile) h few p = tt
 line_kept Empty text line.Twin h few p = tt
 line_kept Empty text (line.Marks every) h few p = tt
+line_kept Empty text (line.Lasting waits) h few p = tt
 line_kept Empty text (line.Client c) h few p = tt
 line_kept Empty text (line.Event e) h few p = tt
 line_kept (Named kind) text (line.Service name) h few p = tt
-line_kept (Named kind) text (line.Server addr) h few p = record { clients = omega arith; addresses = tt; scripts = tt; events = omega arith; marks = λ every e. absurd (cc) }
+line_kept (Named kind) text (line.Server addr) h few p = record { clients = omega arith; addresses = tt; scripts = tt; events = omega arith; marks = λ every e. absurd (cc); lasting = λ waits e. absurd (cc) }
 line_kept (Named kind) text (line.Profile profile) h few p = tt
 line_kept (Named kind) text line.Twin h few p = tt
 line_kept (Named kind) text (line.Marks every) h few p = tt
+line_kept (Named kind) text (line.Lasting waits) h few p = tt
 line_kept (Named kind) text (line.Client c) h few p = tt
 line_kept (Named kind) text (line.Event e) h few p = tt
 line_kept (Begun s) text (line.Service kind) h few p = h
@@ -320,11 +387,15 @@ line_kept (Begun s) text (line.Profile profile) h few p = with_profile s profile
 line_kept (Begun s) text line.Twin h few p =
     let said = says_twin (Begun s) p.k p.words p.says in
     let stands : has_only_server s ≡ true = rw said at p.stands in
-    with_pair s h (is_unmarked s stands)
+    with_pair s h (is_unmarked s stands) (lasts_not s stands)
 line_kept (Begun s) text (line.Marks every) h few p =
     let said = says_marks (Begun s) p.k p.words every p.says in
     let stands : has_only_server s ≡ true = rw said.0 at p.stands in
-    with_marks s every h (is_single s stands) (every_bounds p.words every said.1)
+    with_marks s every h (is_single s stands) (lasts_not s stands) (every_bounds p.words every said.1)
+line_kept (Begun s) text (line.Lasting waits) h few p =
+    let said = says_lasting (Begun s) p.k p.words waits p.says in
+    let stands : has_only_server s ≡ true = rw said.0 at p.stands in
+    with_lasting s waits h (is_single s stands) (is_unmarked s stands) (no_clients s stands) (lasting_bounds p.words waits said.1)
 line_kept (Begun s) text (line.Client c) h few p =
     let said = says_client (Begun s) p.k p.words c p.says in
     let kept = client_kept (Begun s) p.words c said.1 in

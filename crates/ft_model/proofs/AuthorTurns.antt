@@ -229,7 +229,7 @@ place_runs service script old author isn log node input small short entries i fr
 place_runs service script old author isn log node input small short entries i front place now sent b (began asked kept after e h n t) =
     let fits = (place_fits service script isn log node input short entries i place now sent b.0 (began asked kept after e h n t)).0 in
     let none : old kept.key ≡ [] = ap old h.key ∙ subst (PlaceRuns service old) e b.1 in
-    connection_after service script old author isn log node Begins (point_opened node.profile kept) after now sent small front tt fits (opened_runs service node.profile old kept none) n t
+    connection_after service script old author isn log node Begins (point_opened node.profile kept) after now sent small front tt fits (opened_runs service node.profile old kept small.0 none) n t
 place_runs service script old author isn log node input small short entries i front place now sent b (dropped asked e d n s) = (
   subst (AllByRecursion (After service script isn old log)) (sym n) tt,
   λ is. ⊎_elim (λ x. subst (AllByRecursion (Follows service script author log)) (sym x) tt)

@@ -150,12 +150,12 @@ author_goes_on service script isn before sent after small short f k fit d a (ser
     (author_still service script before before.clients before.boot None sent a
     (subst (AllByRecursion (ReadOf a.author before.log.boot)) (sym s) tt) (subst (AllByRecursion (Speaks service script before.log)) (sym s) tt) (λ n g. none_is_some n g))
 
-pub start_author : {State : Type 0} (service : Machine State) (script : Key → List ℕ) (w : World) → IsStart w → HasAuthor service script w
+pub start_author : {State : Type 0} (service : Machine State) (script : Key → List ℕ) (w : World) → length service.greeting ≤ 65535 → IsStart w → HasAuthor service script w
 unfolding reference
-start_author service script w s = record {
+start_author service script w few s = record {
   author = λ key. [];
   entries = subst (λ l. AllByRecursion (EntryOf (λ key. [])) l.entries) (sym s.log) tt;
-  short = λ key. omega arith;
+  short = λ key. omega (arith, few);
   reads = subst (AllByRecursion (ReadOf (λ key. []) w.log.boot)) (sym s.packets) tt;
   spoken = subst (AllByRecursion (Speaks service script w.log)) (sym s.packets) tt;
   stage = λ n e. none_is_some n (sym s.node ∙ e);

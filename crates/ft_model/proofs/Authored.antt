@@ -260,6 +260,6 @@ entry_runs service profile script author e front enough small is =
     )
 
 -- a new point
-pub opened_runs : {State : Type 0} (service : Machine State) (profile : Profile) (author : Key → List ℕ) (n : Numbers) → author n.key ≡ [] → PlaceRuns service author (Lives (point_opened profile n))
+pub opened_runs : {State : Type 0} (service : Machine State) (profile : Profile) (author : Key → List ℕ) (n : Numbers) → length service.greeting ≤ 65535 → author n.key ≡ [] → PlaceRuns service author (Lives (point_opened profile n))
 unfolding reference
-opened_runs service profile author n is = (is, record { enough = le_refl 0; fetched = le_refl 0; short = omega arith; counts = le_refl 0 })
+opened_runs service profile author n few is = (is, record { enough = le_refl 0; fetched = le_refl 0; short = omega (arith, few); counts = le_refl 0 })

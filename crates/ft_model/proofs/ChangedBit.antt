@@ -9,6 +9,7 @@ use Rattle.seq_arith.specs.MessageGrammar as messages
 use Rattle.seq_arith.specs.Checksum.{checksum}
 use Rattle.seq_arith.proofs.MessageSpelling.{spelled_length}
 use Rattle.ft_model.specs.Growth.{IsPrefix}
+use Rattle.seq_arith.specs.declared.kinds.Grammar.TheVariants.{Plain}
 use Rattle.ft_model.specs.Wire.{CanBeTold}
 use Rattle.ft_model.specs.World.{Happens, Flipped}
 use Rattle.ft_model.specs.WeakerLaw.{IsWrongOnce}
@@ -25,7 +26,7 @@ abbrev data_message : Message
 data_message = record { boot = 1; body = DataMsg (part_with 0 0 false hello_text) }
 
 data_told : CanBeTold data_message
-unfolding IsLe messages.is_sound messages.has_length
+unfolding IsLe messages.is_sound_by messages.has_length
 data_told = (
   record {
     boot = le_by_compare 2 (256 ^ 8) tt;
@@ -37,9 +38,9 @@ data_told = (
 )
 
 data_long : 248 < 8 * length (messages.spelling data_message)
-unfolding messages.spelling
+unfolding messages.spelling_by
 data_long =
-    let size = spelled_length data_message (checksum (messages.spelled data_message 0)) data_told.0.numbers in omega (arith, size)
+    let size = spelled_length Plain data_message (checksum (messages.spelled Plain data_message 0)) data_told.0.numbers in omega (arith, size)
 
 refused : Happens echo path.moment_12.world run.wrong.event run.wrong.sent run.wrong.world → ⊥
 refused h =
@@ -58,7 +59,7 @@ wrong_once = record {
     (
       path.packet_10,
       refl,
-      record { wire = data_told; within = data_long; comes = nothing_read _ path.moment_12.world (message_bit_changed 248 data_message data_told data_long) },
+      record { wire = data_told; within = data_long; comes = nothing_read _ path.moment_12.world (message_bit_changed Plain 248 data_message data_told data_long) },
     ),
   );
   after = tt;

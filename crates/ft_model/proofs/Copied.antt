@@ -1,5 +1,5 @@
 -- What a live connection copies to the logger in a turn: the law Copy is opened here alone, and all else goes by what each of its Data says.
-use Rattle.std.proofs.Common.{◌≡◌, ℕ, zero, suc, ◌+◌, ◌-◌, ◌<◌, ◌≤◌, ℤ, pos, negsuc, ◌+ℤ◌, Bool, true, false, ◌&&◌, ◌||◌, not, nat_lt, nat_le, max, refl, sym, ap, subst, true≢false, inl, inr, ◌⊎◌, ⊎_elim, List, [], ◌∷◌, ◌++◌, length, take, drop, drop-drop, arith, length-take, length-drop, length-append, leb-true, ltb-true, ltb-false}
+use Rattle.std.proofs.Common.{◌≡◌, ℕ, zero, suc, ◌+◌, ◌-◌, ◌<◌, ◌≤◌, ℤ, pos, negsuc, ◌+ℤ◌, Bool, true, false, ◌&&◌, ◌||◌, not, nat_lt, nat_le, max, refl, sym, ap, ◌∙◌, subst, true≢false, inl, inr, ◌⊎◌, ⊎_elim, List, [], ◌∷◌, ◌++◌, length, take, drop, drop-drop, arith, length-take, length-drop, length-append, leb-true, ltb-true, ltb-false}
 use Rattle.std.specs.List.{AllByRecursion}
 use Rattle.std.proofs.lemmas.Bool.{and_parts}
 use Rattle.ft_io.specs.declared.Key.{Key}
@@ -13,8 +13,8 @@ use Rattle.ft_model.specs.News.{News}
 use Rattle.ft_model.specs.News.News.{Comes, Logged, Ticks, Begins}
 use Rattle.ft_model.specs.Taken.{end_of}
 use Rattle.ft_model.specs.Growth.{IsPrefix}
-use Rattle.ft_model.specs.Copy.{from_start, copy_start, copied_text, copies_fin, una_part, copied_part, own_data, further_start, further_text, takes_held_fin, datas, further_data, or_una, copies}
-use Rattle.ft_model.proofs.Lists.{or_cases, all_append, take_first, prefix_refl}
+use Rattle.ft_model.specs.Copy.{from_start, copy_start, copied_text, copies_fin, una_part, copied_part, own_data, further_start, further_text, takes_held_fin, datas, further_data, or_una, with_more, batch, copies}
+use Rattle.ft_model.proofs.Lists.{or_cases, all_append, all_weaker, take_first, prefix_refl}
 use Rattle.ft_model.proofs.StreamAgreement.{int_same}
 use Rattle.ft_io.proofs.Choices.{holds_if}
 
@@ -38,9 +38,17 @@ pub record IsFurther (before after : Point) (part : Part) : Type 0 where
   pub stands : IsPrefix part.bytes (drop part.offset after.taken)
   pub fin : part.fin ≡ true → (after.fin ≡ true) × (Grows before after → part.offset + length part.bytes ≡ length after.taken)
 
+-- a part with a later one after it, and so without a FIN
+abbrev pub as_later : Part → Part
+as_later part = record part { fin = false; more = true }
+
+-- this part, or this part with a later one after it
+abbrev pub IsOf : (whole part : Part) → Type 0
+IsOf whole part = (part ≡ whole) ⊎ (part ≡ as_later whole)
+
 -- the segment's own part, the Data for the acknowledgement alone, or a part of what was held
 abbrev pub HasForm : News → (before after : Point) → Part → Type 0
-HasForm (Comes segment) before after part = (part ≡ copied_part after segment) ⊎ ((part ≡ una_part after) ⊎ IsFurther before after part)
+HasForm (Comes segment) before after part = IsOf (copied_part after segment) part ⊎ (IsOf (una_part after) part ⊎ IsFurther before after part)
 HasForm (Logged kept) before after part = ⊥
 HasForm Ticks before after part = ⊥
 HasForm Begins before after part = ⊥
@@ -55,6 +63,7 @@ pub record IsCopy (news : News) (before after : Point) (part : Part) : Type 0 wh
   pub text : IsCut part.bytes (text_in news) ⊎ IsPrefix part.bytes (drop part.offset after.taken)
   pub short : length (text_in news) ≤ 1460 → length part.bytes ≤ 1460
   pub form : HasForm news before after part
+  pub batch : part.more ≡ true → (part.fin ≡ false) × (after.batches ≡ true)
 
 -- a cut is no longer than what it is cut from
 cut_short : (part whole : List ℕ) (most : ℕ) → IsCut part whole → length whole ≤ most → length part ≤ most
@@ -102,7 +111,8 @@ own_copy p q segment some =
       fin = copied_fin q segment;
       text = inl cut;
       short = cut_short (copied_text q segment) (text_of segment) 1460 cut;
-      form = inl refl;
+      form = inl (inl refl);
+      batch = λ m. absurd (true≢false (sym m));
     }
 
 all_own : (P : Body → Type 0) (p q : Point) (segment : Segment) → ((part : Part) → IsCopy (Comes segment) p q part → P (DataMsg part)) → AllByRecursion P (own_data q segment)
@@ -122,9 +132,10 @@ record IsPiece (whole : List ℕ) (owner : Key) (una start : ℕ) (ends : Bool) 
   short : length part.bytes ≤ 1460
   fin : part.fin ≡ true → ends ≡ true
   last : part.fin ≡ true → part.bytes ≡ drop part.offset whole
+  alone : part.more ≡ false
 
 first_piece : (whole : List ℕ) (owner : Key) (una start : ℕ) (ends : Bool) → 1460 < length (drop start whole)
-    → IsPiece whole owner una start ends (record { key = owner; offset = start; acked = una; fin = false; bytes = take 1460 (drop start whole) })
+    → IsPiece whole owner una start ends (record { key = owner; offset = start; acked = una; fin = false; more = false; bytes = take 1460 (drop start whole) })
 first_piece whole owner una start ends long = record {
   key = refl;
   acked = refl;
@@ -133,10 +144,11 @@ first_piece whole owner una start ends long = record {
   short = omega (arith, length-take 1460 (drop start whole));
   fin = λ e. absurd (true≢false (sym e));
   last = λ e. absurd (true≢false (sym e));
+  alone = refl;
 }
 
 last_piece : (whole : List ℕ) (owner : Key) (una start : ℕ) (ends : Bool) → length (drop start whole) ≤ 1460 → (nat_lt 0 (length (drop start whole)) || ends) ≡ true
-    → IsPiece whole owner una start ends (record { key = owner; offset = start; acked = una; fin = ends; bytes = drop start whole })
+    → IsPiece whole owner una start ends (record { key = owner; offset = start; acked = una; fin = ends; more = false; bytes = drop start whole })
 last_piece whole owner una start ends short some = record {
   key = refl;
   acked = refl;
@@ -145,6 +157,7 @@ last_piece whole owner una start ends short some = record {
   short = short;
   fin = λ e. e;
   last = λ e. refl;
+  alone = refl;
 }
 
 later_piece : (whole : List ℕ) (owner : Key) (una start : ℕ) (ends : Bool) (part : Part) → 1460 < length (drop start whole)
@@ -157,6 +170,7 @@ later_piece whole owner una start ends part long p = record {
   short = p.short;
   fin = p.fin;
   last = p.last;
+  alone = p.alone;
 }
 
 all_datas : (P : Body → Type 0) (whole : List ℕ) (k : ℕ) (owner : Key) (una start : ℕ) (ends : Bool)
@@ -202,6 +216,7 @@ further_copy p q segment part i = record {
     stands = i.stands;
     fin = λ e. (held_fin p q segment (i.fin e), λ g. let low = i.within (held_within p q segment g) in omega (arith, low, ap length (i.last e), length-drop part.offset q.taken));
   }));
+  batch = λ m. absurd (true≢false (sym m ∙ i.alone));
 }
 
 all_further : (P : Body → Type 0) (p q : Point) (segment : Segment) → ((part : Part) → IsCopy (Comes segment) p q part → P (DataMsg part)) → AllByRecursion P (further_data p q segment)
@@ -220,19 +235,61 @@ una_copy p q segment = record {
   fin = λ k. absurd (true≢false (sym k));
   text = inl (0, 0, refl);
   short = λ h. omega arith;
-  form = inr (inl refl);
+  form = inr (inl (inl refl));
+  batch = λ m. absurd (true≢false (sym m));
 }
 
 all_or_una : (P : Body → Type 0) (p q : Point) (bodies : List Body) → P (DataMsg (una_part q)) → AllByRecursion P bodies → AllByRecursion P (or_una p q bodies)
 all_or_una P p q [] u a = holds_if (AllByRecursion P) (nat_lt p.una q.una) (DataMsg (una_part q) ∷ []) [] (λ x. (u, tt)) (λ x. tt)
 all_or_una P p q (body ∷ bodies) u a = a
 
+-- in a batch each but the last says that a later one follows
+later_form : (news : News) (p q : Point) (part : Part) → HasForm news p q part → HasForm news p q (as_later part)
+later_form (Comes segment) p q part form =
+    ⊎_elim (λ f. inl (inr (later_of (copied_part q segment) f)))
+    (λ rest. ⊎_elim (λ f. inr (inl (inr (later_of (una_part q) f)))) (λ f. inr (inr (record { stands = f.stands; fin = λ e. absurd (true≢false (sym e)) }))) rest) form
+  where
+    later_of : (whole : Part) → IsOf whole part → as_later part ≡ as_later whole
+    later_of whole f = ⊎_elim (λ e. ap as_later e) (λ e. ap as_later e) f
+later_form (Logged kept) p q part form = absurd form
+later_form Ticks p q part form = absurd form
+later_form Begins p q part form = absurd form
+
+later_copy : (news : News) (p q : Point) (part : Part) → q.batches ≡ true → IsCopy news p q part → IsCopy news p q (as_later part)
+later_copy news p q part on c = record {
+  key = c.key;
+  acked = c.acked;
+  within = c.within;
+  fin = λ e. absurd (true≢false (sym e));
+  text = c.text;
+  short = c.short;
+  form = later_form news p q part c.form;
+  batch = λ m. (refl, on);
+}
+
+all_batch : (P Q : Body → Type 0) (bodies : List Body) → ((body : Body) → P body → Q body) → ((body : Body) → P body → Q (with_more body)) → AllByRecursion P bodies → AllByRecursion Q (batch bodies)
+unfolding batch
+all_batch P Q [] f g a = tt
+all_batch P Q (last ∷ []) f g a = (f last a.0, tt)
+all_batch P Q (first ∷ next ∷ others) f g a = (g first a.0, all_batch P Q (next ∷ others) f g a.1)
+
+-- a body of the law Copy
+abbrev CopyBody : News → (before after : Point) → Body → Type 0
+CopyBody news before after body = (part : Part) × (body ≡ DataMsg part) × IsCopy news before after part
+
 -- the law Copy: all that a turn copies is so
 pub all_copies : (P : Body → Type 0) (news : News) (before after : Point) → ((part : Part) → IsCopy news before after part → P (DataMsg part)) → AllByRecursion P (copies news before after)
 unfolding copies
 all_copies P (Comes segment) before after f =
-    all_or_una P before after (own_data after segment ++ further_data before after segment) (f (una_part after) (una_copy before after segment))
-    (all_append P (own_data after segment) (further_data before after segment) (all_own P before after segment f) (all_further P before after segment f))
+    let C : Body → Type 0 = CopyBody (Comes segment) before after in
+    let put : (part : Part) → IsCopy (Comes segment) before after part → C (DataMsg part) = λ part c. (part, refl, c) in
+    let bodies : List Body = or_una before after (own_data after segment ++ further_data before after segment) in
+    let all : AllByRecursion C bodies = all_or_una C before after (own_data after segment ++ further_data before after segment) (put (una_part after) (una_copy before after segment))
+    (all_append C (own_data after segment) (further_data before after segment) (all_own C before after segment put) (all_further C before after segment put)) in
+    holds_if (AllByRecursion P) after.batches (batch bodies) bodies
+    (λ on. all_batch C P bodies (λ body c. subst P (sym c.1) (f c.0 c.2))
+    (λ body c. subst (λ b. P (with_more b)) (sym c.1) (f (as_later c.0) (later_copy (Comes segment) before after c.0 on c.2))) all)
+    (λ off. all_weaker C P bodies (λ body c. subst P (sym c.1) (f c.0 c.2)) all)
 all_copies P (Logged kept) before after f = tt
 all_copies P Ticks before after f = tt
 all_copies P Begins before after f = tt

@@ -13,22 +13,23 @@ use Rattle.ft_model.specs.Node.Place.{Opens, Lives}
 use Rattle.ft_model.specs.ServingTurn.{PlaceTurn}
 use Rattle.ft_model.specs.Lawful.{LawfulTurn}
 use Rattle.ft_model.specs.World.{Moment, IsStart, Joint, Happens}
-use Rattle.ft_model.specs.Legal.{IsAllowed, Legal}
+use Rattle.ft_model.specs.Legal.{IsAllowed, AllAllowed, Legal}
 use Rattle.ft_model.specs.WorkedRuns.Common.{echo, server, numbers, hello_text, client_with, IsUnlawful}
 use Rattle.ft_model.specs.WorkedRuns.FirstPath as path
 use Rattle.ft_model.specs.WorkedRuns.DelayedAck as run
 use Rattle.ft_model.proofs.AllowedMoments.{hello_bytes, starts_in}
 use Rattle.ft_model.proofs.AskedMoves.{scripted, still}
+use Rattle.ft_model.proofs.FirstPath.{quiet}
 use Rattle.ft_model.proofs.Turns.{laws, alone, goes, serves_in, segment_in, message_in, kept_in}
 use Rattle.ft_model.proofs.WrongTurns.{refused}
 
 -- the server's turns until the connection is open are the same for every service
-pub turn_3 : {State : Type 0} (service : Machine State) → LawfulTurn service (booted server wan 1 5000) (Message_comes (message_in path.packet_2)) [] (run.node_at (Serving 0 []))
+pub turn_3 : {State : Type 0} (service : Machine State) → LawfulTurn (quiet service) (booted server wan 1 5000) (Message_comes (message_in path.packet_2)) [] (run.node_at (Serving 0 []))
 unfolding laws
 turn_3 service = record { server = refl; profile = refl; boot = refl; isn = refl; live = refl; stage = ([], refl, (refl, refl)) }
 
 pub turn_5 : {State : Type 0} (service : Machine State)
-    → LawfulTurn service (run.node_at (Serving 0 [])) (Packet_comes (segment_in path.packet_3)) run.moment_5.sent (run.node_at (Serving 1 (Opens numbers ∷ [])))
+    → LawfulTurn (quiet service) (run.node_at (Serving 0 [])) (Packet_comes (segment_in path.packet_3)) run.moment_5.sent (run.node_at (Serving 1 (Opens numbers ∷ [])))
 unfolding laws
 turn_5 service = record {
   server = refl;
@@ -40,7 +41,7 @@ turn_5 service = record {
 }
 
 pub turn_7 : {State : Type 0} (service : Machine State)
-    → LawfulTurn service (run.node_at (Serving 1 (Opens numbers ∷ []))) (Message_comes (message_in path.packet_5)) run.moment_7.sent (run.node_live run.begun_point)
+    → LawfulTurn (quiet service) (run.node_at (Serving 1 (Opens numbers ∷ []))) (Message_comes (message_in path.packet_5)) run.moment_7.sent (run.node_live run.begun_point)
 unfolding laws
 turn_7 service = record {
   server = refl;
@@ -54,21 +55,21 @@ turn_7 service = record {
     record {
       went = Lives run.begun_point ∷ [];
       by_places = run.moment_7.sent;
-      all_go = alone (PlaceTurn service (run.node_at (Serving 1 (Opens numbers ∷ []))) (Message_comes (message_in path.packet_5))) (Opens numbers) (Lives run.begun_point ∷ []) run.moment_7.sent
-          (run.begun_point, refl, goes service server 1 Begins (point_opened wan numbers) run.begun_point run.moment_7.sent refl refl refl refl);
+      all_go = alone (PlaceTurn (quiet service) (run.node_at (Serving 1 (Opens numbers ∷ []))) (Message_comes (message_in path.packet_5))) (Opens numbers) (Lives run.begun_point ∷ []) run.moment_7.sent
+          (run.begun_point, refl, goes (quiet service) server 1 Begins (point_opened wan numbers) run.begun_point run.moment_7.sent refl refl refl refl);
       places = refl;
       packets = refl;
     },
   );
 }
 
-pub turn_10 : {State : Type 0} (service : Machine State) → LawfulTurn service (run.node_live run.begun_point) (Packet_comes (segment_in path.packet_7)) [] (run.node_live run.open_point)
+pub turn_10 : {State : Type 0} (service : Machine State) → LawfulTurn (quiet service) (run.node_live run.begun_point) (Packet_comes (segment_in path.packet_7)) [] (run.node_live run.open_point)
 unfolding laws
-turn_10 service = serves_in service wan 1 5000 (Packet_comes (segment_in path.packet_7)) run.begun_point run.open_point [] refl refl refl
-    (run.open_point, refl, goes service server 1 (Comes (segment_in path.packet_7)) run.begun_point run.open_point [] refl refl refl refl)
+turn_10 service = serves_in (quiet service) wan 1 5000 (Packet_comes (segment_in path.packet_7)) run.begun_point run.open_point [] refl refl refl
+    (run.open_point, refl, goes (quiet service) server 1 (Comes (segment_in path.packet_7)) run.begun_point run.open_point [] refl refl refl refl)
 
 -- the text is taken and read, and its ACK waits
-turn_12 : LawfulTurn echo (run.node_live run.open_point) path.text_comes run.moment_12.sent (run.node_live run.taken_point)
+pub turn_12 : LawfulTurn echo (run.node_live run.open_point) path.text_comes run.moment_12.sent (run.node_live run.taken_point)
 unfolding laws
 turn_12 = serves_in echo wan 1 5000 path.text_comes run.open_point run.taken_point run.moment_12.sent refl refl refl
     (run.taken_point, refl, goes echo server 1 (Comes (segment_in path.packet_8)) run.open_point run.taken_point run.moment_12.sent refl refl refl refl)
@@ -161,8 +162,11 @@ happens_17 : Follows run.moment_16 run.moment_17
 unfolding laws IsLe
 happens_17 = (path.packet_15, refl, (refl, refl))
 
+pub opening_is_joint : Joint echo run.start run.opening_trace
+opening_is_joint = ((((((((((starts, happens_1), happens_2), happens_3), happens_4), happens_5), happens_6), happens_7), happens_8), happens_9), happens_10)
+
 is_joint : Joint echo run.start run.trace
-is_joint = (((((((((((((((((starts, happens_1), happens_2), happens_3), happens_4), happens_5), happens_6), happens_7), happens_8), happens_9), happens_10), happens_11), happens_12), happens_13), happens_14), happens_15), happens_16), happens_17)
+is_joint = (((((((opening_is_joint, happens_11), happens_12), happens_13), happens_14), happens_15), happens_16), happens_17)
 
 -- and is allowed
 allowed_4 : IsAllowed run.moment_3.world run.moment_4
@@ -174,11 +178,14 @@ allowed_9 = record { allowed = refl; scripted = scripted run.moment_8.world run.
 allowed_11 : IsAllowed run.moment_10.world run.moment_11
 allowed_11 = record { allowed = refl; scripted = scripted run.moment_10.world run.moment_11.event path.open_client (Text 0 5) 1 run.moment_11.world refl refl refl }
 
+pub opening_allowed : AllAllowed run.start run.opening_trace
+opening_allowed = ((((((((((tt, still run.start run.moment_1 refl refl), still run.moment_1.world run.moment_2 refl refl), still run.moment_2.world run.moment_3 refl refl), allowed_4), still run.moment_4.world run.moment_5 refl refl), still run.moment_5.world run.moment_6 refl refl), still run.moment_6.world run.moment_7 refl refl), still run.moment_7.world run.moment_8 refl refl), allowed_9), still run.moment_9.world run.moment_10 refl refl)
+
 pub is_legal : Legal (λ kind. echo) run.schedule run.trace
 is_legal = record {
   joint = is_joint;
   events_are = refl;
-  allowed = (((((((((((((((((tt, still run.start run.moment_1 refl refl), still run.moment_1.world run.moment_2 refl refl), still run.moment_2.world run.moment_3 refl refl), allowed_4), still run.moment_4.world run.moment_5 refl refl), still run.moment_5.world run.moment_6 refl refl), still run.moment_6.world run.moment_7 refl refl), still run.moment_7.world run.moment_8 refl refl), allowed_9), still run.moment_9.world run.moment_10 refl refl), allowed_11), still run.moment_11.world run.moment_12 refl refl), still run.moment_12.world run.moment_13 refl refl), still run.moment_13.world run.moment_14 refl refl), still run.moment_14.world run.moment_15 refl refl), still run.moment_15.world run.moment_16 refl refl), still run.moment_16.world run.moment_17 refl refl);
+  allowed = (((((((opening_allowed, allowed_11), still run.moment_11.world run.moment_12 refl refl), still run.moment_12.world run.moment_13 refl refl), still run.moment_13.world run.moment_14 refl refl), still run.moment_14.world run.moment_15 refl refl), still run.moment_15.world run.moment_16 refl refl), still run.moment_16.world run.moment_17 refl refl);
 }
 
 -- the wrong turn: an ACK at once

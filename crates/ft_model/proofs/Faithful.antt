@@ -30,7 +30,7 @@ use Rattle.ft_model.specs.Node.Stage.{Serving}
 use Rattle.ft_model.specs.Growth.{IsPrefix, LogGrows, units_in, lengths_in, logged_units, logged_lengths}
 use Rattle.ft_model.proofs.Lists.{all_weaker, all_map, all_append, all_find, found_passes, same_key, none_is_some, some_is}
 use Rattle.ft_model.proofs.Grows.{found_later, units_grow, lengths_grow, logged_units_grow, logged_lengths_grow}
-use Rattle.ft_model.proofs.Fetching.{own_entry, on_some, chosen_some}
+use Rattle.ft_model.proofs.Fetching.{own_entry, on_some, chosen_some, told_last}
 use Rattle.ft_model.proofs.Scripts.{FitsScript, HasTaken, PartFits, EntryFits, NewsFits, DataFits, taken_fits, copies_fit}
 use Rattle.ft_model.proofs.Running.{taken_more}
 use Rattle.ft_model.proofs.Spoken.{Spoken, segments_spoken, IsHeaded, headed}
@@ -148,7 +148,7 @@ pub told_fits : (body : Body) (log : Log) (answer : Body) → answer_from body l
 told_fits HelloMsg log answer t = subst (AnswerFits log) (some_is _ _ t) tt
 told_fits (OpenMsg n) log answer t = opened_fits log n.key (entry_of n.key log) answer refl t
 told_fits (DataMsg part) log answer t =
-    let o = on_some (entry_of part.key log) (λ e. Some (StableMsg (kept_of e))) answer t in
+    let o = on_some (entry_of part.key log) (λ e. Some (StableMsg (kept_of e))) answer (told_last part.more _ answer t) in
     subst (AnswerFits log) (some_is _ _ o.2) (kept_entry log part.key o.0 o.1)
 told_fits (ReadMsg key index n) log answer t =
     let o = on_some (entry_of key log) (λ e. Some (ReadsMsg (kept_of e))) answer t in

@@ -43,6 +43,11 @@ opened_agrees : (key : Key) (o : Option Entry) (entries : List Entry) → (answe
 opened_agrees key (Some e) entries answer t = subst (AgreesWith entries) (some_is _ _ t) tt
 opened_agrees key None entries answer t = subst (AgreesWith entries) (some_is _ _ t) tt
 
+-- a Data that is answered is the last of its turn
+pub told_last : {A : Type 0} (more : Bool) (o : Option A) (x : A) → (if more then None else o) ≡ Some x → o ≡ Some x
+told_last true o x e = none_is_some x e
+told_last false o x e = e
+
 -- what the log tells agrees with it
 pub told_agrees : (body : Body) (log : Log) (answer : Body) → answer_from body log ≡ Some answer → AgreesWith log.entries answer
 told_agrees HelloMsg log answer t = subst (AgreesWith log.entries) (some_is _ _ t) refl
@@ -58,7 +63,7 @@ told_agrees (CutsMsg key first) log answer t =
     let part = chosen_some (nat_lt first (length o.0.lengths)) (LensMsg o.0.key first (take 512 (drop first o.0.lengths))) answer o.2 in
     subst (AgreesWith log.entries) part (o.0, own_entry key log o.0 o.1, take_first 512 (drop first o.0.lengths))
 told_agrees (OpenMsg n) log answer t = opened_agrees n.key (entry_of n.key log) log.entries answer t
-told_agrees (DataMsg part) log answer t = let o = on_some (entry_of part.key log) (λ e. Some (StableMsg (kept_of e))) answer t in subst (AgreesWith log.entries) (some_is _ _ o.2) tt
+told_agrees (DataMsg part) log answer t = let o = on_some (entry_of part.key log) (λ e. Some (StableMsg (kept_of e))) answer (told_last part.more _ answer t) in subst (AgreesWith log.entries) (some_is _ _ o.2) tt
 told_agrees (ReadMsg key index n) log answer t = let o = on_some (entry_of key log) (λ e. Some (ReadsMsg (kept_of e))) answer t in subst (AgreesWith log.entries) (some_is _ _ o.2) tt
 told_agrees (DoneMsg key) log answer t = let o = on_some (entry_of key log) (λ e. Some (EndedMsg key)) answer t in subst (AgreesWith log.entries) (some_is _ _ o.2) tt
 told_agrees _ log answer t = none_is_some answer t

@@ -26,15 +26,19 @@ use Rattle.ft_model.proofs.Turns.{laws, alone, goes, segment_in, message_in, kep
 abbrev Goes : {State : Type 0} → Machine State → News → Point → Point → List Packet → Type 0
 Goes service news before after sent = ConnectionTurn service server 1 news before after sent
 
+-- any service, without a greeting
+abbrev pub quiet : {State : Type 0} → Machine State → Machine State
+quiet service = record service { greeting = [] }
+
 -- the SYN-ACK leaves
-begins : {State : Type 0} (service : Machine State) → Goes service Begins (point_opened plain numbers) run.begun_point run.moment_7.sent
+begins : {State : Type 0} (service : Machine State) → Goes (quiet service) Begins (point_opened plain numbers) run.begun_point run.moment_7.sent
 unfolding laws
-begins service = goes service server 1 Begins (point_opened plain numbers) run.begun_point run.moment_7.sent refl refl refl refl
+begins service = goes (quiet service) server 1 Begins (point_opened plain numbers) run.begun_point run.moment_7.sent refl refl refl refl
 
 -- the SYN is acknowledged
-opens : {State : Type 0} (service : Machine State) → Goes service (Comes (segment_in run.packet_7)) run.begun_point run.open_point run.moment_10.sent
+opens : {State : Type 0} (service : Machine State) → Goes (quiet service) (Comes (segment_in run.packet_7)) run.begun_point run.open_point run.moment_10.sent
 unfolding laws
-opens service = goes service server 1 (Comes (segment_in run.packet_7)) run.begun_point run.open_point run.moment_10.sent refl refl refl refl
+opens service = goes (quiet service) server 1 (Comes (segment_in run.packet_7)) run.begun_point run.open_point run.moment_10.sent refl refl refl refl
 
 -- the text is taken and read
 takes : Goes echo (Comes (segment_in run.packet_8)) run.open_point run.taken_point run.moment_12.sent
@@ -52,21 +56,21 @@ unfolding laws
 releases = goes echo server 1 (Logged (kept_in run.packet_14)) run.logged_point run.released_point run.moment_16.sent refl refl refl refl
 
 -- the server's turns
-pub turn_3 : {State : Type 0} (service : Machine State) → LawfulTurn service (booted server plain 1 5000) (Message_comes (message_in run.packet_2)) [] (run.node_at (Serving 0 []))
+pub turn_3 : {State : Type 0} (service : Machine State) → LawfulTurn (quiet service) (booted server plain 1 5000) (Message_comes (message_in run.packet_2)) [] (run.node_at (Serving 0 []))
 unfolding laws
 turn_3 service = record { server = refl; profile = refl; boot = refl; isn = refl; live = refl; stage = ([], refl, (refl, refl)) }
 
-pub turn_5 : {State : Type 0} (service : Machine State) → LawfulTurn service (run.node_at (Serving 0 [])) (Packet_comes (segment_in run.packet_3)) run.moment_5.sent (run.node_at (Serving 1 (Opens numbers ∷ [])))
+pub turn_5 : {State : Type 0} (service : Machine State) → LawfulTurn (quiet service) (run.node_at (Serving 0 [])) (Packet_comes (segment_in run.packet_3)) run.moment_5.sent (run.node_at (Serving 1 (Opens numbers ∷ [])))
 unfolding laws
 turn_5 service = record { server = refl; profile = refl; boot = refl; isn = refl; live = refl; stage = (Opens numbers ∷ [], refl, record { went = []; by_places = []; all_go = (refl, refl); places = refl; packets = refl }) }
 
-pub turn_7 : {State : Type 0} (service : Machine State) → LawfulTurn service (run.node_at (Serving 1 (Opens numbers ∷ []))) (Message_comes (message_in run.packet_5)) run.moment_7.sent (run.node_live run.begun_point)
+pub turn_7 : {State : Type 0} (service : Machine State) → LawfulTurn (quiet service) (run.node_at (Serving 1 (Opens numbers ∷ []))) (Message_comes (message_in run.packet_5)) run.moment_7.sent (run.node_live run.begun_point)
 unfolding laws
-turn_7 service = record { server = refl; profile = refl; boot = refl; isn = refl; live = refl; stage = (Lives run.begun_point ∷ [], refl, record { went = Lives run.begun_point ∷ []; by_places = run.moment_7.sent; all_go = alone (PlaceTurn service (run.node_at (Serving 1 (Opens numbers ∷ []))) (Message_comes (message_in run.packet_5))) (Opens numbers) (Lives run.begun_point ∷ []) run.moment_7.sent (run.begun_point, refl, begins service); places = refl; packets = refl }) }
+turn_7 service = record { server = refl; profile = refl; boot = refl; isn = refl; live = refl; stage = (Lives run.begun_point ∷ [], refl, record { went = Lives run.begun_point ∷ []; by_places = run.moment_7.sent; all_go = alone (PlaceTurn (quiet service) (run.node_at (Serving 1 (Opens numbers ∷ []))) (Message_comes (message_in run.packet_5))) (Opens numbers) (Lives run.begun_point ∷ []) run.moment_7.sent (run.begun_point, refl, begins service); places = refl; packets = refl }) }
 
-pub turn_10 : {State : Type 0} (service : Machine State) → LawfulTurn service (run.node_live run.begun_point) (Packet_comes (segment_in run.packet_7)) run.moment_10.sent (run.node_live run.open_point)
+pub turn_10 : {State : Type 0} (service : Machine State) → LawfulTurn (quiet service) (run.node_live run.begun_point) (Packet_comes (segment_in run.packet_7)) run.moment_10.sent (run.node_live run.open_point)
 unfolding laws
-turn_10 service = record { server = refl; profile = refl; boot = refl; isn = refl; live = refl; stage = (Lives run.open_point ∷ [], refl, record { went = Lives run.open_point ∷ []; by_places = run.moment_10.sent; all_go = alone (PlaceTurn service (run.node_live run.begun_point) (Packet_comes (segment_in run.packet_7))) (Lives run.begun_point) (Lives run.open_point ∷ []) run.moment_10.sent (run.open_point, refl, opens service); places = refl; packets = refl }) }
+turn_10 service = record { server = refl; profile = refl; boot = refl; isn = refl; live = refl; stage = (Lives run.open_point ∷ [], refl, record { went = Lives run.open_point ∷ []; by_places = run.moment_10.sent; all_go = alone (PlaceTurn (quiet service) (run.node_live run.begun_point) (Packet_comes (segment_in run.packet_7))) (Lives run.begun_point) (Lives run.open_point ∷ []) run.moment_10.sent (run.open_point, refl, opens service); places = refl; packets = refl }) }
 
 pub turn_12 : LawfulTurn echo (run.node_live run.open_point) (Packet_comes (segment_in run.packet_8)) run.moment_12.sent (run.node_live run.taken_point)
 unfolding laws
@@ -81,43 +85,43 @@ unfolding laws
 turn_16 = record { server = refl; profile = refl; boot = refl; isn = refl; live = refl; stage = (Lives run.released_point ∷ [], refl, record { went = Lives run.released_point ∷ []; by_places = run.moment_16.sent; all_go = alone (PlaceTurn echo (run.node_live run.logged_point) (Message_comes (message_in run.packet_14))) (Lives run.logged_point) (Lives run.released_point ∷ []) run.moment_16.sent (run.released_point, refl, releases); places = refl; packets = refl }) }
 
 -- what happens in each moment
-happens_1 : {State : Type 0} (service : Machine State) → Happens service run.start run.moment_1.event run.moment_1.sent run.moment_1.world
+happens_1 : {State : Type 0} (service : Machine State) → Happens (quiet service) run.start run.moment_1.event run.moment_1.sent run.moment_1.world
 unfolding laws IsLe
 happens_1 service = (refl, (le_by_compare 1 1 tt, le_by_compare 2 (2 ^ 64) tt), refl, refl)
 
-happens_2 : {State : Type 0} (service : Machine State) → Happens service run.moment_1.world run.moment_2.event run.moment_2.sent run.moment_2.world
+happens_2 : {State : Type 0} (service : Machine State) → Happens (quiet service) run.moment_1.world run.moment_2.event run.moment_2.sent run.moment_2.world
 unfolding laws IsLe
 happens_2 service = (run.packet_1, refl, (refl, refl))
 
-happens_3 : {State : Type 0} (service : Machine State) → Happens service run.moment_2.world run.moment_3.event run.moment_3.sent run.moment_3.world
+happens_3 : {State : Type 0} (service : Machine State) → Happens (quiet service) run.moment_2.world run.moment_3.event run.moment_3.sent run.moment_3.world
 unfolding laws IsLe
 happens_3 service = (run.packet_2, refl, ((run.node_at (Serving 0 []), refl, turn_3 service), refl))
 
-happens_4 : {State : Type 0} (service : Machine State) → Happens service run.moment_3.world run.moment_4.event run.moment_4.sent run.moment_4.world
+happens_4 : {State : Type 0} (service : Machine State) → Happens (quiet service) run.moment_3.world run.moment_4.event run.moment_4.sent run.moment_4.world
 unfolding laws IsLe
 happens_4 service = record { client = client_with hello_text; segment = segment_in run.packet_3; later = run.opening; is_there = refl; move = record { move = Syn None; window = 65535; may = refl; fits = refl; segment_is = refl; after_is = refl }; sent_is = refl; after_is = refl }
 
-happens_5 : {State : Type 0} (service : Machine State) → Happens service run.moment_4.world run.moment_5.event run.moment_5.sent run.moment_5.world
+happens_5 : {State : Type 0} (service : Machine State) → Happens (quiet service) run.moment_4.world run.moment_5.event run.moment_5.sent run.moment_5.world
 unfolding laws IsLe
 happens_5 service = (run.packet_3, refl, ((run.node_at (Serving 1 (Opens numbers ∷ [])), refl, turn_5 service), refl))
 
-happens_6 : {State : Type 0} (service : Machine State) → Happens service run.moment_5.world run.moment_6.event run.moment_6.sent run.moment_6.world
+happens_6 : {State : Type 0} (service : Machine State) → Happens (quiet service) run.moment_5.world run.moment_6.event run.moment_6.sent run.moment_6.world
 unfolding laws IsLe
 happens_6 service = (run.packet_4, refl, (refl, refl))
 
-happens_7 : {State : Type 0} (service : Machine State) → Happens service run.moment_6.world run.moment_7.event run.moment_7.sent run.moment_7.world
+happens_7 : {State : Type 0} (service : Machine State) → Happens (quiet service) run.moment_6.world run.moment_7.event run.moment_7.sent run.moment_7.world
 unfolding laws IsLe
 happens_7 service = (run.packet_5, refl, ((run.node_live run.begun_point, refl, turn_7 service), refl))
 
-happens_8 : {State : Type 0} (service : Machine State) → Happens service run.moment_7.world run.moment_8.event run.moment_8.sent run.moment_8.world
+happens_8 : {State : Type 0} (service : Machine State) → Happens (quiet service) run.moment_7.world run.moment_8.event run.moment_8.sent run.moment_8.world
 unfolding laws IsLe
 happens_8 service = (run.packet_6, refl, (refl, refl))
 
-happens_9 : {State : Type 0} (service : Machine State) → Happens service run.moment_8.world run.moment_9.event run.moment_9.sent run.moment_9.world
+happens_9 : {State : Type 0} (service : Machine State) → Happens (quiet service) run.moment_8.world run.moment_9.event run.moment_9.sent run.moment_9.world
 unfolding laws IsLe
 happens_9 service = record { client = run.open_client; segment = segment_in run.packet_7; later = run.open_client; is_there = refl; move = record { move = Acknowledge; window = 65535; may = refl; fits = refl; segment_is = refl; after_is = refl }; sent_is = refl; after_is = refl }
 
-happens_10 : {State : Type 0} (service : Machine State) → Happens service run.moment_9.world run.moment_10.event run.moment_10.sent run.moment_10.world
+happens_10 : {State : Type 0} (service : Machine State) → Happens (quiet service) run.moment_9.world run.moment_10.event run.moment_10.sent run.moment_10.world
 unfolding laws IsLe
 happens_10 service = (run.packet_7, refl, ((run.node_live run.open_point, refl, turn_10 service), refl))
 
@@ -150,7 +154,7 @@ unfolding laws IsLe
 happens_17 = (run.packet_15, refl, (refl, refl))
 
 -- up to the open connection it is the same for every service, ..
-pub opening_is_joint : {State : Type 0} (service : Machine State) → Joint service run.start run.opening_trace
+pub opening_is_joint : {State : Type 0} (service : Machine State) → Joint (quiet service) run.start run.opening_trace
 opening_is_joint service =
     ((((((((((starts_with_hello, happens_1 service), happens_2 service), happens_3 service), happens_4 service), happens_5 service), happens_6 service), happens_7 service), happens_8 service), happens_9 service), happens_10 service)
 

@@ -8,7 +8,7 @@ use Rattle.hex.specs.Hex.{IsBytes}
 use Rattle.ft_io.specs.declared.Addr.{Addr}
 use Rattle.ft_model.specs.Words.{is}
 use Rattle.ft_model.specs.Spelling.{numeral, number_of, short_number_of, octet_of, joined_octets, host_in, host_of, addr_from, addr_in, addr_of, hex_bytes, is_hex, script_of}
-use Rattle.ft_model.specs.Grammar.{◌>>=◌, number, boot_number, packet_number, client_number, window, long_number, boot_line, bare_line, deliver_line, flip_line, client_and_window, send_line, client_alone, stop_line, part_number, profile_line, marks_line, event_line, client_line, free_address, service_line, server_line, line_from, is_taken, is_too_much, with_line, no_objection, read_text}
+use Rattle.ft_model.specs.Grammar.{◌>>=◌, number, boot_number, packet_number, client_number, window, long_number, boot_line, bare_line, deliver_line, flip_line, client_and_window, send_line, client_alone, stop_line, part_number, profile_line, marks_line, lasting_line, event_line, client_line, free_address, service_line, server_line, line_from, is_taken, is_too_much, with_line, no_objection, read_text}
 use Rattle.ft_model.specs.declared.event.Event.{Event}
 use Rattle.ft_model.specs.declared.event.Event.TheVariants as event
 use Rattle.ft_model.specs.declared.line.Draft.{Draft}
@@ -26,7 +26,7 @@ use Rattle.ft_model.specs.declared.schedule.Schedule.{Schedule}
 use Rattle.ft_model.specs.declared.schedule.Script.{Script}
 use Rattle.ft_model.specs.declared.schedule.Script.TheVariants.{Bytes, Fill}
 use Rattle.ft_model.specs.Readable.{FitsAddr, FitsEvent, FitsScript, FitsClient, FitsSchedule}
-use Rattle.ft_model.proofs.AcceptedLemmas.{Passes, bind_ok, ok_or_ok, unless, within_bound, number_bound, tested, says_client, says_marks, every_bounds, room_for_client, all_push, text_keeps, bare_says}
+use Rattle.ft_model.proofs.AcceptedLemmas.{Passes, bind_ok, ok_or_ok, unless, within_bound, number_bound, tested, says_client, says_marks, says_lasting, every_bounds, lasting_bounds, room_for_client, all_push, text_keeps, bare_says}
 use Rattle.ft_io.proofs.Booleans.{left_true, right_true}
 
 number_fits : (least most : ℕ) (word : List ℕ) (n : ℕ) → number least most word ≡ Ok n → n ≤ most
@@ -260,6 +260,7 @@ says_event draft keyword.Server words e h = let b = bind_ok (server_line words) 
 says_event draft keyword.Profile words e h = let b = bind_ok (profile_line words) (λ profile. Ok (line.Profile profile)) (line.Event e) h in absurd (cc b.2)
 says_event draft keyword.Twin words e h = absurd (bare_says line.Twin words (line.Event e) (λ f. cc) h)
 says_event draft keyword.Marks words e h = let b = bind_ok (marks_line words) (λ every. Ok (line.Marks every)) (line.Event e) h in absurd (cc b.2)
+says_event draft keyword.Lasting words e h = let b = bind_ok (lasting_line words) (λ waits. Ok (line.Lasting waits)) (line.Event e) h in absurd (cc b.2)
 says_event draft keyword.Client words e h = let b = bind_ok (client_line draft words) (λ client. Ok (line.Client client)) (line.Event e) h in absurd (cc b.2)
 says_event draft (keyword.Event v) words e h =
     let b = bind_ok (event_line v words) (λ x. Ok (line.Event x)) (line.Event e) h in
@@ -273,6 +274,7 @@ says_server draft keyword.Server words a h =
 says_server draft keyword.Profile words a h = let b = bind_ok (profile_line words) (λ profile. Ok (line.Profile profile)) (line.Server a) h in absurd (cc b.2)
 says_server draft keyword.Twin words a h = absurd (bare_says line.Twin words (line.Server a) (λ f. cc) h)
 says_server draft keyword.Marks words a h = let b = bind_ok (marks_line words) (λ every. Ok (line.Marks every)) (line.Server a) h in absurd (cc b.2)
+says_server draft keyword.Lasting words a h = let b = bind_ok (lasting_line words) (λ waits. Ok (line.Lasting waits)) (line.Server a) h in absurd (cc b.2)
 says_server draft keyword.Client words a h = let b = bind_ok (client_line draft words) (λ client. Ok (line.Client client)) (line.Server a) h in absurd (cc b.2)
 says_server draft (keyword.Event v) words a h = let b = bind_ok (event_line v words) (λ e. Ok (line.Event e)) (line.Server a) h in absurd (cc b.2)
 
@@ -287,24 +289,29 @@ line_fits Empty text (line.Server addr) h few p = tt
 line_fits Empty text (line.Profile profile) h few p = tt
 line_fits Empty text line.Twin h few p = tt
 line_fits Empty text (line.Marks every) h few p = tt
+line_fits Empty text (line.Lasting waits) h few p = tt
 line_fits Empty text (line.Client c) h few p = tt
 line_fits Empty text (line.Event e) h few p = tt
 line_fits (Named kind) text (line.Service name) h few p = tt
 line_fits (Named kind) text (line.Server addr) h few p =
     let at : FitsAddr addr = says_server (Named kind) p.k p.words addr p.says in
-    record { ip = at.0; port = at.1; marks = tt; clients = tt; count = omega arith; events = tt }
+    record { ip = at.0; port = at.1; marks = tt; lasting = tt; clients = tt; count = omega arith; events = tt }
 line_fits (Named kind) text (line.Profile profile) h few p = tt
 line_fits (Named kind) text line.Twin h few p = tt
 line_fits (Named kind) text (line.Marks every) h few p = tt
+line_fits (Named kind) text (line.Lasting waits) h few p = tt
 line_fits (Named kind) text (line.Client c) h few p = tt
 line_fits (Named kind) text (line.Event e) h few p = tt
 line_fits (Begun s) text (line.Service kind) h few p = h
 line_fits (Begun s) text (line.Server addr) h few p = h
-line_fits (Begun s) text (line.Profile profile) h few p = record { ip = h.ip; port = h.port; marks = h.marks; clients = h.clients; count = h.count; events = h.events }
-line_fits (Begun s) text line.Twin h few p = record { ip = h.ip; port = h.port; marks = h.marks; clients = h.clients; count = h.count; events = h.events }
+line_fits (Begun s) text (line.Profile profile) h few p = record { ip = h.ip; port = h.port; marks = h.marks; lasting = h.lasting; clients = h.clients; count = h.count; events = h.events }
+line_fits (Begun s) text line.Twin h few p = record { ip = h.ip; port = h.port; marks = h.marks; lasting = h.lasting; clients = h.clients; count = h.count; events = h.events }
 line_fits (Begun s) text (line.Marks every) h few p =
     let within = every_bounds p.words every (says_marks (Begun s) p.k p.words every p.says).1 in
-    record { ip = h.ip; port = h.port; marks = omega (arith, within.1); clients = h.clients; count = h.count; events = h.events }
+    record { ip = h.ip; port = h.port; marks = omega (arith, within.1); lasting = h.lasting; clients = h.clients; count = h.count; events = h.events }
+line_fits (Begun s) text (line.Lasting waits) h few p =
+    let within = lasting_bounds p.words waits (says_lasting (Begun s) p.k p.words waits p.says).1 in
+    record { ip = h.ip; port = h.port; marks = h.marks; lasting = (omega (arith, within.1), omega (arith, within.2)); clients = h.clients; count = h.count; events = h.events }
 line_fits (Begun s) text (line.Client c) h few p =
     let said = says_client (Begun s) p.k p.words c p.says in
     let room = room_for_client s p.words (rw said.0 at p.stands) in
@@ -312,6 +319,7 @@ line_fits (Begun s) text (line.Client c) h few p =
       ip = h.ip;
       port = h.port;
       marks = h.marks;
+      lasting = h.lasting;
       clients = all_push FitsClient s.clients c h.clients (client_fits (Begun s) p.words c said.1);
       count = omega (arith, room, length-append {A = ClientLine});
       events = h.events;
@@ -320,6 +328,7 @@ line_fits (Begun s) text (line.Event e) h few p = record {
   ip = h.ip;
   port = h.port;
   marks = h.marks;
+  lasting = h.lasting;
   clients = h.clients;
   count = h.count;
   events = all_push FitsEvent s.events e h.events (says_event (Begun s) p.k p.words e p.says);

@@ -1,5 +1,5 @@
 -- Well formed: what is under way between a client and the server has their addresses, every number fits, and every byte is one.
-use Rattle.std.proofs.Common.{◌≡◌, ℕ, zero, suc, ◌+◌, ◌<◌, ◌≤◌, ◌^◌, sym, subst, Some, IfSome, List, [], ◌∷◌, ◌++◌, length, take, drop, sum, arith}
+use Rattle.std.proofs.Common.{◌≡◌, ℕ, zero, suc, ◌+◌, ◌<◌, ◌≤◌, ◌^◌, true, false, sym, subst, Some, IfSome, List, [], ◌∷◌, ◌++◌, length, take, drop, sum, arith}
 use Rattle.std.specs.List.{AllByRecursion}
 use Rattle.hex.specs.Hex.{IsBytes}
 use Rattle.ft_io.specs.declared.Key.{Key}
@@ -78,8 +78,12 @@ abbrev pub HeadFormed : World → EntryHead → Type 0
 HeadFormed start e =
     HasClient start e.key × (e.cisn < 2 ^ 32) × (e.sisn < 2 ^ 32) × IsSize e.mss × (e.length ≤ 2 ^ 24) × (e.reads ≤ 2 ^ 24 + 1) × (e.acked ≤ 2 ^ 24 + 1)
 
+-- only where the profile has batches does a Data say that a later one follows, and then it has no FIN
+abbrev pub EndsFormed : World → Part → Type 0
+EndsFormed start p = p.more ≡ true → (p.fin ≡ false) × (start.profile.batches ≡ true)
+
 abbrev pub PartFormed : World → Part → Type 0
-PartFormed start p = HasClient start p.key × (p.offset + length p.bytes ≤ 2 ^ 24) × AreBytes p.bytes × (length p.bytes ≤ 1460)
+PartFormed start p = HasClient start p.key × (p.offset + length p.bytes ≤ 2 ^ 24) × AreBytes p.bytes × (length p.bytes ≤ 1460) × EndsFormed start p
 
 -- the ranges of a body's numbers, in a message of this boot number. What a Data says is acknowledged is known of the log (`IsBacked`)
 abbrev pub BodyFormed : World → (boot : ℕ) → Body → Type 0
@@ -150,6 +154,7 @@ pub record PointFormed (start : World) (p : Point) : Type 0 where
   pub fetched : p.fetched ≤ length p.taken
   pub count : length p.lengths ≤ sum p.lengths + 1
   pub lengths : AreLengths p.lengths
+  pub batches : p.batches ≡ start.profile.batches
 
 abbrev pub PlaceFormed : World → Place → Type 0
 PlaceFormed start (Opens n) = NumbersFormed start n
@@ -162,6 +167,7 @@ StageFormed start _ = Unit {0}
 
 pub record NodeFormed (start : World) (node : Node) : Type 0 where
   pub server : node.server ≡ start.server
+  pub profile : node.profile ≡ start.profile
   pub boot : IsBoot node.boot
   pub stage : StageFormed start node.stage
 
@@ -171,6 +177,7 @@ pub record ClientFormed (start : World) (c : Client) : Type 0 where
 
 pub record WorldFormed (start w : World) : Type 0 where
   pub server : w.server ≡ start.server
+  pub profile : w.profile ≡ start.profile
   pub boot : w.log.boot < 2 ^ 64
   pub few : length w.log.entries ≤ 64
   pub clients : AllByRecursion (ClientFormed start) w.clients

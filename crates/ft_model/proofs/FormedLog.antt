@@ -13,7 +13,7 @@ use Rattle.ft_model.proofs.Lists.{all_weaker, all_map, all_append, all_find, all
 use Rattle.ft_model.proofs.Services.{sum_append, sum_more, prefix_length}
 use Rattle.ft_model.proofs.LogAnswers.{LogWent, kept_boot}
 use Rattle.ft_model.proofs.LogAnswers.LogWent.{ignored, raised, changed}
-use Rattle.ft_model.proofs.Fetching.{on_some, chosen_some}
+use Rattle.ft_model.proofs.Fetching.{on_some, chosen_some, told_last}
 use Rattle.ft_model.proofs.Resumed.{length_map}
 use Rattle.ft_model.proofs.Scripts.{EntryFits}
 use Rattle.ft_model.proofs.Faithful.{EntriesFit}
@@ -204,7 +204,7 @@ told_formed start boot (CutsMsg key first) log answer h few a t =
     (x.formed.key, h.1, lengths_take 512 (drop first o.0.lengths) (lengths_drop first o.0.lengths x.formed.lengths), chunk.0, chunk.1))
 told_formed start boot (OpenMsg n) log answer h few a t = opened_told start boot log n.key (entry_of n.key log) answer h.0 a refl t
 told_formed start boot (DataMsg part) log answer h few a t =
-    let o = on_some (entry_of part.key log) (λ e. Some (StableMsg (kept_of e))) answer t in
+    let o = on_some (entry_of part.key log) (λ e. Some (StableMsg (kept_of e))) answer (told_last part.more _ answer t) in
     subst (BodyFormed start boot) (some_is _ _ o.2) (kept_told start o.0 (all_find (EntryTells start) (λ y. key_eq y.key part.key) log.entries o.0 a o.1))
 told_formed start boot (ReadMsg key index n) log answer h few a t =
     let o = on_some (entry_of key log) (λ e. Some (ReadsMsg (kept_of e))) answer t in
@@ -229,7 +229,7 @@ told_acks (CutsMsg key first) log answer t =
     let o = on_some (entry_of key log) (λ e. lens_of e first) answer t in
     subst AckWithin (chosen_some (nat_lt first (length o.0.lengths)) (LensMsg o.0.key first (take 512 (drop first o.0.lengths))) answer o.2) tt
 told_acks (OpenMsg n) log answer t = opened_acks n.key (entry_of n.key log) answer t
-told_acks (DataMsg part) log answer t = let o = on_some (entry_of part.key log) (λ e. Some (StableMsg (kept_of e))) answer t in subst AckWithin (some_is _ _ o.2) tt
+told_acks (DataMsg part) log answer t = let o = on_some (entry_of part.key log) (λ e. Some (StableMsg (kept_of e))) answer (told_last part.more _ answer t) in subst AckWithin (some_is _ _ o.2) tt
 told_acks (ReadMsg key index n) log answer t = let o = on_some (entry_of key log) (λ e. Some (ReadsMsg (kept_of e))) answer t in subst AckWithin (some_is _ _ o.2) tt
 told_acks (DoneMsg key) log answer t = let o = on_some (entry_of key log) (λ e. Some (EndedMsg key)) answer t in subst AckWithin (some_is _ _ o.2) tt
 told_acks _ log answer t = none_is_some answer t

@@ -98,9 +98,9 @@ held_formed start node fetched segment at heads =
     (λ f e. all_find (λ x. HasClient start x.head.key) (λ x. key_eq x.head.key (source_of segment) && not x.head.done) fetched f heads e)) (λ t. tt)
 
 -- the places of a restart
-pub point_formed : {State : Type 0} (service : Machine State) (profile : Profile) (start : World) (e : Entry) → EntryFormed start e → PointFormed start (point_of service profile e)
-point_formed service profile start e h =
-    record { key = h.key; sisn = h.sisn; mss = h.mss; enough = h.enough; fetched = omega arith; count = h.count; lengths = h.lengths }
+pub point_formed : {State : Type 0} (service : Machine State) (profile : Profile) (start : World) (e : Entry) → profile ≡ start.profile → EntryFormed start e → PointFormed start (point_of service profile e)
+point_formed service profile start e same h =
+    record { key = h.key; sisn = h.sisn; mss = h.mss; enough = h.enough; fetched = omega arith; count = h.count; lengths = h.lengths; batches = ap (λ x. x.batches) same }
 
 pub revived_formed : {State : Type 0} (service : Machine State) (start : World) (log : Log) (node : Node) → WritesBytes service → StartFormed start
     → EntriesFit (script_of start) (isn_of start) log.entries → node.server ≡ start.server → IsBoot node.boot
@@ -178,7 +178,7 @@ turn_formed service start w node input sent after writes s k e brought (resumed 
     let whole = nothing_missing w.log.entries count fetched agrees.1 none in
     let points : AllByRecursion (λ x. PlaceSound start w.log (Lives (point_of service node.profile x))) w.log.entries =
     all_both (λ x. PlaceFits (script_of start) (isn_of start) w.log (Lives (point_of service node.profile x))) (EntryFormed start) _ w.log.entries
-    (λ x f h. (f, point_formed service node.profile start x h))
+    (λ x f h. (f, point_formed service node.profile start x n.profile h))
     (points_fit service node.profile (script_of start) (isn_of start) w.log s.short k.truth.0.1.distinct k.truth.1.entries) k.formed.entries in
     let went = all_go_on (Revives service node) (PlaceSound start w.log) (PlaceSound start w.log) (PacketFormed start)
     (revived_formed service start w.log node writes s k.truth.1.entries n.server n.boot) (all_restored service node.profile fetched) places sent
@@ -191,7 +191,7 @@ turn_formed service start w node input sent after writes s k e brought (served o
     let fits : AllByRecursion (PlaceFits (script_of start) (isn_of start) w.log) places = subst (StageFits (script_of start) (isn_of start) w.log) b (k.truth.1.stage node e) in
     let formed : AllByRecursion (PlaceFormed start) places = subst (StageFormed start) b n.stage in
     let went = serving_goes_on service node input opened (PlaceSound start w.log) (PlaceSound start w.log) (PacketFormed start) places later sent
-    (place_formed service start w.log node input writes s k.truth.1.entries n.server n.boot i h)
+    (place_formed service start w.log node input writes s k.truth.1.entries n.server n.profile n.boot i h)
     (all_both (PlaceFits (script_of start) (isn_of start) w.log) (PlaceFormed start) _ (newcomers node input opened places) (λ p x y. (x, y))
     (new_fits (script_of start) (isn_of start) w.log node input opened places i) (new_formed start node input opened places h))
     (listen_formed start node input places n.server h) (λ numbers c. (n.boot, c.1))

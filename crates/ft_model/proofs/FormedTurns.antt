@@ -1,5 +1,5 @@
 -- A server that hears what is well formed sends nothing else.
-use Rattle.std.proofs.Common.{◌≡◌, ℕ, ◌+◌, ◌-◌, ◌<◌, ◌≤◌, ◌^◌, ◌==◌, ◌&&◌, ◌||◌, not, nat_lt, min, sym, ap, subst, inl, inr, ◌⊎◌, ⊎_elim, Option, Some, None, List, [], ◌∷◌, ◌++◌, map, length, take, drop, sum, arith, append-nil, append_assoc, length-append, length-drop, length-take, ltb-true}
+use Rattle.std.proofs.Common.{◌≡◌, ℕ, ◌+◌, ◌-◌, ◌<◌, ◌≤◌, ◌^◌, ◌==◌, ◌&&◌, ◌||◌, not, nat_lt, min, sym, ap, ◌∙◌, subst, inl, inr, ◌⊎◌, ⊎_elim, Option, Some, None, List, [], ◌∷◌, ◌++◌, map, length, take, drop, sum, arith, append-nil, append_assoc, length-append, length-drop, length-take, ltb-true}
 use Rattle.std.specs.List.{AllByRecursion, list_any}
 use Rattle.std.proofs.lemmas.Bool.{and_parts}
 use Rattle.ft_io.specs.declared.Addr.{Addr}
@@ -156,8 +156,8 @@ news_short Ticks n = omega arith
 news_short Begins n = omega arith
 
 copies_formed : (start : World) (boot : ℕ) (news : News) (p q : Point) → NewsFormed news → HasClient start q.key → TakesBytes start q → Grows p q
-    → AllByRecursion (BodyFormed start boot) (copies news p q)
-copies_formed start boot news p q n key s more =
+    → q.batches ≡ start.profile.batches → AllByRecursion (BodyFormed start boot) (copies news p q)
+copies_formed start boot news p q n key s more same =
     all_copies (BodyFormed start boot) news p q
     (λ part c. (
       subst (HasClient start) (sym c.key) key,
@@ -165,6 +165,7 @@ copies_formed start boot news p q n key s more =
       ⊎_elim (λ t. subst AreBytes (sym t.2) (bytes_take t.1 (drop t.0 (text_in news)) (bytes_drop t.0 (text_in news) (news_bytes news n))))
           (λ t. bytes_front part.bytes (drop part.offset q.taken) t (bytes_drop part.offset q.taken s.bytes)) c.text,
       c.short (news_short news n),
+      λ m. ((c.batch m).0, sym same ∙ (c.batch m).1),
     ))
 
 messages_formed : (start : World) (boot : ℕ) (key : Key) (index : ℕ) (lengths : List ℕ) → HasClient start key → AreLengths lengths
@@ -196,7 +197,7 @@ reset_formed : (start : World) (boot : ℕ) (news : News) (p q : Point) (sent : 
 reset_formed start boot news p q sent b h t =
     let key : HasClient start q.key = subst (HasClient start) (sym (ap (λ x. x.key) t.point)) h.key in (
       subst (PointFormed start) (sym t.point)
-          (record { key = h.key; sisn = h.sisn; mss = h.mss; enough = h.enough; fetched = h.fetched; count = h.count; lengths = h.lengths }),
+          (record { key = h.key; sisn = h.sisn; mss = h.mss; enough = h.enough; fetched = h.fetched; count = h.count; lengths = h.lengths; batches = h.batches }),
       subst (AllByRecursion (PacketFormed start)) (sym t.packets) (bodies_sent start boot (dones news p q) b (dones_formed start boot news p q key)),
     )
 
@@ -216,6 +217,7 @@ live_point service start server boot news p q sent h t =
       fetched = fetched;
       count = now.1;
       lengths = now.2;
+      batches = t.same.batches ∙ h.batches;
     }
 
 live_formed : {State : Type 0} (service : Machine State) (start : World) (server : Addr) (boot : ℕ) (news : News) (p q : Point) (sent : List Packet) → WritesBytes service
@@ -227,7 +229,7 @@ live_formed service start server boot news p q sent writes at b n h s t =
     all_weaker (Spoken service server news p q) _ (segments_of service server news p q)
     (λ x spoken. segment_formed service start server news p q x writes at point s.bytes spoken) (segments_spoken service server news p q) in
     let bodies : AllByRecursion (BodyFormed start boot) (copies news p q ++ (reads_told news p q ++ dones news p q)) =
-    all_append (BodyFormed start boot) (copies news p q) _ (copies_formed start boot news p q n point.key s (taken_more news p q t.taken))
+    all_append (BodyFormed start boot) (copies news p q) _ (copies_formed start boot news p q n point.key s (taken_more news p q t.taken) point.batches)
     (all_append (BodyFormed start boot) (reads_told news p q) (dones news p q) (reads_formed start boot news p q point s) (dones_formed start boot news p q point.key)) in (
       point,
       subst (AllByRecursion (PacketFormed start)) (sym t.packets)
@@ -294,37 +296,38 @@ new_formed start node (Message_comes message) opened places h = tt
 new_formed start node Noise_comes opened places h = tt
 new_formed start node Tick_comes opened places h = tt
 
-opened_point_formed : (profile : Profile) (start : World) (kept : Numbers) → NumbersFormed start kept → PointFormed start (point_opened profile kept)
-opened_point_formed profile start kept h = record { key = h.0; sisn = h.2; mss = h.3; enough = omega arith; fetched = omega arith; count = omega arith; lengths = tt }
+opened_point_formed : (profile : Profile) (start : World) (kept : Numbers) → profile ≡ start.profile → NumbersFormed start kept → PointFormed start (point_opened profile kept)
+opened_point_formed profile start kept same h =
+    record { key = h.0; sisn = h.2; mss = h.3; enough = omega arith; fetched = omega arith; count = omega arith; lengths = tt; batches = ap (λ x. x.batches) same }
 
 -- one place in one turn
 pub place_formed : {State : Type 0} (service : Machine State) (start : World) (log : Log) (node : Node) (input : Input) → WritesBytes service
-    → StartFormed start → EntriesFit (script_of start) (isn_of start) log.entries → node.server ≡ start.server → IsBoot node.boot
+    → StartFormed start → EntriesFit (script_of start) (isn_of start) log.entries → node.server ≡ start.server → node.profile ≡ start.profile → IsBoot node.boot
     → InputFits (script_of start) (isn_of start) log input → InputFormed start input
     → (place : Place) (now : List Place) (sent : List Packet) → PlaceSound start log place → PlaceWent service node input place now sent
     → AllByRecursion (PlaceSound start log) now × AllByRecursion (PacketFormed start) sent
-place_formed service start log node input writes s entries at b i h place now sent f (stayed n e) =
+place_formed service start log node input writes s entries at same b i h place now sent f (stayed n e) =
     (subst (AllByRecursion (PlaceSound start log)) (sym n) (f, tt), subst (AllByRecursion (PacketFormed start)) (sym e) tt)
-place_formed service start log node input writes s entries at b i h place now sent f (went_on news p after e w n t) =
+place_formed service start log node input writes s entries at same b i h place now sent f (went_on news p after e w n t) =
     let nf = news_fit (script_of start) (isn_of start) log node input news p i w in
     let c = connection_formed service start log node news p after sent writes s entries at b (news_formed start node input news p h w) nf.0 nf.1
     (subst (PlaceSound start log) e f) t in
     (subst (AllByRecursion (PlaceSound start log)) (sym n) (c.0, tt), c.1)
-place_formed service start log node input writes s entries at b i h place now sent f (began asked kept after e has n t) =
+place_formed service start log node input writes s entries at same b i h place now sent f (began asked kept after e has n t) =
     let told : InputFits (script_of start) (isn_of start) log (Message_comes has.message) = subst (InputFits (script_of start) (isn_of start) log) has.comes i in
     let came : InputFormed start (Message_comes has.message) = subst (InputFormed start) has.comes h in
     let numbers : NumbersFormed start kept = subst (BodyFormed start has.message.boot) has.body came.0.1 in
     let c = connection_formed service start log node Begins (point_opened node.profile kept) after sent writes s entries at b tt tt tt
-    (opened_point node.profile (script_of start) (isn_of start) log kept entries (subst (AnswerFits log) has.body told), opened_point_formed node.profile start kept numbers) t in
+    (opened_point node.profile (script_of start) (isn_of start) log kept entries (subst (AnswerFits log) has.body told), opened_point_formed node.profile start kept same numbers) t in
     (subst (AllByRecursion (PlaceSound start log)) (sym n) (c.0, tt), c.1)
-place_formed service start log node input writes s entries at b i h place now sent f (dropped asked e why n x) =
+place_formed service start log node input writes s entries at same b i h place now sent f (dropped asked e why n x) =
     let numbers : PlaceSound start log (Opens asked) = subst (PlaceSound start log) e f in (
       subst (AllByRecursion (PlaceSound start log)) (sym n) tt,
       ⊎_elim (λ y. subst (AllByRecursion (PacketFormed start)) (sym y) tt)
           (λ y. subst (AllByRecursion (PacketFormed start)) (sym y) (full_formed start node.server asked at numbers.1, tt)) x,
     )
-place_formed service start log node input writes s entries at b i h place now sent f (ended p e why n x) =
+place_formed service start log node input writes s entries at same b i h place now sent f (ended p e why n x) =
     (subst (AllByRecursion (PlaceSound start log)) (sym n) ((tt, tt), tt), subst (AllByRecursion (PacketFormed start)) (sym x) tt)
-place_formed service start log node input writes s entries at b i h place now sent f (refused key segment e c k n x) =
+place_formed service start log node input writes s entries at same b i h place now sent f (refused key segment e c k n x) =
     let came : InputFormed start (Packet_comes segment) = subst (InputFormed start) c h in
     (subst (AllByRecursion (PlaceSound start log)) (sym n) ((tt, tt), tt), subst (AllByRecursion (PacketFormed start)) (sym x) (closed_formed start node.server segment at came))

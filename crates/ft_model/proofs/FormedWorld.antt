@@ -13,7 +13,8 @@ use Rattle.ft_model.specs.Growth.{logged_lengths}
 use Rattle.ft_model.specs.Log.{Log, entry_of, log_after}
 use Rattle.ft_model.specs.Network.{Packet, destination_of}
 use Rattle.ft_model.specs.Network.Packet.{To_server, To_logger}
-use Rattle.ft_model.specs.Wire.{HasWire}
+use Rattle.tcp_rules.specs.Profile.{grammar_of}
+use Rattle.ft_model.specs.Wire.{HasWireBy}
 use Rattle.ft_model.specs.Node.{Node, booted}
 use Rattle.ft_model.specs.World.{World, Moment, with_client, Moves, IsNewClient, IsStart, Joint, world_after}
 use Rattle.ft_model.specs.Report.{number_of_client}
@@ -52,6 +53,7 @@ clients_formed : (start w : World) (clients : List Client) (sent : List Packet) 
     → AllByRecursion (PacketFormed start) sent → WorldFormed start (record w { clients = clients; packets = w.packets ++ sent })
 clients_formed start w clients sent f c s = record {
   server = f.server;
+  profile = f.profile;
   boot = f.boot;
   few = f.few;
   clients = c;
@@ -96,6 +98,7 @@ heard_formed start w message s k under fits acked =
       all,
       record {
         server = f.server;
+        profile = f.profile;
         boot = log.1;
         few = log.0.1;
         clients = f.clients;
@@ -110,6 +113,7 @@ server_formed : (start w : World) (boot : ℕ) (node : Option Node) (sent : List
     → ((n : Node) → node ≡ Some n → NodeFormed start n) → WorldFormed start (record w { boot = boot; node = node; packets = w.packets ++ sent })
 server_formed start w boot node sent f all n = record {
   server = f.server;
+  profile = f.profile;
   boot = f.boot;
   few = f.few;
   clients = f.clients;
@@ -142,7 +146,7 @@ moment_formed service start w sent after writes s k fits acked (server_turned in
       went.1,
       subst (WorldFormed start) (sym e)
           (server_formed start w w.boot (Some later) sent k.formed went.1
-          (λ x g. subst (NodeFormed start) (some_is later x g) (record { server = t.server ∙ n.server; boot = subst IsBoot (sym t.boot) n.boot; stage = went.0 }))),
+          (λ x g. subst (NodeFormed start) (some_is later x g) (record { server = t.server ∙ n.server; profile = t.profile ∙ n.profile; boot = subst IsBoot (sym t.boot) n.boot; stage = went.0 }))),
     )
 moment_formed service start w sent after writes s k fits acked (server_booted boot isn down larger is e) =
     let up : IsBoot boot = (omega (arith, larger.0), larger.1) in
@@ -150,7 +154,7 @@ moment_formed service start w sent after writes s k fits acked (server_booted bo
       all,
       subst (WorldFormed start) (sym e)
           (server_formed start w boot (Some (booted w.server w.profile boot isn)) sent k.formed all
-          (λ n g. subst (NodeFormed start) (some_is (booted w.server w.profile boot isn) n g) (record { server = k.formed.server; boot = up; stage = tt }))),
+          (λ n g. subst (NodeFormed start) (some_is (booted w.server w.profile boot isn) n g) (record { server = k.formed.server; profile = k.formed.profile; boot = up; stage = tt }))),
     )
 moment_formed service start w sent after writes s k fits acked (server_down is e) =
     let all : AllByRecursion (PacketFormed start) sent = subst (AllByRecursion (PacketFormed start)) (sym is) tt in
@@ -178,6 +182,7 @@ client_known clients i c e =
 pub world_start : (start : World) → IsStart start → WorldFormed start start
 world_start start s = record {
   server = refl;
+  profile = refl;
   boot = subst (λ l. l.boot < 2 ^ 64) (sym s.log) (omega arith);
   few = subst (λ l. length l.entries ≤ 64) (sym s.log) (omega arith);
   clients = all_from_get (ClientFormed start) start.clients
@@ -238,13 +243,20 @@ formed_after service small writes start (m ∷ earlier) j =
 
 -- all that was ever sent has a wire
 pub wires_after : {State : Type 0} (service : Machine State) → HasSmallOutputs service → WritesBytes service → (start : World) (trace : List Moment) → Joint service start trace
-    → AllByRecursion HasWire (world_after start trace).packets
+    → AllByRecursion (HasWireBy (grammar_of start.profile)) (world_after start trace).packets
 wires_after service small writes start trace j =
     let w : World = world_after start trace in
     let s = start_is service start trace j in
     let o = sound_after service small start trace j in
-    all_both (PacketFormed start) (PacketBacked service (script_of start) w.log) HasWire w.packets
+    all_both (PacketFormed start) (PacketBacked service (script_of start) w.log) (HasWireBy (grammar_of start.profile)) w.packets
     (λ packet h b. packet_wire start (s.ip, s.port) packet h (packet_acked service (script_of start) w o.author packet b)) (formed_after service small writes start trace j).packets o.backed.packets
+
+-- .. by the world's own profile, which is the start's
+pub wires_here : {State : Type 0} (service : Machine State) → HasSmallOutputs service → WritesBytes service → (start : World) (trace : List Moment) → Joint service start trace
+    → AllByRecursion (HasWireBy (grammar_of (world_after start trace).profile)) (world_after start trace).packets
+wires_here service small writes start trace j =
+    subst (λ profile. AllByRecursion (HasWireBy (grammar_of profile)) (world_after start trace).packets) (sym (formed_after service small writes start trace j).profile)
+    (wires_after service small writes start trace j)
 
 -- what was sent in a moment is after what was sent before
 pub all_behind : {A : Type 0} (P : A → Type 0) (xs ys : List A) → AllByRecursion P (xs ++ ys) → AllByRecursion P ys
@@ -264,5 +276,5 @@ pub sent_formed : {State : Type 0} (service : Machine State) → HasSmallOutputs
 sent_formed service small writes start = each_moment service start (PacketFormed start) (λ trace j. (formed_after service small writes start trace j).packets)
 
 pub wires_sent : {State : Type 0} (service : Machine State) → HasSmallOutputs service → WritesBytes service → (start : World) (trace : List Moment) → Joint service start trace
-    → AllByRecursion HasWires trace
-wires_sent service small writes start = each_moment service start HasWire (wires_after service small writes start)
+    → AllByRecursion (HasWires (grammar_of start.profile)) trace
+wires_sent service small writes start = each_moment service start (HasWireBy (grammar_of start.profile)) (wires_after service small writes start)

@@ -10,9 +10,11 @@ use Rattle.seq_arith.specs.declared.BadPacket.{BadPacket}
 use Rattle.seq_arith.specs.declared.kinds.BadMsg.{BadMsg}
 use Rattle.seq_arith.proofs.Spelling.{spelling_is_read}
 use Rattle.seq_arith.proofs.MessageSpelling.{message_is_read}
-use Rattle.seq_arith.proofs.Refused.{flipped_packet_is_refused, flipped_message_is_refused}
+use Rattle.seq_arith.proofs.Refused.{flipped_packet_is_refused, flipped_is_refused_by}
 use Rattle.ft_io.specs.declared.Key.{Key}
-use Rattle.ft_model.specs.Wire.{CanBeSent, CanBeTold}
+use Rattle.seq_arith.specs.declared.kinds.Grammar.{Grammar}
+use Rattle.tcp_rules.specs.Profile.{grammar_of}
+use Rattle.ft_model.specs.Wire.{CanBeSent, CanBeToldBy}
 use Rattle.server_trait.specs.Service.{Machine}
 use Rattle.ft_model.specs.Client.{received}
 use Rattle.ft_model.specs.Log.{Log, log_after, answer_to}
@@ -78,8 +80,9 @@ quiet before sent after n = (n.0, n.1 ∙ (ap (λ ps. record before { packets = 
 pub bit_changed : (bit : ℕ) (segment : Segment) → CanBeSent segment → bit < 8 * length (segments.spelling segment) → IsErr (segments.reading (flipped bit (segments.spelling segment)))
 bit_changed bit segment w h = flipped_packet_is_refused bit (segments.spelling segment) segment (spelling_is_read segment w.0) h
 
-pub message_bit_changed : (bit : ℕ) (message : Message) → CanBeTold message → bit < 8 * length (messages.spelling message) → IsErr (messages.reading (flipped bit (messages.spelling message)))
-message_bit_changed bit message w h = flipped_message_is_refused bit (messages.spelling message) message (message_is_read message w.0) h
+pub message_bit_changed : (grammar : Grammar) (bit : ℕ) (message : Message) → CanBeToldBy grammar message → bit < 8 * length (messages.spelling_by grammar message)
+    → IsErr (messages.reading_by grammar (flipped bit (messages.spelling_by grammar message)))
+message_bit_changed grammar bit message w h = flipped_is_refused_by grammar bit (messages.spelling_by grammar message) message (message_is_read message w.0) h
 
 pub segment_is_noise : (r : Result Segment BadPacket) → IsErr r → segment_or_noise r ≡ Noise_comes
 segment_is_noise (Err why) h = refl
@@ -100,7 +103,7 @@ log_quiet (Ok message) before sent after h n = absurd (true≢false (sym h))
 -- .. and so is a message to the log
 pub flip_is_quiet : {State : Type 0} (service : Machine State) (before : World) (message : Message) (bit : ℕ) (sent : List Packet) (after : World)
     → Flipped service before (To_logger message) bit sent after → IsQuiet before sent after
-flip_is_quiet service before message bit sent after f = log_quiet _ before sent after (message_bit_changed bit message f.wire f.within) f.comes
+flip_is_quiet service before message bit sent after f = log_quiet _ before sent after (message_bit_changed (grammar_of before.profile) bit message f.wire f.within) f.comes
 
 -- what can't be read may come, and nothing happens
 pub nothing_read : (r : Result Message BadMsg) (before : World) → IsErr r → LogReads r before [] (record before { packets = before.packets ++ [] })
@@ -118,9 +121,9 @@ flips : {State : Type 0} (service : Machine State) (before : World) (packet : Pa
 flips service before (To_server segment) bit sent after f =
     inl (noise_comes service before sent after _ (segment_is_noise _ (bit_changed bit segment f.wire f.within)) f.comes)
 flips service before (To_client segment) bit sent after f = inr (client_quiet (destination_of segment) _ before sent after (bit_changed bit segment f.wire f.within) f.comes)
-flips service before (To_logger message) bit sent after f = inr (log_quiet _ before sent after (message_bit_changed bit message f.wire f.within) f.comes)
+flips service before (To_logger message) bit sent after f = inr (log_quiet _ before sent after (message_bit_changed (grammar_of before.profile) bit message f.wire f.within) f.comes)
 flips service before (From_logger message) bit sent after f =
-    inl (noise_comes service before sent after _ (message_is_noise _ (message_bit_changed bit message f.wire f.within)) f.comes)
+    inl (noise_comes service before sent after _ (message_is_noise _ (message_bit_changed (grammar_of before.profile) bit message f.wire f.within)) f.comes)
 
 -- no client and no log is changed by it
 flip_keeps : {State : Type 0} (service : Machine State) (before : World) (packet : Packet) (bit : ℕ) (sent : List Packet) (after : World)

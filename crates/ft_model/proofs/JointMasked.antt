@@ -70,13 +70,28 @@ says service script log key e segment found s = λ rst.
 seen_as : {State : Type 0} (service : Machine State) (script : Key → List ℕ) (log : Log) (c d : Client) → d.key ≡ c.key → IsPrefix d.accepted (logged_run service script log c.key).output
     → (is_ended d.phase ≡ true → ((logged_run service script log c.key).closed ≡ true) × (d.accepted ≡ (logged_run service script log c.key).output))
     → HoldsOf (logged_run service script log c.key) (length d.accepted) d.early
-    → (is_open d.phase ≡ true → (e : Entry) × (entry_of c.key log ≡ Some e) × (e.sisn ≡ d.sisn)) → IsSeen service script log d
-seen_as service script log c d k front ended holds sisn = record {
+    → (is_open d.phase ≡ true → (e : Entry) × (entry_of c.key log ≡ Some e) × (e.sisn ≡ d.sisn)) → (entry_of c.key log ≡ None → d.accepted ≡ []) → IsSeen service script log d
+seen_as service script log c d k front ended holds sisn unlogged = record {
   front = subst (λ x. IsPrefix d.accepted (logged_run service script log x).output) (sym k) front;
   ended = λ e. subst (λ x. ((logged_run service script log x).closed ≡ true) × (d.accepted ≡ (logged_run service script log x).output)) (sym k) (ended e);
   holds = subst (λ x. HoldsOf (logged_run service script log x) (length d.accepted) d.early) (sym k) holds;
   sisn = λ o. subst (λ x. (e : Entry) × (entry_of x log ≡ Some e) × (e.sisn ≡ d.sisn)) (sym k) (sisn o);
+  unlogged = subst (λ x. entry_of x log ≡ None → d.accepted ≡ []) (sym k) unlogged;
 }
+
+-- a client whose connection isn't open accepts nothing
+opened_accepts : (c : Client) (segment : Segment) → (opened_by c segment).accepted ≡ c.accepted
+opened_accepts c segment =
+    let gone : Client = record c { phase = phases.Reset } in
+    let stands : Client = record c { phase = phases.Established; sisn = segment.head.seq } in
+    holds_if (λ x. x.accepted ≡ c.accepted) (has_ack segment && segment.head.ack == number_at c.isn 0) (if has_rst segment then gone else (if has_syn segment then stands else c)) c
+    (λ a. holds_if (λ x. x.accepted ≡ c.accepted) (has_rst segment) gone (if has_syn segment then stands else c) (λ r. refl)
+    (λ r. holds_if (λ x. x.accepted ≡ c.accepted) (has_syn segment) stands c (λ y. refl) (λ y. refl))) (λ a. refl)
+
+received_accepts : (c : Client) (segment : Segment) → is_open c.phase ≡ false → (received c segment).accepted ≡ c.accepted
+received_accepts c segment closed =
+    holds_if (λ x. x.accepted ≡ c.accepted) (is_opening c.phase) (opened_by c segment) (if is_open c.phase then arrived c segment else c) (λ o. opened_accepts c segment)
+    (λ o. holds_if (λ x. x.accepted ≡ c.accepted) (is_open c.phase) (arrived c segment) c (λ x. absurd (true≢false (sym x ∙ closed))) (λ x. refl))
 
 not_open : {State : Type 0} (service : Machine State) (script : Key → List ℕ) (log : Log) (c : Client) → IsSeen service script log c → entry_of c.key log ≡ None → is_open c.phase ≡ false
 not_open service script log c s none = false_from_ne_true (is_open c.phase) (λ o. let x = s.sisn o in none_is_some x.0 (sym none ∙ x.1))
@@ -88,13 +103,13 @@ received_by service script log c segment (Some e) b found rst says_so s =
     let sees : Sees (logged_run service script log c.key) e.sisn c =
     record { front = s.front; ended = s.ended; holds = s.holds; sisn_is = λ o. let x = s.sisn o in sym x.2 ∙ ap (λ z. z.sisn) (some_is x.0 e (sym x.1 ∙ found)) } in
     let after : Sees (logged_run service script log c.key) e.sisn (received c segment) = received_sees (logged_run service script log c.key) e.sisn c segment sees (says service script log c.key e segment found says_so) in
-    seen_as service script log c (received c segment) (received_same c segment).key after.front after.ended after.holds (λ o. (e, found, sym (after.sisn_is o)))
+    seen_as service script log c (received c segment) (received_same c segment).key after.front after.ended after.holds (λ o. (e, found, sym (after.sisn_is o))) (λ n. none_is_some e (sym n ∙ found))
 received_by service script log c segment None true found rst says_so s =
     let closed : is_open c.phase ≡ false = not_open service script log c s found in
     let sees : Sees (logged_run service script log c.key) 0 c = record { front = s.front; ended = s.ended; holds = s.holds; sisn_is = λ o. absurd (true≢false (sym o ∙ closed)) } in
     let after : Sees (logged_run service script log c.key) 0 (received c segment) =
     received_sees (logged_run service script log c.key) 0 c segment sees (λ r. absurd (true≢false (sym rst ∙ r))) in
-    seen_as service script log c (received c segment) (received_same c segment).key after.front after.ended after.holds (λ o. absurd (true≢false (sym o ∙ received_closed c segment rst closed)))
+    seen_as service script log c (received c segment) (received_same c segment).key after.front after.ended after.holds (λ o. absurd (true≢false (sym o ∙ received_closed c segment rst closed))) (λ n. received_accepts c segment closed ∙ s.unlogged n)
 received_by service script log c segment None false found rst says_so s = none_is_some (says_so rst).entry (sym found ∙ (says_so rst).found)
 
 received_seen : {State : Type 0} (service : Machine State) (script : Key → List ℕ) (log : Log) (c : Client) (segment : Segment) → c.key ≡ destination_of segment
@@ -126,7 +141,7 @@ start_sees : {State : Type 0} (service : Machine State) (script : Key → List �
 start_sees service script w s =
     all_weaker (IsNewClient w.server) _ w.clients
     (λ c n. subst (IsSeen service script w.log) (sym n.new)
-    (record { front = ((logged_run service script w.log c.key).output, refl); ended = λ e. absurd (true≢false (sym e)); holds = record { held = tt; held_fin = tt }; sisn = λ o. absurd (true≢false (sym o)) })) s.clients
+    (record { front = ((logged_run service script w.log c.key).output, refl); ended = λ e. absurd (true≢false (sym e)); holds = record { held = tt; held_fin = tt }; sisn = λ o. absurd (true≢false (sym o)); unlogged = λ n. refl })) s.clients
 
 -- all that is kept true
 pub record JointInvariant {State : Type 0} (service : Machine State) (start w : World) : Type 0 where
@@ -138,13 +153,13 @@ pub record JointInvariant {State : Type 0} (service : Machine State) (start w : 
   pub sees : AllSee service (script_of start) w
   pub backed : IsBacked service (script_of start) w
 
-pub start_sound : {State : Type 0} (service : Machine State) (start : World) → IsStart start → JointInvariant service start start
-start_sound service start x = record {
+pub start_sound : {State : Type 0} (service : Machine State) → HasSmallOutputs service → (start : World) → IsStart start → JointInvariant service start start
+start_sound service small start x = record {
   fenced = start_fenced start x;
   asked = start_asked start x;
   faithful = start_faithful start x;
   distinct = λ n e. none_is_some n (sym x.node ∙ e);
-  author = start_author service (script_of start) start x;
+  author = start_author service (script_of start) start small.0 x;
   sees = start_sees service (script_of start) start x;
   backed = start_backed service (script_of start) start x;
 }
@@ -164,7 +179,7 @@ sound_goes_on service small start before sent after s o h = record {
 pub sound_after : {State : Type 0} (service : Machine State) → HasSmallOutputs service → (start : World) (trace : List Moment) → Joint service start trace → JointInvariant service start (world_after start trace)
 sound_after service small start trace j =
     let s : IsStart start = start_is service start trace j in
-    holds_after service (JointInvariant service start) start (start_sound service start) (λ before sent after o h. sound_goes_on service small start before sent after s o h) trace j
+    holds_after service (JointInvariant service start) start (start_sound service small start) (λ before sent after o h. sound_goes_on service small start before sent after s o h) trace j
 
 -- each client sees the front of the uncrashed server's output
 pub sees_front : {State : Type 0} (service : Machine State) → HasSmallOutputs service → (start : World) (trace : List Moment) → Joint service start trace
@@ -176,6 +191,7 @@ sees_front service small start trace j =
     (λ c s f. let same : logged_run service (script_of start) log c.key ≡ unfailing service log c = ap (λ l. reference service l (logged_lengths c.key log)) (sym f.0) in
     record {
       accepted = subst (λ r. IsPrefix c.accepted r.output) same s.front;
+      unlogged = s.unlogged;
       ended = λ e. subst (λ r. (r.closed ≡ true) × (c.accepted ≡ r.output)) same (s.ended e);
     }) o.sees o.faithful.clients
 

@@ -55,6 +55,7 @@ pub mod BeyondNext
 pub mod HeldSegments
 pub mod CongestionWindow
 pub mod DelayedAck
+pub mod Batch
 pub mod MeasuredRecovery
 pub mod ShutWindow
 pub mod Unsent

@@ -68,7 +68,7 @@ live_turn service server boot news p known =
     let after : Point = turned service news p in
     let makes : Makes service start ns = reads_make service 32 start (counts_within news p known) (omega arith) in
     record {
-      same = record { key = refl; cisn = refl; sisn = refl; mss = refl; fetched = refl; fetched_output = refl; delays = refl };
+      same = record { key = refl; cisn = refl; sisn = refl; mss = refl; fetched = refl; fetched_output = refl; delays = refl; batches = refl };
       taken = refl;
       fin = refl;
       early = refl;

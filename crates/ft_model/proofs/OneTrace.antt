@@ -10,7 +10,8 @@ use Rattle.seq_arith.specs.MessageGrammar as messages
 use Rattle.seq_arith.specs.Damage.{flipped}
 use Rattle.seq_arith.specs.declared.BadPacket.{BadPacket}
 use Rattle.seq_arith.specs.declared.kinds.BadMsg.{BadMsg}
-use Rattle.ft_model.specs.Wire.{wire_of}
+use Rattle.tcp_rules.specs.Profile.{grammar_of}
+use Rattle.ft_model.specs.Wire.{wire_by}
 use Rattle.server_trait.specs.Service.{Machine}
 use Rattle.ft_model.specs.Client.{Move, move_asked, received}
 use Rattle.ft_model.specs.Log.{log_after}
@@ -78,8 +79,8 @@ module _ {State : Type 0} (service : Machine State) where
       → DeliveredAs service before packet bytes s w → DeliveredAs service before packet bytes t x → w ≡ x
   changed_once (To_server segment) bytes before w x s t p q = server_once (segment_or_noise (segments.reading bytes)) before w x s t p q
   changed_once (To_client segment) bytes before w x s t p q = client_reads_once (destination_of segment) (segments.reading bytes) before w x s t p q
-  changed_once (To_logger message) bytes before w x s t p q = log_reads_once (messages.reading bytes) before w x s t p q
-  changed_once (From_logger message) bytes before w x s t p q = server_once (message_or_noise (messages.reading bytes)) before w x s t p q
+  changed_once (To_logger message) bytes before w x s t p q = log_reads_once (messages.reading_by (grammar_of before.profile) bytes) before w x s t p q
+  changed_once (From_logger message) bytes before w x s t p q = server_once (message_or_noise (messages.reading_by (grammar_of before.profile) bytes)) before w x s t p q
 
   -- clients that make one move stand alike, and so does their world
   move_once : (number : ℕ) (before w x : World) (s t : List Packet) → Moves before number s w → Moves before number t x → s ≡ t → w.clients ≡ x.clients → w ≡ x
@@ -109,7 +110,7 @@ module _ {State : Type 0} (service : Machine State) where
   happens_once (Flip number bit) before w x s t p q a b =
       let same : p.0 ≡ q.0 = some_is p.0 q.0 (sym p.1 ∙ q.1) in
       let f : Flipped service before q.0 bit s w = subst (λ packet. Flipped service before packet bit s w) same p.2 in
-      changed_once q.0 (flipped bit (wire_of q.0).bytes) before w x s t f.comes q.2.comes
+      changed_once q.0 (flipped bit (wire_by (grammar_of before.profile) q.0).bytes) before w x s t f.comes q.2.comes
   happens_once (Begin client window) before w x s t p q a b = by_script (Begin client window) client (Syn None) before w x s t refl p q a b
   happens_once (Send client from len) before w x s t p q a b = by_script (Send client from len) client (Text from len) before w x s t refl p q a b
   happens_once (Fin client) before w x s t p q a b = by_script (Fin client) client Fin_move before w x s t refl p q a b
@@ -129,7 +130,7 @@ module _ {State : Type 0} (service : Machine State) where
       delivered_on (To_client segment) d = ap (λ v. v.packets) d.1
       delivered_on (To_logger message) d = ap (λ v. v.packets) d.1
       delivered_on (From_logger message) d = ap (λ v. v.packets) d.1
-  goes_on (Flip number bit) before w s p = changed_on p.0 (flipped bit (wire_of p.0).bytes) p.2.comes
+  goes_on (Flip number bit) before w s p = changed_on p.0 (flipped bit (wire_by (grammar_of before.profile) p.0).bytes) p.2.comes
     where
       client_on : (key : Key) (r : Result Segment BadPacket) → ClientReads key r before s w → w.packets ≡ before.packets ++ s
       client_on key (Ok segment) d = ap (λ v. v.packets) d.1
@@ -142,7 +143,7 @@ module _ {State : Type 0} (service : Machine State) where
       changed_on : (packet : Packet) (bytes : List ℕ) → DeliveredAs service before packet bytes s w → w.packets ≡ before.packets ++ s
       changed_on (To_server segment) bytes d = ap (λ v. v.packets) d.1
       changed_on (To_client segment) bytes d = client_on (destination_of segment) (segments.reading bytes) d
-      changed_on (To_logger message) bytes d = log_on (messages.reading bytes) d
+      changed_on (To_logger message) bytes d = log_on (messages.reading_by (grammar_of before.profile) bytes) d
       changed_on (From_logger message) bytes d = ap (λ v. v.packets) d.1
   goes_on (Begin client window) before w s p = ap (λ v. v.packets) p.after_is
   goes_on (Send client from len) before w s p = ap (λ v. v.packets) p.after_is

@@ -1,6 +1,6 @@
 -- Each accepted line keeps the addresses apart and the initial numbers modulo 2^32, so what the lines spell can be played.
-use Rattle.std.proofs.Common.{◌≡◌, ℕ, ◌<◌, ◌≤◌, ◌^◌, List, [], ◌∷◌, ◌++◌, length, refl, ◌∙◌, arith, Bool, true, false}
-use Rattle.std.specs.Prelude.{◌==◌, ◌&&◌, not, Ok}
+use Rattle.std.proofs.Common.{◌≡◌, ℕ, ◌<◌, ◌≤◌, ◌^◌, List, [], ◌∷◌, ◌++◌, length, refl, sym, ap, ap₂, ◌∙◌, arith, Bool, true, false}
+use Rattle.std.specs.Prelude.{◌==◌, ◌&&◌, not, is_none, None, Ok}
 use Rattle.std.specs.List.{AllByRecursion, list_any}
 use Rattle.std.proofs.lemmas.Bool.{and_from, or_from}
 use Rattle.std.proofs.lemmas.Grind.{common_steps}
@@ -62,16 +62,26 @@ apart_push server (x ∷ xs) c e own none =
     (apart_push server xs c (right_true (is_apart server x.key (clients_of server xs)) _ e) own (right_false (has c.key x) _ none))
 
 -- an address that nobody has yet keeps all apart
-free_apart : (s : Schedule) (c : ClientLine) → are_apart s.server (clients_of s.server s.clients) ≡ true → is_taken (Begun s) (record { ip = c.key.ip; port = c.key.port }) ≡ false
+free_apart : (s : Schedule) (c : ClientLine) → s.lasting ≡ None → are_apart s.server (clients_of s.server s.clients) ≡ true → is_taken (Begun s) (record { ip = c.key.ip; port = c.key.port }) ≡ false
     → are_apart s.server (clients_of s.server (s.clients ++ c ∷ [])) ≡ true
 unfolding is_taken
-free_apart s c e free =
-    apart_push s.server s.clients c e (left_false _ _ free) (right_false (s.server.ip == c.key.ip && s.server.port == c.key.port) _ free)
+free_apart s c fleeting e free =
+    apart_push s.server s.clients c e (left_false _ _ free) (ap (λ o. is_none o && list_any (has c.key) s.clients) (sym fleeting)
+    ∙ right_false (s.server.ip == c.key.ip && s.server.port == c.key.port) _ free)
+
+-- .. and is beside the server
+free_beside : (s : Schedule) (c : ClientLine) → is_taken (Begun s) (record { ip = c.key.ip; port = c.key.port }) ≡ false → is_apart s.server c.key [] ≡ true
+unfolding is_taken
+free_beside s c free =
+    let own : (c.key.ip == s.server.ip && c.key.port == s.server.port) ≡ false =
+    ap₂ (λ a b. a && b) (equal_either_way c.key.ip s.server.ip) (equal_either_way c.key.port s.server.port) ∙ left_false (s.server.ip == c.key.ip && s.server.port == c.key.port) _ free in
+    ap (λ b. not b && true) own
 
 -- the initial numbers are modulo 2^32, and the addresses differ
 record IsApart (s : Schedule) : Type 0 where
   numbers : AllByRecursion (λ line. line.isn < 2 ^ 32) s.clients
-  apart : are_apart s.server (clients_of s.server s.clients) ≡ true
+  beside : AllByRecursion (λ line. is_apart s.server line.key [] ≡ true) s.clients
+  apart : s.lasting ≡ None → are_apart s.server (clients_of s.server s.clients) ≡ true
 
 abbrev Keeps : Draft → Type 0
 Keeps Empty = Unit {0}
@@ -84,24 +94,31 @@ line_keeps Empty text (line.Server addr) h few p = tt
 line_keeps Empty text (line.Profile profile) h few p = tt
 line_keeps Empty text line.Twin h few p = tt
 line_keeps Empty text (line.Marks every) h few p = tt
+line_keeps Empty text (line.Lasting waits) h few p = tt
 line_keeps Empty text (line.Client c) h few p = tt
 line_keeps Empty text (line.Event e) h few p = tt
 line_keeps (Named kind) text (line.Service name) h few p = tt
-line_keeps (Named kind) text (line.Server addr) h few p = record { numbers = tt; apart = refl }
+line_keeps (Named kind) text (line.Server addr) h few p = record { numbers = tt; beside = tt; apart = λ none. refl }
 line_keeps (Named kind) text (line.Profile profile) h few p = tt
 line_keeps (Named kind) text line.Twin h few p = tt
 line_keeps (Named kind) text (line.Marks every) h few p = tt
+line_keeps (Named kind) text (line.Lasting waits) h few p = tt
 line_keeps (Named kind) text (line.Client c) h few p = tt
 line_keeps (Named kind) text (line.Event e) h few p = tt
 line_keeps (Begun s) text (line.Service kind) h few p = h
 line_keeps (Begun s) text (line.Server addr) h few p = h
-line_keeps (Begun s) text (line.Profile profile) h few p = record { numbers = h.numbers; apart = h.apart }
-line_keeps (Begun s) text line.Twin h few p = record { numbers = h.numbers; apart = h.apart }
-line_keeps (Begun s) text (line.Marks every) h few p = record { numbers = h.numbers; apart = h.apart }
+line_keeps (Begun s) text (line.Profile profile) h few p = record { numbers = h.numbers; beside = h.beside; apart = h.apart }
+line_keeps (Begun s) text line.Twin h few p = record { numbers = h.numbers; beside = h.beside; apart = h.apart }
+line_keeps (Begun s) text (line.Marks every) h few p = record { numbers = h.numbers; beside = h.beside; apart = h.apart }
+line_keeps (Begun s) text (line.Lasting waits) h few p = record { numbers = h.numbers; beside = h.beside; apart = λ none. absurd (cc) }
 line_keeps (Begun s) text (line.Client c) h few p =
     let kept = client_kept (Begun s) p.words c (says_client (Begun s) p.k p.words c p.says).1 in
-    record { numbers = all_push (λ line. line.isn < 2 ^ 32) s.clients c h.numbers kept.2; apart = free_apart s c h.apart kept.0 }
-line_keeps (Begun s) text (line.Event e) h few p = record { numbers = h.numbers; apart = h.apart }
+    record {
+      numbers = all_push (λ line. line.isn < 2 ^ 32) s.clients c h.numbers kept.2;
+      beside = all_push (λ line. is_apart s.server line.key [] ≡ true) s.clients c h.beside (free_beside s c kept.0);
+      apart = λ none. free_apart s c none (h.apart none) kept.0;
+    }
+line_keeps (Begun s) text (line.Event e) h few p = record { numbers = h.numbers; beside = h.beside; apart = h.apart }
 
 pub playable : (text : List ℕ) (s : Schedule) → read_text text ≡ Ok s → IsPlayable s
 playable text s e =
@@ -112,6 +129,7 @@ playable text s e =
       short = All-from_recursion (λ line. length (bytes_of line.script) ≤ 2 ^ 24) s.clients (accepted text s e).scripts;
       numbers = kept.numbers;
       sizes = fits.clients;
+      beside = kept.beside;
       apart = kept.apart;
       events = fits.events;
     }
@@ -125,11 +143,11 @@ new_clients server (c ∷ more) short numbers sizes = (
   new_clients server more short.1 numbers.1 sizes.1,
 )
 
-pub starts : (s : Schedule) → IsPlayable s → IsStart (start_of s)
-starts s h = record {
+pub starts : (s : Schedule) → IsPlayable s → s.lasting ≡ None → IsStart (start_of s)
+starts s h fleeting = record {
   ip = h.server.0;
   port = h.server.1;
-  apart = h.apart;
+  apart = h.apart fleeting;
   clients = new_clients s.server s.clients (recursion_from_All (λ line. length (bytes_of line.script) ≤ 2 ^ 24) s.clients h.short) h.numbers h.sizes;
   log = refl;
   packets = refl;

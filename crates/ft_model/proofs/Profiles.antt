@@ -122,6 +122,7 @@ live_keeps service profile server boot news p q sent h t = record {
   measures = ap (λ x. x.measures) t.timing ∙ (turn_measures service news p q ∙ h.measures);
   recovers = ap (λ x. x.recovers) t.congestion ∙ (turn_recovers news p ∙ h.recovers);
   delays = t.same.delays ∙ h.delays;
+  batches = t.same.batches ∙ h.batches;
   timing = λ off. t.timing ∙ turn_stays service news p q (h.timing off);
   lost = λ off. ap (λ x. x.lost) t.congestion ∙ turn_notes_none news p (h.recovers ∙ off) (h.lost off);
 }
@@ -130,17 +131,17 @@ pub turn_keeps : {State : Type 0} (service : Machine State) (profile : Profile) 
     → ConnectionTurn service server boot news p q sent → HasProfile profile p → HasProfile profile q
 turn_keeps service profile server boot news p q sent t h =
     either_turn service server boot news p q sent
-    (λ r. subst (HasProfile profile) (sym r.point) (record { measures = h.measures; recovers = h.recovers; delays = h.delays; timing = h.timing; lost = h.lost }))
+    (λ r. subst (HasProfile profile) (sym r.point) (record { measures = h.measures; recovers = h.recovers; delays = h.delays; batches = h.batches; timing = h.timing; lost = h.lost }))
     (λ l. live_keeps service profile server boot news p q sent h l) t
 
 unmeasured : (measures : Bool) → measures ≡ false → initial_timing measures ≡ initial_timing false
 unmeasured measures off = ap initial_timing off
 
 pub opened_has : (profile : Profile) (numbers : Numbers) → HasProfile profile (point_opened profile numbers)
-opened_has profile numbers = record { measures = refl; recovers = refl; delays = refl; timing = unmeasured profile.measures; lost = λ off. refl }
+opened_has profile numbers = record { measures = refl; recovers = refl; delays = refl; batches = refl; timing = unmeasured profile.measures; lost = λ off. refl }
 
 pub entry_has : {State : Type 0} (service : Machine State) (profile : Profile) (e : Entry) → HasProfile profile (point_of service profile e)
-entry_has service profile e = record { measures = refl; recovers = refl; delays = refl; timing = unmeasured profile.measures; lost = λ off. refl }
+entry_has service profile e = record { measures = refl; recovers = refl; delays = refl; batches = refl; timing = unmeasured profile.measures; lost = λ off. refl }
 
 -- all places
 abbrev PlaceHas : Profile → Place → Type 0
@@ -261,6 +262,12 @@ profile_after service start trace node j up =
     (λ s. record { world = refl; node = λ n e. none_is_some n (sym s.node ∙ e) })
     (λ before sent after h x. profile_goes_on service start.profile before sent after h x) trace j in
     let n = k.node node up in (n.0, stage_points start.profile node.stage n.1)
+
+-- a world's profile is the start's
+pub profile_stays : {State : Type 0} (service : Machine State) (start : World) (trace : List Moment) → Joint service start trace → (world_after start trace).profile ≡ start.profile
+profile_stays service start trace j =
+    (holds_after service (KeepsProfile start.profile) start (λ s. record { world = refl; node = λ n e. none_is_some n (sym s.node ∙ e) })
+    (λ before sent after h x. profile_goes_on service start.profile before sent after h x) trace j).world
 
 -- the timing of a plain server's connections
 pub plain_after : {State : Type 0} (service : Machine State) (start : World) (trace : List Moment) (node : Node) → Joint service start trace

@@ -8,7 +8,9 @@ use Rattle.server_trait.specs.Service.{Machine, WritesBytes}
 use Rattle.ft_model.specs.Client.{Client}
 use Rattle.ft_model.specs.Network.{Packet}
 use Rattle.ft_model.specs.Network.Packet.{To_server, To_client, To_logger, From_logger}
-use Rattle.ft_model.specs.Wire.{HasWire}
+use Rattle.seq_arith.specs.declared.kinds.Grammar.{Grammar}
+use Rattle.tcp_rules.specs.Profile.{grammar_of}
+use Rattle.ft_model.specs.Wire.{HasWireBy}
 use Rattle.ft_model.specs.Schedule.{kind_of, client_of, clients_of}
 use Rattle.ft_model.specs.World.{World, Moment, events_of}
 use Rattle.ft_model.specs.Image.{HasWires}
@@ -39,16 +41,16 @@ ends_known start (To_client s) few h =
 ends_known start (To_logger m) few h = tt
 ends_known start (From_logger m) few h = tt
 
-readable_turns : (start : World) (trace : List Moment) → FitsU64 (length start.clients) → AllByRecursion FitsEvent (events_of trace)
-    → AllByRecursion (λ m. AllByRecursion (PacketFormed start) m.sent) trace → AllByRecursion HasWires trace → AllByRecursion (IsReadableTurn start.server start.clients) trace
-readable_turns start [] few h f w = tt
-readable_turns start (m ∷ earlier) few h f w =
+readable_turns : (grammar : Grammar) (start : World) (trace : List Moment) → FitsU64 (length start.clients) → AllByRecursion FitsEvent (events_of trace)
+    → AllByRecursion (λ m. AllByRecursion (PacketFormed start) m.sent) trace → AllByRecursion (HasWires grammar) trace → AllByRecursion (IsReadableTurn start.server start.clients) trace
+readable_turns grammar start [] few h f w = tt
+readable_turns grammar start (m ∷ earlier) few h f w =
     let events = all_front FitsEvent (events_of earlier) m.event h in
-    ((events.1, both_ways m.sent f.0 w.0), readable_turns start earlier few events.0 f.1 w.1)
+    ((events.1, both_ways m.sent f.0 w.0), readable_turns grammar start earlier few events.0 f.1 w.1)
   where
-    both_ways : (packets : List Packet) → AllByRecursion (PacketFormed start) packets → AllByRecursion HasWire packets → AllByRecursion (IsReadable start.server start.clients) packets
+    both_ways : (packets : List Packet) → AllByRecursion (PacketFormed start) packets → AllByRecursion (HasWireBy grammar) packets → AllByRecursion (IsReadable start.server start.clients) packets
     both_ways [] f w = tt
-    both_ways (p ∷ ps) f w = ((ends_known start p few f.0, w.0), both_ways ps f.1 w.1)
+    both_ways (p ∷ ps) f w = ((ends_known start p few f.0, grammar, w.0), both_ways ps f.1 w.1)
 
 pub legal_readable : {State : Type 0} (service : ℕ → Machine State) → ((kind : ℕ) → HasSmallOutputs (service kind)) → ((kind : ℕ) → WritesBytes (service kind))
     → (schedule : Schedule) (trace : List Moment) → FitsSchedule schedule
@@ -58,5 +60,5 @@ legal_readable service small writes schedule trace fits l =
     let kind : ℕ = kind_of schedule.service in
     let size = length_map (client_of schedule.server) schedule.clients in
     let many = fits.count in
-    readable_turns start trace (omega (arith, size, many)) (subst (AllByRecursion FitsEvent) (sym l.events_are) fits.events)
+    readable_turns (grammar_of start.profile) start trace (omega (arith, size, many)) (subst (AllByRecursion FitsEvent) (sym l.events_are) fits.events)
     (sent_formed (service kind) (small kind) (writes kind) start trace l.joint) (wires_sent (service kind) (small kind) (writes kind) start trace l.joint)

@@ -20,7 +20,7 @@ use Rattle.ft_model.proofs.LogAnswers.{LogWent, all_answers}
 use Rattle.ft_model.proofs.LogAnswers.LogWent.{ignored, raised, changed}
 use Rattle.ft_model.proofs.Happened.{answers}
 use Rattle.ft_model.proofs.Fenced.{is_change}
-use Rattle.ft_model.proofs.Fetching.{on_some, chosen_some}
+use Rattle.ft_model.proofs.Fetching.{on_some, chosen_some, told_last}
 use Rattle.ft_model.proofs.Resumed.{length_map}
 use Rattle.ft_model.proofs.Asked.{entry_keys, keys_stay, map_more}
 use Rattle.ft_io.proofs.Choices.{holds_if}
@@ -164,7 +164,7 @@ told_says (OpenMsg n) log after answer c t = full_says log after n (entry_of n.k
 told_says (DoneMsg key) log after answer c t = ended_says log after key answer (c refl) t
 told_says HelloMsg log after answer c t = subst (BodySays after) (some_is _ _ t) tt
 told_says (DataMsg part) log after answer c t =
-    let o = on_some (entry_of part.key after) (λ e. Some (StableMsg (kept_of e))) answer t in subst (BodySays after) (some_is _ _ o.2) tt
+    let o = on_some (entry_of part.key after) (λ e. Some (StableMsg (kept_of e))) answer (told_last part.more _ answer t) in subst (BodySays after) (some_is _ _ o.2) tt
 told_says (ReadMsg key index n) log after answer c t =
     let o = on_some (entry_of key after) (λ e. Some (ReadsMsg (kept_of e))) answer t in subst (BodySays after) (some_is _ _ o.2) tt
 told_says (ListMsg index) log after answer c t =

@@ -13,7 +13,7 @@ use Rattle.ft_model.specs.Network.Packet.{To_server, To_client, To_logger, From_
 use Rattle.ft_io.specs.declared.Addr.{Addr}
 use Rattle.ft_model.specs.declared.way.Way.{Way}
 use Rattle.ft_model.specs.declared.way.Way.TheVariants.{ClientToServer, ServerToClient, ServerToLogger, LoggerToServer, HeadToTail, TailToHead}
-use Rattle.ft_model.specs.Texts.{or_dash, hex_text, list_text, behind_commas, address_text, key_text, flag_letters, flags_text, mss_text, bit_text, way_text}
+use Rattle.ft_model.specs.Texts.{or_dash, hex_text, list_text, behind_commas, address_text, key_text, flag_letters, flags_text, mss_text, bit_text, ending_text, way_text}
 use Rattle.ft_model.specs.Report.{segment_words, name_of, numbers_words, kept_words, entry_words, part_words, field_words, message_words, content_words}
 use Rattle.ft_model.specs.Readable.{IsWord, FitsU64, FitsOption, FitsWay, FitsKey, IsReadable}
 use Rattle.ft_model.proofs.ReportRanges.{FitsSegment, FitsNumbers, FitsKept, FitsEntry, FitsPart, FitsBody, segment_fits, message_fits}
@@ -60,6 +60,12 @@ pub word_bit : (b : Bool) → IsWord (bit_text b)
 unfolding bit_text
 word_bit true = lit (codes "1") refl
 word_bit false = lit (codes "0") refl
+
+word_ending : (fin more : Bool) → IsWord (ending_text fin more)
+unfolding ending_text
+word_ending fin false = word_bit fin
+word_ending false true = lit (codes "2") refl
+word_ending true true = lit (codes "3") refl
 
 pub word_mss : (m : Option ℕ) → FitsOption m → IsWord (mss_text m)
 unfolding mss_text
@@ -158,7 +164,7 @@ words_entry e h =
 words_part : (p : Part) → FitsPart p → AllByRecursion IsWord (part_words p)
 words_part p h =
     lit (codes "key") refl ⊕ word_key p.key h.0 ⊕ lit (codes "offset") refl ⊕ word_decimal p.offset h.1 ⊕ lit (codes "acked") refl
-    ⊕ word_decimal p.acked h.2 ⊕ lit (codes "fin") refl ⊕ word_bit p.fin ⊕ lit (codes "bytes") refl ⊕ word_hex p.bytes h.3 ⊕ tt
+    ⊕ word_decimal p.acked h.2 ⊕ lit (codes "fin") refl ⊕ word_ending p.fin p.more ⊕ lit (codes "bytes") refl ⊕ word_hex p.bytes h.3 ⊕ tt
 
 words_fields : (b : Body) → FitsBody b → AllByRecursion IsWord (field_words b)
 words_fields HelloMsg h = tt
@@ -192,7 +198,7 @@ words_message m boot h = word_name m.body ⊕ lit (codes "boot") refl ⊕ word_d
 
 pub words_content : (server : Addr) (clients : List Client) (p : Packet) → IsReadable server clients p → AllByRecursion IsWord (content_words p)
 unfolding content_words
-words_content server clients (To_server s) h = words_segment s (segment_fits s h.1)
-words_content server clients (To_client s) h = words_segment s (segment_fits s h.1)
-words_content server clients (To_logger m) h = let f = message_fits m h.1 in words_message m f.0 f.1
-words_content server clients (From_logger m) h = let f = message_fits m h.1 in words_message m f.0 f.1
+words_content server clients (To_server s) h = words_segment s (segment_fits s h.2)
+words_content server clients (To_client s) h = words_segment s (segment_fits s h.2)
+words_content server clients (To_logger m) h = let f = message_fits h.1 m h.2 in words_message m f.0 f.1
+words_content server clients (From_logger m) h = let f = message_fits h.1 m h.2 in words_message m f.0 f.1

@@ -15,13 +15,14 @@ use Rattle.ft_model.specs.declared.schedule.ServiceKind.TheVariants.{Echo, Line,
 use Rattle.ft_model.specs.declared.schedule.Script.{Script}
 use Rattle.ft_model.specs.declared.schedule.Script.TheVariants.{Bytes, Fill}
 use Rattle.ft_model.specs.declared.schedule.ClientLine.{ClientLine}
+use Rattle.ft_model.specs.declared.schedule.Lasting.{Lasting}
 use Rattle.ft_model.specs.declared.schedule.Schedule.{Schedule}
 use Rattle.ft_model.specs.Client.{Client}
 use Rattle.ft_model.specs.Log.{Entry}
 use Rattle.ft_model.specs.World.{World}
 use Rattle.ft_model.specs.Texts.{spaced, line, address_text, key_text, hex_text, service_text, script_text, phase_text}
-use Rattle.ft_model.specs.Report.{schedule_line, schedule_lines, profile_line, twin_line, marks_line, header, phase_line, client_line, client_lines, entry_line, log_line, end_line, closing_lines}
-use Rattle.ft_model.specs.Readable.{IsWord, FitsU64, FitsOption, FitsKey, FitsScript, FitsClient, FitsSchedule}
+use Rattle.ft_model.specs.Report.{schedule_line, schedule_lines, profile_line, twin_line, marks_line, lasting_line, header, phase_line, client_line, client_lines, entry_line, log_line, end_line, closing_lines}
+use Rattle.ft_model.specs.Readable.{IsWord, FitsU64, FitsOption, FitsLasting, FitsKey, FitsScript, FitsClient, FitsSchedule}
 use Rattle.ft_model.proofs.ReportWords.{cut, all_append, IsDigit, digits_decimal, word_decimal}
 use Rattle.ft_model.proofs.ReportParts.{address_same}
 use Rattle.ft_model.proofs.ReportContent.{lit, word_key, word_encoded}
@@ -226,6 +227,36 @@ clients_no_marks : (n : ℕ) (asked : List ClientLine) (r : List ℕ) → NoMark
 clients_no_marks n [] r h = h
 clients_no_marks n (a ∷ asked) r h = λ f. omega (arith, f, ap mark (append_assoc (schedule_line n a) (schedule_lines (n + 1) asked) r) ∙ client_mark n a (schedule_lines (n + 1) asked ++ r))
 
+-- a text that doesn't go on with the line on a server that lasts
+abbrev pub NoLasting : List ℕ → Type 0
+NoLasting text = mark text ≡ mark (codes "la") → ⊥
+
+lasting_mark : (waits : Lasting) (r : List ℕ) → mark (lasting_line (Some waits) ++ r) ≡ mark (codes "la")
+lasting_mark waits r = refl
+
+lasting_cut : (a b : Option Lasting) (r s : List ℕ) → FitsLasting a → FitsLasting b → NoLasting r → NoLasting s → lasting_line a ++ r ≡ lasting_line b ++ s → (a ≡ b) × (r ≡ s)
+lasting_cut None None r s p q nr ns e = (refl, e)
+lasting_cut None (Some m) r s p q nr ns e = absurd (nr (ap mark e ∙ lasting_mark m s))
+lasting_cut (Some n) None r s p q nr ns e = absurd (ns (sym (ap mark e) ∙ lasting_mark n r))
+lasting_cut (Some n) (Some m) r s p q nr ns e =
+    let cut = line_cut (codes "lasting") (decimal n.wait ∷ decimal n.silence ∷ []) (decimal m.wait ∷ decimal m.silence ∷ []) r s
+    (word_decimal n.wait p.0, (word_decimal n.silence p.1, tt)) (word_decimal m.wait q.0, (word_decimal m.silence q.1, tt)) e in
+    let wait : n.wait ≡ m.wait = decimal_injective n.wait m.wait p.0 q.0 (ap verb cut.0) in
+    let silence : n.silence ≡ m.silence = decimal_injective n.silence m.silence p.1 q.1 (ap (λ ws. verb (drop 1 ws)) cut.0) in
+    (λ i. Some (record { wait = wait i; silence = silence i }), cut.1)
+
+clients_no_lasting : (n : ℕ) (asked : List ClientLine) (r : List ℕ) → NoLasting r → NoLasting (schedule_lines n asked ++ r)
+clients_no_lasting n [] r h = h
+clients_no_lasting n (a ∷ asked) r h = λ f. omega (arith, f, ap mark (append_assoc (schedule_line n a) (schedule_lines (n + 1) asked) r) ∙ client_mark n a (schedule_lines (n + 1) asked ++ r))
+
+lasting_no_marks : (lasting : Option Lasting) (r : List ℕ) → NoMarks r → NoMarks (lasting_line lasting ++ r)
+lasting_no_marks None r h = h
+lasting_no_marks (Some waits) r h = λ f. omega (arith, f, lasting_mark waits r)
+
+lasting_no_twin : (lasting : Option Lasting) (r : List ℕ) → NoTwin r → NoTwin (lasting_line lasting ++ r)
+lasting_no_twin None r h = h
+lasting_no_twin (Some waits) r h = λ f. omega (arith, f, lasting_mark waits r)
+
 marks_no_twin : (marks : Option ℕ) (r : List ℕ) → NoTwin r → NoTwin (marks_line marks ++ r)
 marks_no_twin None r h = h
 marks_no_twin (Some every) r h = λ f. omega (arith, f, marks_mark every r)
@@ -247,6 +278,10 @@ profile_cut Plain Plain r s nr ns e = (refl, e)
 clients_no_profile : (n : ℕ) (asked : List ClientLine) (r : List ℕ) → NoProfile r → NoProfile (schedule_lines n asked ++ r)
 clients_no_profile n [] r h = h
 clients_no_profile n (a ∷ asked) r h = λ f. omega (arith, f, ap mark (append_assoc (schedule_line n a) (schedule_lines (n + 1) asked) r) ∙ client_mark n a (schedule_lines (n + 1) asked ++ r))
+
+lasting_no_profile : (lasting : Option Lasting) (r : List ℕ) → NoProfile r → NoProfile (lasting_line lasting ++ r)
+lasting_no_profile None r h = h
+lasting_no_profile (Some waits) r h = λ f. omega (arith, f, lasting_mark waits r)
 
 marks_no_profile : (marks : Option ℕ) (r : List ℕ) → NoProfile r → NoProfile (marks_line marks ++ r)
 marks_no_profile None r h = h
@@ -276,15 +311,16 @@ pub record IsClosing (text : List ℕ) : Type 0 where
   pub profile : NoProfile text
   pub twin : NoTwin text
   pub marks : NoMarks text
+  pub lasting : NoLasting text
 
-of_mark : (text : List ℕ) (m : ℕ) → mark text ≡ m → (m ≡ mark (codes "pa") → ⊥) → (m ≡ mark (codes "ev") → ⊥) → (m ≡ mark (codes "cl") → ⊥) → (m ≡ mark (codes "pr") → ⊥) → (m ≡ mark (codes "tw") → ⊥) → (m ≡ mark (codes "ma") → ⊥) → IsClosing text
-of_mark text m at p e c q t k = record { packet = λ f. p (sym at ∙ f); event = λ f. e (sym at ∙ f); client = other_mark text (λ f. c (sym at ∙ f)); profile = λ f. q (sym at ∙ f); twin = λ f. t (sym at ∙ f); marks = λ f. k (sym at ∙ f) }
+of_mark : (text : List ℕ) (m : ℕ) → mark text ≡ m → (m ≡ mark (codes "pa") → ⊥) → (m ≡ mark (codes "ev") → ⊥) → (m ≡ mark (codes "cl") → ⊥) → (m ≡ mark (codes "pr") → ⊥) → (m ≡ mark (codes "tw") → ⊥) → (m ≡ mark (codes "ma") → ⊥) → (m ≡ mark (codes "la") → ⊥) → IsClosing text
+of_mark text m at p e c q t k l = record { packet = λ f. p (sym at ∙ f); event = λ f. e (sym at ∙ f); client = other_mark text (λ f. c (sym at ∙ f)); profile = λ f. q (sym at ∙ f); twin = λ f. t (sym at ∙ f); marks = λ f. k (sym at ∙ f); lasting = λ f. l (sym at ∙ f) }
 
 ends : (clients : List Client) (entries : List Entry) (n : ℕ) → IsClosing (client_lines 1 clients ++ (flat_map log_line entries ++ end_line n))
-ends [] [] n = of_mark (end_line n) (mark (codes "en")) (end_mark n) (λ f. omega (arith, f)) (λ f. omega (arith, f)) (λ f. omega (arith, f)) (λ f. omega (arith, f)) (λ f. omega (arith, f)) (λ f. omega (arith, f))
+ends [] [] n = of_mark (end_line n) (mark (codes "en")) (end_mark n) (λ f. omega (arith, f)) (λ f. omega (arith, f)) (λ f. omega (arith, f)) (λ f. omega (arith, f)) (λ f. omega (arith, f)) (λ f. omega (arith, f)) (λ f. omega (arith, f))
 ends [] (e ∷ entries) n =
     of_mark _ (mark (codes "lo")) (ap mark (append_assoc (log_line e) (flat_map log_line entries) (end_line n)) ∙ entry_mark e _)
-    (λ f. omega (arith, f)) (λ f. omega (arith, f)) (λ f. omega (arith, f)) (λ f. omega (arith, f)) (λ f. omega (arith, f)) (λ f. omega (arith, f))
+    (λ f. omega (arith, f)) (λ f. omega (arith, f)) (λ f. omega (arith, f)) (λ f. omega (arith, f)) (λ f. omega (arith, f)) (λ f. omega (arith, f)) (λ f. omega (arith, f))
 ends (c ∷ clients) entries n =
     let rest : List ℕ = flat_map log_line entries ++ end_line n in
     let whole = append_assoc (client_line 1 c) (client_lines 2 clients) rest in
@@ -296,6 +332,7 @@ ends (c ∷ clients) entries n =
       profile = λ f. omega (arith, at, f);
       twin = λ f. omega (arith, at, f);
       marks = λ f. omega (arith, at, f);
+      lasting = λ f. omega (arith, at, f);
     }
 
 pub closing_ends : (w : World) (n : ℕ) → IsClosing (closing_lines w n)
@@ -318,11 +355,16 @@ pub no_marks : {Turn Told : Type 0} (by : Telling Turn Told) (turns : List Turn)
 no_marks by [] r h = h
 no_marks by (m ∷ earlier) r h = let at = events_lead by m earlier r in λ f. omega (arith, at, f)
 
+pub no_lasting : {Turn Told : Type 0} (by : Telling Turn Told) (turns : List Turn) (r : List ℕ) → NoLasting r → NoLasting (lines_of by turns ++ r)
+no_lasting by [] r h = h
+no_lasting by (m ∷ earlier) r h = let at = events_lead by m earlier r in λ f. omega (arith, at, f)
+
 -- the whole header
 header_then : (schedule : Schedule) (r : List ℕ)
     → header schedule ++ r ≡ line (codes "ftreplay") (codes "1" ∷ []) ++ (line (codes "service") (service_text schedule.service ∷ [])
     ++ (line (codes "server") (address_text schedule.server.ip schedule.server.port ∷ [])
-    ++ (profile_line schedule.profile ++ (twin_line schedule.twin ++ (marks_line schedule.marks ++ (schedule_lines 1 schedule.clients ++ r))))))
+    ++ (profile_line schedule.profile ++ (twin_line schedule.twin ++ (marks_line schedule.marks
+    ++ (lasting_line schedule.lasting ++ (schedule_lines 1 schedule.clients ++ r)))))))
 unfolding header
 header_then schedule r =
     let first : List ℕ = line (codes "ftreplay") (codes "1" ∷ []) in
@@ -331,12 +373,14 @@ header_then schedule r =
     let profile : List ℕ = profile_line schedule.profile in
     let twin : List ℕ = twin_line schedule.twin in
     let marks : List ℕ = marks_line schedule.marks in
+    let lasting : List ℕ = lasting_line schedule.lasting in
     let clients : List ℕ = schedule_lines 1 schedule.clients in
-    append_assoc first (service ++ (server ++ (profile ++ (twin ++ (marks ++ clients))))) r
-    ∙ ap (λ t. first ++ t) (append_assoc service (server ++ (profile ++ (twin ++ (marks ++ clients)))) r
-    ∙ ap (λ t. service ++ t) (append_assoc server (profile ++ (twin ++ (marks ++ clients))) r
-    ∙ ap (λ t. server ++ t) (append_assoc profile (twin ++ (marks ++ clients)) r
-    ∙ ap (λ t. profile ++ t) (append_assoc twin (marks ++ clients) r ∙ ap (λ t. twin ++ t) (append_assoc marks clients r)))))
+    append_assoc first (service ++ (server ++ (profile ++ (twin ++ (marks ++ (lasting ++ clients)))))) r
+    ∙ ap (λ t. first ++ t) (append_assoc service (server ++ (profile ++ (twin ++ (marks ++ (lasting ++ clients))))) r
+    ∙ ap (λ t. service ++ t) (append_assoc server (profile ++ (twin ++ (marks ++ (lasting ++ clients)))) r
+    ∙ ap (λ t. server ++ t) (append_assoc profile (twin ++ (marks ++ (lasting ++ clients))) r
+    ∙ ap (λ t. profile ++ t) (append_assoc twin (marks ++ (lasting ++ clients)) r
+    ∙ ap (λ t. twin ++ t) (append_assoc marks (lasting ++ clients) r ∙ ap (λ t. marks ++ t) (append_assoc lasting clients r))))))
 
 -- the same was asked, but for the events
 pub record IsSameHeader (schedule other : Schedule) : Type 0 where
@@ -345,11 +389,12 @@ pub record IsSameHeader (schedule other : Schedule) : Type 0 where
   pub profile : schedule.profile ≡ other.profile
   pub twin : schedule.twin ≡ other.twin
   pub marks : schedule.marks ≡ other.marks
+  pub lasting : schedule.lasting ≡ other.lasting
   pub clients : schedule.clients ≡ other.clients
 
 pub header_cut : (schedule other : Schedule) (r s : List ℕ) → FitsSchedule schedule → FitsSchedule other → NoClient r → NoClient s
-    → NoProfile r → NoProfile s → NoTwin r → NoTwin s → NoMarks r → NoMarks s → header schedule ++ r ≡ header other ++ s → IsSameHeader schedule other × (r ≡ s)
-header_cut schedule other r s p q nr ns pr ps tr ts mr ms e =
+    → NoProfile r → NoProfile s → NoTwin r → NoTwin s → NoMarks r → NoMarks s → NoLasting r → NoLasting s → header schedule ++ r ≡ header other ++ s → IsSameHeader schedule other × (r ≡ s)
+header_cut schedule other r s p q nr ns pr ps tr ts mr ms lr ls e =
     let all = append_cancel_left (line (codes "ftreplay") (codes "1" ∷ [])) _ _ (sym (header_then schedule r) ∙ (e ∙ header_then other s)) in
     let service = line_cut (codes "service") (service_text schedule.service ∷ []) (service_text other.service ∷ []) _ _
     (word_service schedule.service, tt) (word_service other.service, tt) all in
@@ -360,21 +405,27 @@ header_cut schedule other r s p q nr ns pr ps tr ts mr ms e =
     let address = address_same schedule.server.ip other.server.ip schedule.server.port other.server.port p.ip q.ip p.port q.port addresses in
     let one : List ℕ = schedule_lines 1 schedule.clients ++ r in
     let two : List ℕ = schedule_lines 1 other.clients ++ s in
-    let three : List ℕ = marks_line schedule.marks ++ one in
-    let four : List ℕ = marks_line other.marks ++ two in
-    let profile = profile_cut schedule.profile other.profile (twin_line schedule.twin ++ three) (twin_line other.twin ++ four)
-    (twin_no_profile schedule.twin three (marks_no_profile schedule.marks one (clients_no_profile 1 schedule.clients r pr)))
-    (twin_no_profile other.twin four (marks_no_profile other.marks two (clients_no_profile 1 other.clients s ps))) server.1 in
-    let twin = twin_cut schedule.twin other.twin three four
-    (marks_no_twin schedule.marks one (clients_no_twin 1 schedule.clients r tr)) (marks_no_twin other.marks two (clients_no_twin 1 other.clients s ts)) profile.1 in
-    let marks = marks_cut schedule.marks other.marks one two p.marks q.marks (clients_no_marks 1 schedule.clients r mr) (clients_no_marks 1 other.clients s ms) twin.1 in
-    let clients = clients_cut 1 schedule.clients other.clients r s p.clients q.clients (omega (arith, p.count)) (omega (arith, q.count)) nr ns marks.1 in (
+    let three : List ℕ = lasting_line schedule.lasting ++ one in
+    let four : List ℕ = lasting_line other.lasting ++ two in
+    let five : List ℕ = marks_line schedule.marks ++ three in
+    let six : List ℕ = marks_line other.marks ++ four in
+    let profile = profile_cut schedule.profile other.profile (twin_line schedule.twin ++ five) (twin_line other.twin ++ six)
+    (twin_no_profile schedule.twin five (marks_no_profile schedule.marks three (lasting_no_profile schedule.lasting one (clients_no_profile 1 schedule.clients r pr))))
+    (twin_no_profile other.twin six (marks_no_profile other.marks four (lasting_no_profile other.lasting two (clients_no_profile 1 other.clients s ps)))) server.1 in
+    let twin = twin_cut schedule.twin other.twin five six
+    (marks_no_twin schedule.marks three (lasting_no_twin schedule.lasting one (clients_no_twin 1 schedule.clients r tr)))
+    (marks_no_twin other.marks four (lasting_no_twin other.lasting two (clients_no_twin 1 other.clients s ts))) profile.1 in
+    let marks = marks_cut schedule.marks other.marks three four p.marks q.marks (lasting_no_marks schedule.lasting one (clients_no_marks 1 schedule.clients r mr))
+    (lasting_no_marks other.lasting two (clients_no_marks 1 other.clients s ms)) twin.1 in
+    let lasting = lasting_cut schedule.lasting other.lasting one two p.lasting q.lasting (clients_no_lasting 1 schedule.clients r lr) (clients_no_lasting 1 other.clients s ls) marks.1 in
+    let clients = clients_cut 1 schedule.clients other.clients r s p.clients q.clients (omega (arith, p.count)) (omega (arith, q.count)) nr ns lasting.1 in (
       record {
         service = service_same schedule.service other.service (ap verb service.0);
         server = λ i. record { ip = address.0 i; port = address.1 i };
         profile = profile.0;
         twin = twin.0;
         marks = marks.0;
+        lasting = lasting.0;
         clients = clients.0;
       },
       clients.1,

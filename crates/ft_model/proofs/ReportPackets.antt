@@ -22,7 +22,7 @@ use Rattle.ft_model.specs.Report.{segment_words, name_of, numbers_words, kept_wo
 use Rattle.ft_model.specs.Readable.{FitsU64, FitsWay, FitsKey, IsOf, IsReadable}
 use Rattle.ft_model.proofs.ReportRanges.{FitsSegment, FitsNumbers, FitsKept, FitsEntry, FitsPart, FitsBody, segment_fits, message_fits}
 use Rattle.ft_model.proofs.ReportWords.{rest_same, word_decimal}
-use Rattle.ft_model.proofs.ReportParts.{hex_same, list_same, address_same, flags_same, mss_same, bit_same, way_same}
+use Rattle.ft_model.proofs.ReportParts.{hex_same, list_same, address_same, flags_same, mss_same, bit_same, ending_same, way_same}
 use Rattle.ft_model.proofs.ReportContent.{words_content, word_way}
 use Rattle.ft_io.proofs.Booleans.{left_true, right_true}
 
@@ -65,9 +65,9 @@ part_same m n p q e =
     let a : m.key ≡ n.key = key_same m.key n.key p.0 q.0 (cc) in
     let b : m.offset ≡ n.offset = decimal_injective _ _ p.1 q.1 (cc) in
     let c : m.acked ≡ n.acked = decimal_injective _ _ p.2 q.2 (cc) in
-    let d : m.fin ≡ n.fin = bit_same m.fin n.fin (cc) in
+    let d : (m.fin ≡ n.fin) × (m.more ≡ n.more) = ending_same m.fin m.more n.fin n.more (cc) in
     let f : m.bytes ≡ n.bytes = hex_same m.bytes n.bytes p.3 q.3 (cc) in
-    λ i. record { key = a i; offset = b i; acked = c i; fin = d i; bytes = f i }
+    λ i. record { key = a i; offset = b i; acked = c i; fin = d.0 i; more = d.1 i; bytes = f i }
 
 -- a number that differs from name to name
 abbrev digest : List ℕ → ℕ
@@ -170,11 +170,11 @@ pub content_same : (server : Addr) (clients : List Client) (p q : Packet) → Is
     → way_of clients p ≡ way_of clients q → content_words p ≡ content_words q → p ≡ q
 unfolding content_words client_number
 content_same server clients (To_server s) (To_server t) p q w e =
-    ap To_server (segment_same s t (segment_fits s p.1) (segment_fits t q.1) (number_same clients _ _ p.0.0.0 (ap client_number w)) (of_server server _ _ p.0.1 q.0.1) e)
+    ap To_server (segment_same s t (segment_fits s p.2) (segment_fits t q.2) (number_same clients _ _ p.0.0.0 (ap client_number w)) (of_server server _ _ p.0.1 q.0.1) e)
 content_same server clients (To_client s) (To_client t) p q w e =
-    ap To_client (segment_same s t (segment_fits s p.1) (segment_fits t q.1) (of_server server _ _ p.0.1 q.0.1) (number_same clients _ _ p.0.0.0 (ap client_number w)) e)
-content_same server clients (To_logger m) (To_logger n) p q w e = let f = message_fits m p.1 in let g = message_fits n q.1 in ap To_logger (message_same m n f.0 g.0 f.1 g.1 e)
-content_same server clients (From_logger m) (From_logger n) p q w e = let f = message_fits m p.1 in let g = message_fits n q.1 in ap From_logger (message_same m n f.0 g.0 f.1 g.1 e)
+    ap To_client (segment_same s t (segment_fits s p.2) (segment_fits t q.2) (of_server server _ _ p.0.1 q.0.1) (number_same clients _ _ p.0.0.0 (ap client_number w)) e)
+content_same server clients (To_logger m) (To_logger n) p q w e = let f = message_fits p.1 m p.2 in let g = message_fits q.1 n q.2 in ap To_logger (message_same m n f.0 g.0 f.1 g.1 e)
+content_same server clients (From_logger m) (From_logger n) p q w e = let f = message_fits p.1 m p.2 in let g = message_fits q.1 n q.2 in ap From_logger (message_same m n f.0 g.0 f.1 g.1 e)
 content_same server clients p q hp hq w e = cc
 
 pub way_fits : (server : Addr) (clients : List Client) (p : Packet) → IsReadable server clients p → FitsWay (way_of clients p)

@@ -8,7 +8,7 @@ use Rattle.hex.specs.Hex.{IsBytes, decode_of, encode_lower, encode_with}
 use Rattle.hex.proofs.HexLemmas.{decode_of-encode_lower}
 use Rattle.ft_model.specs.declared.way.Way.{Way}
 use Rattle.ft_model.specs.declared.way.Way.TheVariants.{ClientToServer, ServerToClient, ServerToLogger, LoggerToServer, HeadToTail, TailToHead}
-use Rattle.ft_model.specs.Texts.{or_dash, hex_text, list_text, behind_commas, address_text, flag_letters, flags_text, mss_text, bit_text, way_text}
+use Rattle.ft_model.specs.Texts.{or_dash, hex_text, list_text, behind_commas, address_text, flag_letters, flags_text, mss_text, bit_text, ending_text, way_text}
 use Rattle.ft_model.specs.Readable.{FitsU64, FitsOption, FitsWay}
 use Rattle.ft_model.proofs.ReportWords.{Starts, cut, IsDigit, digits_decimal}
 
@@ -99,6 +99,25 @@ bit_same true true e = refl
 bit_same true false e = absurd (let f : ◌≡◌ {A = ℕ} 49 48 = cc in omega (arith, f))
 bit_same false true e = absurd (let f : ◌≡◌ {A = ℕ} 48 49 = cc in omega (arith, f))
 bit_same false false e = refl
+
+pub ending_same : (b m c n : Bool) → ending_text b m ≡ ending_text c n → (b ≡ c) × (m ≡ n)
+unfolding ending_text bit_text
+ending_same false false false false e = (refl, refl)
+ending_same true false true false e = (refl, refl)
+ending_same false true false true e = (refl, refl)
+ending_same true true true true e = (refl, refl)
+ending_same false false true false e = absurd (let f : ◌≡◌ {A = ℕ} 48 49 = cc in omega (arith, f))
+ending_same false false false true e = absurd (let f : ◌≡◌ {A = ℕ} 48 50 = cc in omega (arith, f))
+ending_same false false true true e = absurd (let f : ◌≡◌ {A = ℕ} 48 51 = cc in omega (arith, f))
+ending_same true false false false e = absurd (let f : ◌≡◌ {A = ℕ} 49 48 = cc in omega (arith, f))
+ending_same true false false true e = absurd (let f : ◌≡◌ {A = ℕ} 49 50 = cc in omega (arith, f))
+ending_same true false true true e = absurd (let f : ◌≡◌ {A = ℕ} 49 51 = cc in omega (arith, f))
+ending_same false true false false e = absurd (let f : ◌≡◌ {A = ℕ} 50 48 = cc in omega (arith, f))
+ending_same false true true false e = absurd (let f : ◌≡◌ {A = ℕ} 50 49 = cc in omega (arith, f))
+ending_same false true true true e = absurd (let f : ◌≡◌ {A = ℕ} 50 51 = cc in omega (arith, f))
+ending_same true true false false e = absurd (let f : ◌≡◌ {A = ℕ} 51 48 = cc in omega (arith, f))
+ending_same true true true false e = absurd (let f : ◌≡◌ {A = ℕ} 51 49 = cc in omega (arith, f))
+ending_same true true false true e = absurd (let f : ◌≡◌ {A = ℕ} 51 50 = cc in omega (arith, f))
 
 -- a number before a dot, and one before a colon
 dot_cut : (m n : ℕ) (r s : List ℕ) → m < 2 ^ 64 → n < 2 ^ 64 → decimal m ++ 46 ∷ r ≡ decimal n ++ 46 ∷ s → (m ≡ n) × (r ≡ s)

@@ -16,7 +16,7 @@ use Rattle.ft_model.specs.Readable.{FitsEvent, FitsSchedule, IsReadableTurn}
 use Rattle.ft_model.proofs.OneTrace.{traces_once}
 use Rattle.ft_model.proofs.ReportLines.{packets_cut}
 use Rattle.ft_model.proofs.ReportTurns.{Telling, sent_in, lines_of, HasFront, TellsPackets, turns_same}
-use Rattle.ft_model.proofs.ReportHeader.{IsClosing, closing_ends, no_client, no_profile, no_twin, no_marks, IsSameHeader, header_cut}
+use Rattle.ft_model.proofs.ReportHeader.{IsClosing, closing_ends, no_client, no_profile, no_twin, no_marks, no_lasting, IsSameHeader, header_cut}
 use Rattle.ft_model.proofs.Lists.{all_front}
 
 -- the clients of a schedule
@@ -27,7 +27,7 @@ same_clients : (schedule other : Schedule) → IsSameHeader schedule other → i
 same_clients schedule other h = ap₂ clients_of h.server h.clients
 
 pub same_schedule : (schedule other : Schedule) → IsSameHeader schedule other → schedule.events ≡ other.events → schedule ≡ other
-same_schedule schedule other h e = λ i. record { service = h.service i; server = h.server i; profile = h.profile i; twin = h.twin i; marks = h.marks i; clients = h.clients i; events = e i }
+same_schedule schedule other h e = λ i. record { service = h.service i; server = h.server i; profile = h.profile i; twin = h.twin i; marks = h.marks i; lasting = h.lasting i; clients = h.clients i; events = e i }
 
 -- the report of some turns that end in a world
 abbrev pub text_of : {Turn Told : Type 0} → (List Client → Telling Turn Told) → Schedule → List Turn → World → List ℕ
@@ -47,7 +47,7 @@ told {Turn} {Told} by schedule other P fits too front tells turns also w x p q e
     let two : IsClosing s = closing_ends x (length also) in
     let head = header_cut schedule other (lines_of one_by turns ++ r) (lines_of two_by also ++ s) fits too
     (no_client one_by turns r one.client) (no_client two_by also s two.client) (no_profile one_by turns r one.profile) (no_profile two_by also s two.profile) (no_twin one_by turns r one.twin) (no_twin two_by also s two.twin)
-    (no_marks one_by turns r one.marks) (no_marks two_by also s two.marks) e in
+    (no_marks one_by turns r one.marks) (no_marks two_by also s two.marks) (no_lasting one_by turns r one.lasting) (no_lasting two_by also s two.lasting) e in
     let same : IsSameHeader schedule other = head.0 in
     let lines : lines_of one_by turns ++ r ≡ lines_of one_by also ++ s = head.1 ∙ ap (λ l. lines_of (by l) also ++ s) (sym (same_clients schedule other same)) in
     (same, (turns_same one_by P front tells turns also r s p (q same) one.packet one.event two.packet two.event lines).0)
@@ -113,7 +113,7 @@ played : {State : Type 0} (service : ℕ → Machine State) (schedule : Schedule
 played service schedule trace fits l = (l.joint, l.allowed, subst (AllByRecursion FitsEvent) (sym l.events_are) fits.events)
 
 same_start : (schedule other : Schedule) → IsSameHeader schedule other → start_of schedule ≡ start_of other
-same_start schedule other h = λ i. start_of (record { service = h.service i; server = h.server i; profile = h.profile i; twin = h.twin i; marks = h.marks i; clients = h.clients i; events = schedule.events })
+same_start schedule other h = λ i. start_of (record { service = h.service i; server = h.server i; profile = h.profile i; twin = h.twin i; marks = h.marks i; lasting = h.lasting i; clients = h.clients i; events = schedule.events })
 
 pub legal_told : {State : Type 0} (service : ℕ → Machine State) (schedule other : Schedule) (trace also : List Moment) → FitsSchedule schedule → FitsSchedule other
     → Legal service schedule trace → Legal service other also → report schedule trace ≡ report other also → (schedule ≡ other) × (trace ≡ also)
@@ -150,10 +150,10 @@ readable_tells server clients = λ m n earlier older k r s p q same event nr ns 
 
 pub readable_told : (schedule other : Schedule) (trace also : List Moment) → FitsSchedule schedule → FitsSchedule other
     → AreReadable schedule trace → AreReadable other also → report schedule trace ≡ report other also
-    → (schedule.service ≡ other.service) × (schedule.server ≡ other.server) × (schedule.profile ≡ other.profile) × (schedule.twin ≡ other.twin) × (schedule.marks ≡ other.marks) × (schedule.clients ≡ other.clients) × (turns_of trace ≡ turns_of also)
+    → (schedule.service ≡ other.service) × (schedule.server ≡ other.server) × (schedule.profile ≡ other.profile) × (schedule.twin ≡ other.twin) × (schedule.marks ≡ other.marks) × (schedule.lasting ≡ other.lasting) × (schedule.clients ≡ other.clients) × (turns_of trace ≡ turns_of also)
 readable_told schedule other trace also fits too p q e =
     let texts = sym (report_is turn_of size_of (λ m. refl) schedule trace) ∙ (e ∙ report_is turn_of size_of (λ m. refl) other also) in
     let all = told (moments turn_of size_of (λ m. refl)) schedule other (AreReadable schedule) fits too (readable_front schedule.server (its_clients schedule))
     (readable_tells schedule.server (its_clients schedule)) trace also (world_after (start_of schedule) trace) (world_after (start_of other) also) p
     (λ h. subst₂ (λ server clients. AllByRecursion (IsReadableTurn server clients) also) (sym h.server) (sym (same_clients schedule other h)) q) texts in
-    (all.0.service, all.0.server, all.0.profile, all.0.twin, all.0.marks, all.0.clients, all.1)
+    (all.0.service, all.0.server, all.0.profile, all.0.twin, all.0.marks, all.0.lasting, all.0.clients, all.1)

@@ -273,7 +273,7 @@ knowing_after : {State : Type 0} (service : Machine State) → HasSmallOutputs s
     → JointInvariant service start (world_after start trace) × KnowsLog (world_after start trace)
 knowing_after service small start trace j =
     let s : IsStart start = start_is service start trace j in
-    holds_after service (λ w. JointInvariant service start w × KnowsLog w) start (λ x. (start_sound service start x, start_knowing start x))
+    holds_after service (λ w. JointInvariant service start w × KnowsLog w) start (λ x. (start_sound service small start x, start_knowing start x))
     (λ before sent after o h. (sound_goes_on service small start before sent after s o.0 h, knowing_goes_on service start before sent after o.0 o.1 h)) trace j
 
 none_logged : (log : Log) (key : Key) (o : Option Entry) → entry_of key log ≡ o → has_key key (entry_keys log) ≡ false → IfSome o (λ e. e.done ≡ true)

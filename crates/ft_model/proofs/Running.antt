@@ -21,7 +21,7 @@ use Rattle.ft_model.proofs.LiveTurns.{counts_within}
 
 -- the law of services on the size of one output
 abbrev pub HasSmallOutputs : {State : Type 0} → Machine State → Type 0
-HasSmallOutputs {State} service = (s : State) (chunk : List ℕ) → length chunk ≤ 2048 → length (service.after s chunk).output ≤ 2 ^ 20
+HasSmallOutputs {State} service = (length service.greeting ≤ 65535) × ((s : State) (chunk : List ℕ) → length chunk ≤ 2048 → length (service.after s chunk).output ≤ 2 ^ 20)
 
 pub record ReadsWithin {State : Type 0} (service : Machine State) (p : Point) : Type 0 where
   pub enough : sum p.lengths ≤ length p.taken
@@ -64,7 +64,7 @@ makes_within service p [] small f e s m =
 makes_within service p (n ∷ ns) small f e s m =
     let next = next_within service p n f e m.0 in
     let total = sum_append p.lengths n in
-    let more = one_more_read service p.taken p.lengths n small next.1 in
+    let more = one_more_read service p.taken p.lengths n small.1 next.1 in
     let rest = makes_within service (with_read n p) ns small f (omega (arith, next.0, total)) (omega (arith, more, next.2)) m.1 in (
       subst (λ l. sum l ≤ length p.taken) (append_assoc p.lengths (n ∷ []) ns) rest.0,
       subst (λ l. length (reference service p.taken l).output ≤ 2 ^ 24) (append_assoc p.lengths (n ∷ []) ns) rest.1,

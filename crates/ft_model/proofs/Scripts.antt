@@ -26,7 +26,7 @@ use Rattle.ft_model.specs.Network.{Packet}
 use Rattle.ft_model.specs.Connection.{LiveTurn}
 use Rattle.ft_model.proofs.Lists.{take_first, prefix_trans}
 use Rattle.ft_model.proofs.Stands.{nothing_first, drop_prefix, part_stands, goes_on_all, take_nothing}
-use Rattle.ft_model.proofs.Copied.{Grows, IsFurther, HasForm, all_copies}
+use Rattle.ft_model.proofs.Copied.{Grows, IsFurther, IsOf, HasForm, all_copies}
 use Rattle.ft_model.proofs.StreamAgreement.{Fronts, Says, int_same, comes_fits}
 use Rattle.ft_model.proofs.Running.{edge_grows}
 use Rattle.ft_io.proofs.Choices.{holds_if}
@@ -174,10 +174,14 @@ further_fits script isn before p part more h i = record {
 part_fits : (script : List ℕ) (isn : ℕ) (news : News) (before p : Point) (part : Part) → Grows before p → NewsFits script isn news → HasTaken script isn p → HasForm news before p part
     → PartFits script part
 part_fits script isn (Comes segment) before p part more f h form =
-    ⊎_elim (λ e. subst (PartFits script) (sym e) (copied_fits script isn segment p f h))
+    ⊎_elim (λ i. of_part (copied_part p segment) i (copied_fits script isn segment p f h))
     (λ rest. ⊎_elim
-    (λ e. subst (PartFits script) (sym e) (record { stands = nothing_first (drop (una_part p).offset script); fin = λ k. absurd (true≢false (sym k)) }))
+    (λ i. of_part (una_part p) i (record { stands = nothing_first (drop (una_part p).offset script); fin = λ k. absurd (true≢false (sym k)) }))
     (λ i. further_fits script isn before p part more h i) rest) form
+  where
+    of_part : (whole : Part) → IsOf whole part → PartFits script whole → PartFits script part
+    of_part whole i fits =
+        ⊎_elim (λ e. subst (PartFits script) (sym e) fits) (λ e. subst (PartFits script) (sym e) (record { stands = fits.stands; fin = λ k. absurd (true≢false (sym k)) })) i
 part_fits script isn (Logged kept) before p part more f h form = absurd form
 part_fits script isn Ticks before p part more f h form = absurd form
 part_fits script isn Begins before p part more f h form = absurd form

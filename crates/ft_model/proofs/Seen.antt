@@ -15,7 +15,7 @@ use Rattle.ft_model.specs.declared.phase.Phase.{Phase}
 use Rattle.ft_model.specs.declared.phase.Phase.TheVariants as phases
 use Rattle.ft_model.specs.Log.{Log, Entry, entry_of}
 use Rattle.ft_model.specs.Growth.{IsPrefix, LogGrows, logged_lengths}
-use Rattle.ft_model.proofs.Lists.{prefix_trans}
+use Rattle.ft_model.proofs.Lists.{prefix_trans, none_is_some}
 use Rattle.ft_model.proofs.Grows.{found_later, logged_lengths_grow}
 use Rattle.ft_model.proofs.Fetching.{full_front}
 use Rattle.ft_model.proofs.StreamAgreement.{Agrees, Fronts, Says, agrees_later, comes_fits}
@@ -43,6 +43,7 @@ pub record IsSeen {State : Type 0} (service : Machine State) (script : Key → L
   pub ended : is_ended c.phase ≡ true → ((logged_run service script log c.key).closed ≡ true) × (c.accepted ≡ (logged_run service script log c.key).output)
   pub holds : HoldsOf (logged_run service script log c.key) (length c.accepted) c.early
   pub sisn : is_open c.phase ≡ true → (e : Entry) × (entry_of c.key log ≡ Some e) × (e.sisn ≡ c.sisn)
+  pub unlogged : entry_of c.key log ≡ None → c.accepted ≡ []
 
 nothing_held : {State : Type 0} (run : Run State) (n : ℕ) → HoldsOf run n nothing_early
 nothing_held run n = record { held = tt; held_fin = tt }
@@ -65,6 +66,11 @@ holds_later before after n early g h =
       held_fin = fin_later before.output after.output before.closed after.closed early.fin g.closed h.held_fin;
     }
 
+-- what the log doesn't know later it doesn't know before
+unknown_before : (key : Key) (before after : Log) (o : Option Entry) → LogGrows before after → entry_of key after ≡ None → entry_of key before ≡ o → entry_of key before ≡ None
+unknown_before key before after None g none found = found
+unknown_before key before after (Some x) g none found = let later = found_later key before.entries after.entries x g.entries found in none_is_some later.0 (sym none ∙ later.1)
+
 pub seen_later : {State : Type 0} (service : Machine State) (script : Key → List ℕ) (before after : Log) (c : Client) → LogGrows before after → IsSeen service script before c → IsSeen service script after c
 seen_later service script before after c g s =
     let goes = reads_go_on service (script c.key) (logged_lengths c.key before) (logged_lengths c.key after) (logged_lengths_grow c.key before after g) in
@@ -73,6 +79,7 @@ seen_later service script before after c g s =
       ended = λ e. let x = s.ended e in let y = goes.closed x.0 in (y.1, x.1 ∙ sym y.0);
       holds = holds_later (logged_run service script before c.key) (logged_run service script after c.key) (length c.accepted) c.early goes s.holds;
       sisn = λ o. let x = s.sisn o in let later = found_later c.key before.entries after.entries x.0 g.entries x.1 in (later.0, later.1, later.2.sisn ∙ x.2);
+      unlogged = λ n. s.unlogged (unknown_before c.key before after (entry_of c.key before) g n refl);
     }
 
 -- what a segment says of the run
@@ -152,9 +159,9 @@ received_sees run sisn c segment s t =
     (λ o. holds_if (Sees run sisn) (is_open c.phase) (arrived c segment) c (λ x. arrived_seen run sisn c segment s x t) (λ x. s))
 
 pub moved_seen : {State : Type 0} (service : Machine State) (script : Key → List ℕ) (log : Log) (c : Client) (move : Move) (window : ℕ) → IsSeen service script log c → IsSeen service script log (moved c move window)
-moved_seen service script log c (Syn mss) window s = record { front = s.front; ended = λ e. absurd (true≢false (sym e)); holds = s.holds; sisn = λ o. absurd (true≢false (sym o)) }
-moved_seen service script log c Rst window s = record { front = s.front; ended = λ e. absurd (true≢false (sym e)); holds = s.holds; sisn = λ o. absurd (true≢false (sym o)) }
-moved_seen service script log c (Text from len) window s = record { front = s.front; ended = s.ended; holds = s.holds; sisn = s.sisn }
-moved_seen service script log c Fin window s = record { front = s.front; ended = s.ended; holds = s.holds; sisn = s.sisn }
-moved_seen service script log c Acknowledge window s = record { front = s.front; ended = s.ended; holds = s.holds; sisn = s.sisn }
-moved_seen service script log c (Refuse number) window s = record { front = s.front; ended = s.ended; holds = s.holds; sisn = s.sisn }
+moved_seen service script log c (Syn mss) window s = record { front = s.front; ended = λ e. absurd (true≢false (sym e)); holds = s.holds; sisn = λ o. absurd (true≢false (sym o)); unlogged = s.unlogged }
+moved_seen service script log c Rst window s = record { front = s.front; ended = λ e. absurd (true≢false (sym e)); holds = s.holds; sisn = λ o. absurd (true≢false (sym o)); unlogged = s.unlogged }
+moved_seen service script log c (Text from len) window s = record { front = s.front; ended = s.ended; holds = s.holds; sisn = s.sisn; unlogged = s.unlogged }
+moved_seen service script log c Fin window s = record { front = s.front; ended = s.ended; holds = s.holds; sisn = s.sisn; unlogged = s.unlogged }
+moved_seen service script log c Acknowledge window s = record { front = s.front; ended = s.ended; holds = s.holds; sisn = s.sisn; unlogged = s.unlogged }
+moved_seen service script log c (Refuse number) window s = record { front = s.front; ended = s.ended; holds = s.holds; sisn = s.sisn; unlogged = s.unlogged }

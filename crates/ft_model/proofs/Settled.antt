@@ -35,6 +35,7 @@ noted news p lengths sent timing interval rest end_ticks = record {
   syn_acked = syn_acked_after news p;
   timing = timing;
   delays = p.delays;
+  batches = p.batches;
   interval = interval;
   rest = rest;
   end_ticks = end_ticks;

@@ -17,7 +17,9 @@ use Rattle.ft_model.specs.Client.Move.{Fin as Fin_move}
 use Rattle.ft_model.specs.Log.{log_after, answer_to}
 use Rattle.ft_model.specs.Network.{Packet, packet_at, destination_of}
 use Rattle.ft_model.specs.Network.Packet.{To_server, To_client, To_logger, From_logger}
-use Rattle.ft_model.specs.Wire.{wire_of, HasWire}
+use Rattle.seq_arith.specs.declared.kinds.Grammar.{Grammar}
+use Rattle.tcp_rules.specs.Profile.{grammar_of}
+use Rattle.ft_model.specs.Wire.{wire_by, HasWireBy}
 use Rattle.ft_model.specs.Node.{Node, Input, booted}
 use Rattle.ft_model.specs.Node.Input.{Packet_comes, Message_comes, Tick_comes}
 use Rattle.ft_model.specs.Lawful.{hello}
@@ -37,7 +39,7 @@ use Rattle.ft_model.proofs.Running.{HasSmallOutputs}
 use Rattle.ft_model.proofs.Happened.{all_sent}
 use Rattle.ft_model.proofs.ClientKinds.{suits_either}
 use Rattle.ft_model.proofs.NeverStuck.{never_stuck}
-use Rattle.ft_model.proofs.FormedWorld.{wires_after}
+use Rattle.ft_model.proofs.FormedWorld.{wires_here}
 
 -- the event can happen, with scripted clients
 abbrev CanHappen : {State : Type 0} → Machine State → World → Event → Type 0
@@ -89,8 +91,8 @@ changed_can : {State : Type 0} (service : Machine State) → HasSmallOutputs ser
 changed_can service small start trace j (To_server segment) bytes = server_can service small start trace (segment_or_noise (segments.reading bytes)) j
 changed_can service small start trace j (To_client segment) bytes =
     let c = client_can (destination_of segment) (segments.reading bytes) (world_after start trace) in ([], c.0, c.1)
-changed_can service small start trace j (To_logger message) bytes = log_can (messages.reading bytes) (world_after start trace)
-changed_can service small start trace j (From_logger message) bytes = server_can service small start trace (message_or_noise (messages.reading bytes)) j
+changed_can service small start trace j (To_logger message) bytes = log_can (messages.reading_by (grammar_of (world_after start trace).profile) bytes) (world_after start trace)
+changed_can service small start trace j (From_logger message) bytes = server_can service small start trace (message_or_noise (messages.reading_by (grammar_of (world_after start trace).profile) bytes)) j
 
 -- what the tests of an event leave
 not_refused : (b : Bool) (why : EventWhy) → (if b then Some why else None) ≡ None → b ≡ false
@@ -114,9 +116,10 @@ pub named : (o : Option Packet) (why : EventWhy) → (if is_some o then None els
 named (Some packet) why e = (packet, refl)
 named None why e = none_is_some why (sym e)
 
-pub named_with_bit : (o : Option Packet) (bit : ℕ) → refusal_of_flip o bit ≡ None → (packet : Packet) × (o ≡ Some packet) × (bit < 8 * length (wire_of packet).bytes)
-named_with_bit (Some packet) bit e = (packet, refl, leb-false _ _ (not_refused (nat_le (8 * length (wire_of packet).bytes) bit) why.Bit e))
-named_with_bit None bit e = none_is_some why.Packet (sym e)
+pub named_with_bit : (grammar : Grammar) (o : Option Packet) (bit : ℕ) → refusal_of_flip grammar o bit ≡ None
+    → (packet : Packet) × (o ≡ Some packet) × (bit < 8 * length (wire_by grammar packet).bytes)
+named_with_bit grammar (Some packet) bit e = (packet, refl, leb-false _ _ (not_refused (nat_le (8 * length (wire_by grammar packet).bytes) bit) why.Bit e))
+named_with_bit grammar None bit e = none_is_some why.Packet (sym e)
 
 -- a scripted client makes a move that its state allows
 pub move_may : (client : Client) (event : Event) (move : Move) → move_of event ≡ Some move → refusal_of_move client move ≡ None → may_move client move ≡ true
@@ -214,11 +217,11 @@ event_can service small writes start trace j (Deliver number) h e =
     (d.0, d.1, (p.0, p.1, d.2), quiet_event w (Deliver number) d.0 d.1 refl)
 event_can service small writes start trace j (Flip number bit) h e =
     let w : World = world_after start trace in
-    let p = named_with_bit (packet_at w.packets number) bit e in
-    let d = changed_can service small start trace j p.0 (flipped bit (wire_of p.0).bytes) in (
+    let p = named_with_bit (grammar_of w.profile) (packet_at w.packets number) bit e in
+    let d = changed_can service small start trace j p.0 (flipped bit (wire_by (grammar_of w.profile) p.0).bytes) in (
       d.0,
       d.1,
-      (p.0, p.1, record { wire = all_sent HasWire w p.0 (wires_after service small writes start trace j) (number, p.1); within = p.2; comes = d.2 }),
+      (p.0, p.1, record { wire = all_sent (HasWireBy (grammar_of w.profile)) w p.0 (wires_here service small writes start trace j) (number, p.1); within = p.2; comes = d.2 }),
       quiet_event w (Flip number bit) d.0 d.1 refl,
     )
 event_can service small writes start trace j (Begin client window) h e = move_can (world_after start trace) (Begin client window) client (Syn None) h refl e

@@ -15,7 +15,7 @@ use Rattle.tcp_rules.specs.Profile.{Profile, plain}
 use Rattle.tcp_rules.specs.Timing.{with_sample, with_acknowledged, with_tick, without_trip, with_backoff, with_sent}
 use Rattle.ft_model.specs.Timer.{must_run, timing_noted, interval_after, rest_after}
 use Rattle.ft_model.specs.Sending.{syn_acked_after, acknowledged_after, edge_after, wl1_after, wl2_after, is_duplicate, is_third_duplicate, congestion_after, sent_at_once, sent_after, send_edge, timing_after, is_partial_ack}
-use Rattle.ft_model.specs.Copy.{copies, own_data, further_data, datas}
+use Rattle.ft_model.specs.Copy.{copies, batch, own_data, further_data, datas}
 use Rattle.ft_model.specs.ResetAndEnd.{reset_after, end_ticks_after, dones}
 use Rattle.ft_model.specs.PendingAck.{needs_ack, is_delayed, is_ack_due, is_ack_pending}
 use Rattle.ft_model.specs.Segments.{resent, new_texts, new_fin, full_segments, segments_of}
@@ -37,7 +37,7 @@ use Rattle.ft_model.proofs.LiveTurns.{turned, live_turn}
 
 -- names all laws that a run computes: `unfolding laws` opens them
 unfoldable pub laws : Type 0
-unfolding turned reference offset_of log_after answer_to accepts uses is_at_right_edge is_allowed_at_zero acknowledges_unsent counts came comes new_text with_text holds_fin with_fin continued with_fin_taken laid runs_behind held_with front_run behind_front_run holds_some taken_after early_after fin_after answered_after reads_answered_after next_length may_read reads_told must_run with_sample with_acknowledged with_tick without_trip with_backoff with_sent timing_noted timing_after interval_after rest_after syn_acked_after acknowledged_after edge_after wl1_after wl2_after is_duplicate is_third_duplicate is_partial_ack with_new_data is_third with_duplicate with_expiry congestion_after sent_at_once sent_after copies own_data further_data datas reset_after end_ticks_after dones needs_ack is_delayed is_ack_due is_ack_pending resent new_texts new_fin full_segments segments_of
+unfolding turned reference offset_of log_after answer_to accepts uses is_at_right_edge is_allowed_at_zero acknowledges_unsent counts came comes new_text with_text holds_fin with_fin continued with_fin_taken laid runs_behind held_with front_run behind_front_run holds_some taken_after early_after fin_after answered_after reads_answered_after next_length may_read reads_told must_run with_sample with_acknowledged with_tick without_trip with_backoff with_sent timing_noted timing_after interval_after rest_after syn_acked_after acknowledged_after edge_after wl1_after wl2_after is_duplicate is_third_duplicate is_partial_ack with_new_data is_third with_duplicate with_expiry congestion_after sent_at_once sent_after copies batch own_data further_data datas reset_after end_ticks_after dones needs_ack is_delayed is_ack_due is_ack_pending resent new_texts new_fin full_segments segments_of
 laws = Unit {0}
 
 -- a server with one place: what it does there is the whole turn

@@ -16,7 +16,7 @@ use Rattle.ft_model.specs.Lawful.{Continues, StageTurn, NodeTurn, LawfulTurn, fe
 use Rattle.ft_model.specs.World.{World, Moment, MayCome, Joint, IsStart, world_after}
 use Rattle.ft_model.proofs.Lists.{all_weaker, all_append, none_is_some, some_is}
 use Rattle.ft_model.proofs.LogAnswers.{all_answers}
-use Rattle.ft_model.proofs.Fetching.{on_some, chosen_some}
+use Rattle.ft_model.proofs.Fetching.{on_some, chosen_some, told_last}
 use Rattle.ft_model.proofs.Happened.{Happened, IsBrought, all_sent, answers, holds_after}
 use Rattle.ft_model.proofs.Happened.Happened.{log_heard, client_heard, client_moved, server_turned, server_booted, server_down}
 use Rattle.ft_model.proofs.StageTurns.{Asks, Gets, stage_went}
@@ -53,7 +53,7 @@ told_names boot (CutsMsg key first) log answer t =
     subst (NamesAtMost boot) (chosen_some (nat_lt first (length o.0.lengths)) (LensMsg o.0.key first (take 512 (drop first o.0.lengths))) answer o.2) tt
 told_names boot (OpenMsg n) log answer t = opened_names boot n.key (entry_of n.key log) answer t
 told_names boot (DataMsg part) log answer t =
-    let o = on_some (entry_of part.key log) (λ e. Some (StableMsg (kept_of e))) answer t in subst (NamesAtMost boot) (some_is _ _ o.2) tt
+    let o = on_some (entry_of part.key log) (λ e. Some (StableMsg (kept_of e))) answer (told_last part.more _ answer t) in subst (NamesAtMost boot) (some_is _ _ o.2) tt
 told_names boot (ReadMsg key index n) log answer t =
     let o = on_some (entry_of key log) (λ e. Some (ReadsMsg (kept_of e))) answer t in subst (NamesAtMost boot) (some_is _ _ o.2) tt
 told_names boot (DoneMsg key) log answer t =

@@ -1,16 +1,19 @@
 -- What is well formed has a wire: each number is in its field's range, and the whole has one of its kind's lengths.
-use Rattle.std.proofs.Common.{◌≡◌, ℕ, ◌+◌, ◌*◌, ◌<◌, ◌≤◌, ◌^◌, ◌%◌, Bool, true, false, ◌&&◌, nat_le, ◌==◌, refl, sym, subst, List, [], ◌∷◌, length, arith, eq-eqb}
+use Rattle.std.proofs.Common.{◌≡◌, ℕ, ◌+◌, ◌*◌, ◌<◌, ◌≤◌, ◌^◌, ◌%◌, Bool, true, false, ◌&&◌, nat_le, ◌==◌, refl, sym, subst, true≢false, if◌then◌else◌, List, [], ◌∷◌, length, arith, eq-eqb}
 use Rattle.std.specs.List.{list_all}
 use Rattle.std.proofs.lemmas.Bool.{and_from, le-leb, lt-ltb}
 use Rattle.seq_arith.specs.Bytes.{two}
 use Rattle.seq_arith.specs.Message.{Body, Message}
 use Rattle.seq_arith.specs.Message.Body.{HelloMsg, SummaryMsg, ListMsg, EntryMsg, BytesMsg, PartMsg, CutsMsg, LensMsg, OpenMsg, OpenedMsg, DataMsg, StableMsg, ReadMsg, ReadsMsg, DoneMsg, EndedMsg, StaleMsg, FullMsg}
 use Rattle.seq_arith.specs.MessageGrammar as messages
-use Rattle.seq_arith.specs.MessageGrammar.{flag, is_sound, has_length, lens_bytes, kind_of, behind_of, numbers_of, lens_of, fields_of, message_length, AllFit}
+use Rattle.seq_arith.specs.declared.kinds.Grammar.{Grammar}
+use Rattle.seq_arith.specs.declared.kinds.Grammar.TheVariants as grammars
+use Rattle.tcp_rules.specs.Profile.{grammar_of}
+use Rattle.seq_arith.specs.MessageGrammar.{flag, ending, most_ending, is_sound_by, has_length, lens_bytes, kind_of, behind_of, numbers_of, lens_of, fields_of, message_length, AllFit}
 use Rattle.server_trait.specs.Service.{AreBytes}
 use Rattle.ft_model.specs.Network.{Packet}
 use Rattle.ft_model.specs.Network.Packet.{To_server, To_client, To_logger, From_logger}
-use Rattle.ft_model.specs.Wire.{CanBeTold, HasWire}
+use Rattle.ft_model.specs.Wire.{CanBeToldBy, HasWireBy}
 use Rattle.ft_model.specs.Readable.{FitsAddr}
 use Rattle.ft_model.specs.World.{World}
 use Rattle.ft_model.proofs.Formed.{AreLengths, AckWithin, BodyFormed, MessageFormed, PacketFormed}
@@ -19,6 +22,21 @@ use Rattle.ft_model.proofs.Formed.{AreLengths, AckWithin, BodyFormed, MessageFor
 pub flag_low : (b : Bool) → flag b ≤ 1
 flag_low true = omega arith
 flag_low false = omega arith
+
+-- an ending is in the range of the profile's grammar
+ending_within : (batches fin more : Bool) → (more ≡ true → (fin ≡ false) × (batches ≡ true))
+    → flag fin + (if more then 2 else 0) ≤ most_ending (if batches then grammars.Wide else grammars.Plain)
+ending_within true false false h = omega arith
+ending_within true true false h = omega arith
+ending_within true false true h = omega arith
+ending_within true true true h = absurd (true≢false (h refl).0)
+ending_within false false false h = omega arith
+ending_within false true false h = omega arith
+ending_within false fin true h = absurd (true≢false (sym (h refl).1))
+
+most_low : (grammar : Grammar) → most_ending grammar ≤ 2
+most_low grammars.Plain = omega arith
+most_low grammars.Wide = omega arith
 
 pub bytes_of_lens : (lens : List ℕ) → AreBytes (lens_bytes lens)
 unfolding two
@@ -49,7 +67,8 @@ numbers_fit start boot (LensMsg key first lens) h k = (h.0.0.0, (h.0.0.1, (omega
 numbers_fit start boot (OpenMsg n) h k = (h.0.0.0, (h.0.0.1, (h.1, (h.2, (omega (arith, h.3), tt)))))
 numbers_fit start boot (OpenedMsg n) h k = (h.0.0.0, (h.0.0.1, (h.1, (h.2, (omega (arith, h.3), tt)))))
 numbers_fit start boot (DataMsg part) h k =
-    let fin = flag_low part.fin in (h.0.0.0, (h.0.0.1, (omega (arith, h.1), (omega (arith, k), (omega (arith, fin), tt)))))
+    let within = ending_within start.profile.batches part.fin part.more h.4 in
+    let low = most_low (grammar_of start.profile) in (h.0.0.0, (h.0.0.1, (omega (arith, h.1), (omega (arith, k), (omega (arith, within, low), tt)))))
 numbers_fit start boot (StableMsg n) h k = let fin = flag_low n.fin in (h.0.0.0, (h.0.0.1, (omega (arith, h.1), (omega (arith, fin), (omega (arith, h.2), tt)))))
 numbers_fit start boot (ReadMsg key index n) h k = (h.0.0.0, (h.0.0.1, (omega (arith, h.1), (omega (arith, h.2), tt))))
 numbers_fit start boot (ReadsMsg n) h k = let fin = flag_low n.fin in (h.0.0.0, (h.0.0.1, (omega (arith, h.1), (omega (arith, fin), (omega (arith, h.2), tt)))))
@@ -63,7 +82,7 @@ is_low m n h = le-leb m n h
 
 -- .. and are in their ranges
 ranges_hold : (start : World) (boot : ℕ) (body : Body) → BodyFormed start boot body → AckWithin body
-    → messages.all_in_range boot (length (behind_of body)) (fields_of (kind_of body)) (numbers_of body) ≡ true
+    → messages.all_in_range_by (grammar_of start.profile) boot (length (behind_of body)) (fields_of (kind_of body)) (numbers_of body) ≡ true
 ranges_hold start boot HelloMsg h k = refl
 ranges_hold start boot (SummaryMsg count) h k = and_from _ _ (is_low count 64 h) refl
 ranges_hold start boot (ListMsg index) h k = and_from _ _ (is_low index 63 h) refl
@@ -78,7 +97,8 @@ ranges_hold start boot (LensMsg key first lens) h k = and_from _ _ (is_low first
 ranges_hold start boot (OpenMsg n) h k = and_from _ _ (and_from _ _ (is_low 64 n.mss h.3.0) (is_low n.mss 1460 h.3.1)) refl
 ranges_hold start boot (OpenedMsg n) h k = and_from _ _ (and_from _ _ (is_low 64 n.mss h.3.0) (is_low n.mss 1460 h.3.1)) refl
 ranges_hold start boot (DataMsg part) h k =
-    and_from _ _ (is_low (part.offset + length part.bytes) (2 ^ 24) h.1) (and_from _ _ (is_low part.acked (2 ^ 24 + 1) k) (and_from _ _ (is_low (flag part.fin) 1 (flag_low part.fin)) refl))
+    and_from _ _ (is_low (part.offset + length part.bytes) (2 ^ 24) h.1) (and_from _ _ (is_low part.acked (2 ^ 24 + 1) k)
+    (and_from _ _ (is_low (ending part) (most_ending (grammar_of start.profile)) (ending_within start.profile.batches part.fin part.more h.4)) refl))
 ranges_hold start boot (StableMsg n) h k =
     and_from _ _ (is_low n.length (2 ^ 24) h.1) (and_from _ _ (is_low (flag n.fin) 1 (flag_low n.fin)) (and_from _ _ (is_low n.reads (2 ^ 24 + 1) h.2) refl))
 ranges_hold start boot (ReadMsg key index n) h k = and_from _ _ (is_low index (2 ^ 24 + 1) h.1) (and_from _ _ (is_low n 2048 h.2) refl)
@@ -94,10 +114,10 @@ lens_low start boot (LensMsg key first lens) h = lengths_low lens h.2
 lens_low start boot _ h = refl
 
 body_sound : (start : World) (boot : ℕ) (body : Body) → 0 < boot → BodyFormed start boot body → AckWithin body
-    → is_sound (kind_of body) boot (length (behind_of body)) (numbers_of body) (lens_of body) ≡ true
-unfolding is_sound
+    → is_sound_by (grammar_of start.profile) (kind_of body) boot (length (behind_of body)) (numbers_of body) (lens_of body) ≡ true
+unfolding is_sound_by
 body_sound start boot body up h k =
-    and_from (nat_le 1 boot && messages.all_in_range boot (length (behind_of body)) (fields_of (kind_of body)) (numbers_of body)) _
+    and_from (nat_le 1 boot && messages.all_in_range_by (grammar_of start.profile) boot (length (behind_of body)) (fields_of (kind_of body)) (numbers_of body)) _
     (and_from (nat_le 1 boot) _ (le-leb 1 boot up) (ranges_hold start boot body h k)) (lens_low start boot body h)
 
 -- and so many bytes come after the fields
@@ -138,7 +158,7 @@ bytes_behind start boot (LensMsg key first lens) h = bytes_of_lens lens
 bytes_behind start boot (DataMsg part) h = h.2
 bytes_behind start boot _ h = tt
 
-message_wire : (start : World) (m : Message) → MessageFormed start m → AckWithin m.body → CanBeTold m
+message_wire : (start : World) (m : Message) → MessageFormed start m → AckWithin m.body → CanBeToldBy (grammar_of start.profile) m
 message_wire start m h k = (
   record {
     boot = h.0.1;
@@ -154,7 +174,7 @@ abbrev pub PacketAckWithin : Packet → Type 0
 PacketAckWithin (To_logger m) = AckWithin m.body
 PacketAckWithin _ = Unit {0}
 
-pub packet_wire : (start : World) → FitsAddr start.server → (packet : Packet) → PacketFormed start packet → PacketAckWithin packet → HasWire packet
+pub packet_wire : (start : World) → FitsAddr start.server → (packet : Packet) → PacketFormed start packet → PacketAckWithin packet → HasWireBy (grammar_of start.profile) packet
 packet_wire start a (To_server s) h k = (
   record {
     src = h.0.0.0;

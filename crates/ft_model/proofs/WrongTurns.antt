@@ -1,5 +1,5 @@
 -- A wrong turn is refused: the lawful one, which is the only one, sends something else.
-use Rattle.std.proofs.Common.{◌≡◌, ℕ, Bool, true, false, ◌==◌, ◌&&◌, ◌+◌, ◌*◌, refl, sym, ap, ◌∙◌, true≢false, subst, Some, List, [], ◌∷◌, length}
+use Rattle.std.proofs.Common.{◌≡◌, ℕ, Bool, true, false, ◌==◌, ◌&&◌, ◌+◌, ◌*◌, if◌then◌else◌, refl, sym, ap, ◌∙◌, true≢false, subst, Some, List, [], ◌∷◌, length}
 use Rattle.seq_arith.specs.Packet.{Segment}
 use Rattle.server_trait.specs.Service.{Machine}
 use Rattle.ft_model.specs.Network.{Packet, packet_at}
@@ -31,12 +31,12 @@ use Rattle.ft_model.proofs.SegmentWhileRestarting.{restart_3}
 use Rattle.ft_model.proofs.RestartFromHello.{serves_again}
 use Rattle.ft_model.proofs.RestartInTurns.{turn_2, turn_3}
 
--- what tells packets apart: their count, and the kind, flags, acknowledgement, length, index or place of each
+-- what tells packets apart: their count, and the kind, flags, acknowledgement, length, index, place or ending of each
 abbrev pub mark_of_body : Body → ℕ
 mark_of_body (ReadMsg key index n) = index
 mark_of_body (BytesMsg key offset) = 101 + 10 * offset
 mark_of_body (CutsMsg key first) = 102 + 10 * first
-mark_of_body (DataMsg part) = 103 + 10 * part.offset
+mark_of_body (DataMsg part) = 103 + 10 * part.offset + (if part.more then 5 else 0)
 mark_of_body _ = 100
 
 abbrev pub mark : Packet → ℕ

@@ -1,6 +1,7 @@
 -- The client: what it may send, and what it does with what arrives (RFC 9293, 3.10). Its offsets are units: bytes, and one more for a FIN.
 use Rattle.limits.specs.Limits.{largest_segment}
-use Rattle.std.specs.Prelude.{◌≡◌, ℕ, ℤ, Bool, true, false, pos, ◌+◌, ◌-◌, ◌^◌, ◌==◌, ◌&&◌, ◌||◌, not, nat_lt, nat_le, int_lt, max, min, Option, Some, None, option_map, List, [], ◌++◌, length, take, drop, nat_abs, if◌then◌else◌}
+use Rattle.std.specs.Prelude.{◌≡◌, ℕ, ℤ, Bool, true, false, pos, ◌+◌, ◌-◌, ◌^◌, ◌==◌, ◌&&◌, ◌||◌, not, nat_lt, nat_le, int_lt, max, min, Option, Some}
+use Rattle.std.specs.Prelude.{None, option_map, List, [], ◌++◌, length, take, drop, nat_abs, if◌then◌else◌}
 use Rattle.ft_io.specs.declared.Addr.{Addr}
 use Rattle.ft_io.specs.declared.Key.{Key}
 use Rattle.seq_arith.specs.Number.{number_at}
@@ -36,7 +37,20 @@ pub record Client : Type 0 where
   pub early : Early  -- of a live client: the server's text after the accepted bytes, and its FIN, that are held
 
 abbrev pub new_client : ClientKind → Addr → Key → ℕ → List ℕ → Client
-new_client kind server key isn script = record { kind = kind; key = key; server = server; isn = isn; script = script; phase = New; sisn = 0; sent = 0; acknowledged = 0; accepted = []; edge = 0; early = nothing_early }
+new_client kind server key isn script = record {
+  kind = kind;
+  key = key;
+  server = server;
+  isn = isn;
+  script = script;
+  phase = New;
+  sisn = 0;
+  sent = 0;
+  acknowledged = 0;
+  accepted = [];
+  edge = 0;
+  early = nothing_early;
+}
 
 abbrev pub is_new : Phase → Bool
 is_new New = true
@@ -97,7 +111,8 @@ suits_phase client (Refuse number) = is_opening client.phase
 -- text begins no earlier than at the first unacknowledged unit and no later than at the first unsent one, has 1 to 1,460 bytes and stays within the script. A
 -- FIN comes once the whole script is sent. A refused acknowledgement is any but that of the SYN (RFC 9293, 3.10.7.3)
 abbrev pub suits_range : Client → Move → Bool
-suits_range client (Text from len) = nat_le client.acknowledged from && nat_le from client.sent && nat_le 1 len && nat_le len largest_segment && nat_le (from + len) (length client.script)
+suits_range client (Text from len) = nat_le client.acknowledged from && nat_le from client.sent && nat_le 1 len && nat_le len largest_segment
+    && nat_le (from + len) (length client.script)
 suits_range client Fin = nat_le (length client.script) client.sent
 suits_range client (Refuse number) = nat_lt number (2 ^ 32) && not (number == number_at client.isn 0)
 suits_range client _ = true
@@ -170,7 +185,11 @@ phase_after phase _ = phase
 
 -- the client after a move: the advertised window raises its right edge and never lowers it
 abbrev pub moved : Client → Move → ℕ → Client
-moved client move window = record client { phase = phase_after client.phase move; sent = sent_after client move; edge = max client.edge (length client.accepted + window) }
+moved client move window = record client {
+  phase = phase_after client.phase move;
+  sent = sent_after client move;
+  edge = max client.edge (length client.accepted + window);
+}
 
 -- a move advertises a window that a header can hold. A RST advertises none: its window is 0
 abbrev pub may_advertise : Move → ℕ → Bool
@@ -237,7 +256,8 @@ room_of client = client.edge - length client.accepted
 abbrev pub opened_by : Client → Segment → Client
 opened_by client segment =
     if has_ack segment && segment.head.ack == number_at client.isn 0
-    then (if has_rst segment then record client { phase = Reset } else (if has_syn segment then record client { phase = Established; sisn = segment.head.seq } else client))
+    then (if has_rst segment then record client { phase = Reset }
+    else (if has_syn segment then record client { phase = Established; sisn = segment.head.seq } else client))
     else client
 
 -- whether the acknowledgement of a segment may be used. A scripted client uses only segments that are acceptable by TCP's four cases. A live one also uses
@@ -266,7 +286,8 @@ with_added client came = record client {
 
 abbrev pub came : Client → Segment → Came
 came client segment =
-    comes (length client.accepted) client.edge (is_ended client.phase) (holds client.kind client.early) (first_of client.sisn segment) (text_of segment) (fin_of segment)
+    comes (length client.accepted) client.edge (is_ended client.phase) (holds client.kind client.early) (first_of client.sisn segment) (text_of segment)
+    (fin_of segment)
 
 -- a segment with ACK that may be used arrives in an open connection. If it acknowledges what was not sent, it is dropped
 abbrev pub used : Client → Segment → Client

@@ -36,9 +36,11 @@ pub record IsSameConnection (before after : Point) : Type 0 where
   pub fetched : after.fetched ≡ before.fetched
   pub fetched_output : after.fetched_output ≡ before.fetched_output
   pub delays : after.delays ≡ before.delays
+  pub batches : after.batches ≡ before.batches
 
 -- a turn of a connection that its client has not reset
-pub record LiveTurn {State : Type 0} (service : Machine State) (server : Addr) (boot : ℕ) (news : News) (before after : Point) (sent : List Packet) : Type 0 where
+pub record LiveTurn {State : Type 0} (service : Machine State) (server : Addr) (boot : ℕ) (news : News) (before after : Point)
+    (sent : List Packet) : Type 0 where
   pub same : IsSameConnection before after
   pub taken : after.taken ≡ taken_after news before
   pub fin : after.fin ≡ fin_after news before

@@ -2,7 +2,8 @@
 -- south side wrapper). No Data is stored for retransmission: where one is lost, the client gets no acknowledgement, and so retransmits. Whether the segment
 -- was acceptable doesn't matter.
 use Rattle.limits.specs.Limits.{largest_segment}
-use Rattle.std.specs.Prelude.{ℕ, ℤ, Bool, false, zero, suc, pos, negsuc, ◌+◌, ◌-◌, ◌&&◌, ◌||◌, not, nat_lt, nat_le, max, min, List, [], ◌∷◌, ◌++◌, length, take, drop, if◌then◌else◌}
+use Rattle.std.specs.Prelude.{ℕ, ℤ, Bool, true, false, zero, suc, pos, negsuc, ◌+◌, ◌-◌, ◌&&◌, ◌||◌, not, nat_lt, nat_le, max, min, List, [], ◌∷◌}
+use Rattle.std.specs.Prelude.{◌++◌, length, take, drop, if◌then◌else◌}
 use Rattle.ft_io.specs.declared.Key.{Key}
 use Rattle.tcp_rules.specs.Arrival.{int_eq, below}
 use Rattle.seq_arith.specs.Packet.{Segment}
@@ -33,10 +34,11 @@ copies_fin p segment = fin_of segment && p.fin && int_eq (end_of p segment) (pos
 
 -- Data that only reports the acknowledgement. Its offset is the end of the bytes known to be logged
 abbrev pub una_part : Point → Part
-una_part p = record { key = p.key; offset = min p.answered (length p.taken); acked = p.una; fin = false; bytes = [] }
+una_part p = record { key = p.key; offset = min p.answered (length p.taken); acked = p.una; fin = false; more = false; bytes = [] }
 
 abbrev pub copied_part : Point → Segment → Part
-copied_part p segment = record { key = p.key; offset = copy_start p segment; acked = p.una; fin = copies_fin p segment; bytes = copied_text p segment }
+copied_part p segment =
+    record { key = p.key; offset = copy_start p segment; acked = p.una; fin = copies_fin p segment; more = false; bytes = copied_text p segment }
 
 -- the part of the segment that isn't known to be logged and is taken after the turn, as one Data, if there is such a part
 unfoldable pub own_data : Point → Segment → List Body
@@ -59,8 +61,10 @@ unfoldable pub datas : (k : ℕ) → Key → (acked offset : ℕ) → List ℕ �
 datas zero key acked offset bytes fin = []
 datas (suc k) key acked offset bytes fin =
     if nat_lt largest_segment (length bytes)
-    then DataMsg (record { key = key; offset = offset; acked = acked; fin = false; bytes = take largest_segment bytes }) ∷ datas k key acked (offset + largest_segment) (drop largest_segment bytes) fin
-    else (if nat_lt 0 (length bytes) || fin then DataMsg (record { key = key; offset = offset; acked = acked; fin = fin; bytes = bytes }) ∷ [] else [])
+    then DataMsg (record { key = key; offset = offset; acked = acked; fin = false; more = false; bytes = take largest_segment bytes })
+    ∷ datas k key acked (offset + largest_segment) (drop largest_segment bytes) fin
+    else (if nat_lt 0 (length bytes) || fin
+    then DataMsg (record { key = key; offset = offset; acked = acked; fin = fin; more = false; bytes = bytes }) ∷ [] else [])
 
 unfoldable pub further_data : (before after : Point) → Segment → List Body
 further_data before after segment =
@@ -72,10 +76,22 @@ abbrev pub or_una : (before after : Point) → List Body → List Body
 or_una before after [] = if nat_lt before.una after.una then DataMsg (una_part after) ∷ [] else []
 or_una before after (first ∷ others) = first ∷ others
 
+-- a Data that a later one of the same turn follows
+abbrev pub with_more : Body → Body
+with_more (DataMsg part) = DataMsg (record part { fin = false; more = true })
+with_more body = body
+
+-- the Data of a turn as a batch, of which the log answers the last: each but the last says that a later one follows
+unfoldable pub batch : List Body → List Body
+batch [] = []
+batch (last ∷ []) = last ∷ []
+batch (first ∷ next ∷ others) = with_more first ∷ batch (next ∷ others)
+
 -- Copy: the segment's own part is sent as one Data. The text and FIN that were held and are taken in this turn follow in further Data, in order. Every Data
 -- carries SND.UNA
 unfoldable pub copies : News → Point → Point → List Body
-copies (Comes segment) before after = or_una before after (own_data after segment ++ further_data before after segment)
+copies (Comes segment) before after =
+    let datas_sent = or_una before after (own_data after segment ++ further_data before after segment) in if after.batches then batch datas_sent else datas_sent
 copies (Logged kept) before after = []
 copies Ticks before after = []
 copies Begins before after = []

@@ -38,7 +38,7 @@ abbrev pub opening : Packet
 opening = to_logger 1 (OpenMsg (record { key = client_key; cisn = 1000; sisn = 5000; mss = 536 }))
 
 abbrev pub bytes_to_log : Packet
-bytes_to_log = to_logger 1 (DataMsg (record { key = client_key; offset = 0; acked = 0; fin = false; bytes = codes "hello" }))
+bytes_to_log = to_logger 1 (DataMsg (record { key = client_key; offset = 0; acked = 0; fin = false; more = false; bytes = codes "hello" }))
 
 abbrev pub read : Packet
 read = to_logger 1 (ReadMsg client_key 0 5)
@@ -50,7 +50,17 @@ abbrev pub reads : Packet
 reads = from_logger 1 (ReadsMsg (record { key = client_key; length = 5; fin = false; reads = 1 }))
 
 abbrev pub entry : Packet
-entry = from_logger 2 (EntryMsg 0 (record { key = client_key; cisn = 1000; sisn = 5000; mss = 536; length = 5; fin = false; done = false; reads = 1; acked = 0 }))
+entry = from_logger 2 (EntryMsg 0 (record {
+  key = client_key;
+  cisn = 1000;
+  sisn = 5000;
+  mss = 536;
+  length = 5;
+  fin = false;
+  done = false;
+  reads = 1;
+  acked = 0;
+}))
 
 abbrev pub part : Packet
 part = from_logger 2 (PartMsg client_key 0 (codes "hello"))

@@ -1,10 +1,11 @@
 -- The grammar of a schedule's text: the schedule that it spells, or the first line that is refused and why.
 --
--- First `service NAME`, then `server ADDRESS`, then `profile NAME` where the server's profile isn't the plain one, then `twin` where there are two loggers or
--- `marks EVERY` where the server marks the log, then 0 to 16 times `client N ADDRESS ISN SCRIPT` with N from 1 in order, then events: `boot BOOT ISN`,
--- `crash`, `tick`, `deliver P`, `flip P BIT`, `open N W`, `send N FROM LEN`, `fin N`, `ack N W`, `reset N`, `stop PART`. A line without words, or whose first
--- byte is `#`, is skipped, but counted.
-use Rattle.std.specs.Prelude.{ℕ, Bool, true, false, ◌+◌, ◌-◌, ◌^◌, ◌==◌, ◌&&◌, ◌||◌, not, nat_lt, nat_le, Option, Some, None, is_none, option_map, Result, Ok, Err, List, [], ◌∷◌, ◌++◌, length, codes, if◌then◌else◌}
+-- First `service NAME`, then `server ADDRESS`, then `profile NAME` where the server's profile isn't the plain one, then `twin` where there are two loggers,
+-- `marks EVERY` where the server marks the log, or `lasting WAIT SILENCE` where it is one that lasts, then 0 to 16 times `client N ADDRESS ISN SCRIPT` with N
+-- from 1 in order, then events: `boot BOOT ISN`, `crash`, `tick`, `deliver P`, `flip P BIT`, `open N W`, `send N FROM LEN`, `fin N`, `ack N W`, `reset N`,
+-- `stop PART`. A line without words, or whose first byte is `#`, is skipped, but counted.
+use Rattle.std.specs.Prelude.{ℕ, Bool, true, false, ◌+◌, ◌-◌, ◌^◌, ◌==◌, ◌&&◌, ◌||◌, not, nat_lt, nat_le, Option, Some, None, is_none, option_map}
+use Rattle.std.specs.Prelude.{Result, Ok, Err, List, [], ◌∷◌, ◌++◌, length, codes, if◌then◌else◌}
 use Rattle.std.specs.List.{list_all, list_any}
 use Rattle.std.specs.Option.{ok_or}
 use Rattle.std.specs.Str.{bytes_eq}
@@ -24,6 +25,7 @@ use Rattle.ft_model.specs.declared.line.Line.TheVariants as line
 use Rattle.ft_model.specs.declared.line.Verb.{Verb}
 use Rattle.ft_model.specs.declared.line.Verb.TheVariants as verb
 use Rattle.ft_model.specs.declared.schedule.ClientLine.{ClientLine}
+use Rattle.ft_model.specs.declared.schedule.Lasting.{Lasting}
 use Rattle.ft_model.specs.declared.schedule.Limit.{Limit}
 use Rattle.ft_model.specs.declared.schedule.Limit.TheVariants as limit
 use Rattle.ft_model.specs.declared.schedule.LineWhy.{LineWhy}
@@ -65,6 +67,13 @@ part_number word = number 1 2 word
 -- after how many reads a mark is due
 abbrev pub every_number : List ℕ → Result ℕ LineWhy
 every_number word = number 1 1000 word
+
+-- for how many ticks a server that lasts keeps what is done, and after how many it asks a silent client
+abbrev pub wait_number : List ℕ → Result ℕ LineWhy
+wait_number word = number 1 100000 word
+
+abbrev pub silence_number : List ℕ → Result ℕ LineWhy
+silence_number word = number 0 100000 word
 
 -- a number of 32 bits: an initial sequence number, a bit, an offset or a length
 abbrev pub long_number : List ℕ → Result ℕ LineWhy
@@ -153,11 +162,19 @@ unfoldable pub marks_line : List (List ℕ) → Result ℕ LineWhy
 marks_line (every ∷ []) = every_number every
 marks_line _ = Err why.Count
 
--- whether the server or an earlier client has the address
+-- both numbers are tested in their order
+unfoldable pub lasting_line : List (List ℕ) → Result Lasting LineWhy
+lasting_line (wait ∷ silence ∷ []) = do
+  w ← wait_number wait
+  s ← silence_number silence
+  Ok (record { wait = w; silence = s })
+lasting_line _ = Err why.Count
+
+-- Whether the server or an earlier client has the address. At a server that lasts a client may have an earlier one's
 unfoldable pub is_taken : Draft → Addr → Bool
 is_taken (Begun schedule) addr =
     schedule.server.ip == addr.ip && schedule.server.port == addr.port
-    || list_any (λ client. client.key.ip == addr.ip && client.key.port == addr.port) schedule.clients
+    || is_none schedule.lasting && list_any (λ client. client.key.ip == addr.ip && client.key.port == addr.port) schedule.clients
 is_taken draft addr = false
 
 -- an address that isn't taken yet
@@ -182,6 +199,7 @@ line_from draft keyword.Server words = server_line words >>= λ addr. Ok (line.S
 line_from draft keyword.Profile words = profile_line words >>= λ profile. Ok (line.Profile profile)
 line_from draft keyword.Twin words = bare_line line.Twin words
 line_from draft keyword.Marks words = marks_line words >>= λ every. Ok (line.Marks every)
+line_from draft keyword.Lasting words = lasting_line words >>= λ waits. Ok (line.Lasting waits)
 line_from draft keyword.Client words = client_line draft words >>= λ client. Ok (line.Client client)
 line_from draft (keyword.Event v) words = event_line v words >>= λ e. Ok (line.Event e)
 
@@ -217,8 +235,9 @@ keyword_of word =
     else (if bytes_eq word (codes "profile") then Some keyword.Profile
     else (if bytes_eq word (codes "twin") then Some keyword.Twin
     else (if bytes_eq word (codes "marks") then Some keyword.Marks
+    else (if bytes_eq word (codes "lasting") then Some keyword.Lasting
     else (if bytes_eq word (codes "client") then Some keyword.Client
-    else option_map keyword.Event (verb_of word))))))
+    else option_map keyword.Event (verb_of word)))))))
 
 -- a line that names a service or a profile that doesn't exist. One without a name is left to the test `count`
 unfoldable pub is_misnamed : Keyword → List (List ℕ) → Bool
@@ -240,9 +259,10 @@ has_next_number count (client ∷ more) = is_next count (numeral 20 client)
 unfoldable pub may_join : Schedule → List (List ℕ) → Bool
 may_join schedule words = length schedule.events == 0 && nat_lt (length schedule.clients) 16 && has_next_number (length schedule.clients) words
 
--- the line `twin` or `marks` comes directly after the server's line, or after that of its profile
+-- the line `twin`, `marks` or `lasting` comes directly after the server's line, or after that of its profile
 unfoldable pub has_only_server : Schedule → Bool
 has_only_server schedule = length schedule.events == 0 && length schedule.clients == 0 && not schedule.twin && is_none schedule.marks
+    && is_none schedule.lasting
 
 -- whether no line has named a profile
 abbrev pub is_unnamed : Profile → Bool
@@ -255,6 +275,7 @@ may_stand (Named kind) keyword.Server words = true
 may_stand (Begun schedule) keyword.Profile words = is_unnamed schedule.profile && has_only_server schedule
 may_stand (Begun schedule) keyword.Twin words = has_only_server schedule
 may_stand (Begun schedule) keyword.Marks words = has_only_server schedule
+may_stand (Begun schedule) keyword.Lasting words = has_only_server schedule
 may_stand (Begun schedule) keyword.Client words = may_join schedule words
 may_stand (Begun schedule) (keyword.Event v) words = true
 may_stand _ _ words = false
@@ -281,10 +302,20 @@ line_of draft text = if is_printable text then line_of_words draft (words_of tex
 -- what a line adds to the lines before it
 abbrev pub with_line : Draft → Line → Draft
 with_line Empty (line.Service kind) = Named kind
-with_line (Named kind) (line.Server addr) = Begun (record { service = kind; server = addr; profile = Plain; twin = false; marks = None; clients = []; events = [] })
+with_line (Named kind) (line.Server addr) = Begun (record {
+  service = kind;
+  server = addr;
+  profile = Plain;
+  twin = false;
+  marks = None;
+  lasting = None;
+  clients = [];
+  events = [];
+})
 with_line (Begun schedule) (line.Profile profile) = Begun (record schedule { profile = profile })
 with_line (Begun schedule) line.Twin = Begun (record schedule { twin = true })
 with_line (Begun schedule) (line.Marks every) = Begun (record schedule { marks = Some every })
+with_line (Begun schedule) (line.Lasting waits) = Begun (record schedule { lasting = Some waits })
 with_line (Begun schedule) (line.Client client) = Begun (record schedule { clients = schedule.clients ++ client ∷ [] })
 with_line (Begun schedule) (line.Event e) = Begun (record schedule { events = schedule.events ++ e ∷ [] })
 with_line draft _ = draft

@@ -1,5 +1,6 @@
 -- A lawful incarnation: it boots, fetches the log, and serves. Each of its turns is determined by its state and its input.
-use Rattle.std.specs.Prelude.{◌≡◌, IfSome, MatchOption, ℕ, Bool, true, false, ◌+◌, ◌==◌, ◌&&◌, not, nat_lt, map, filter, Option, Some, None, List, [], ◌∷◌, ◌++◌, length, if◌then◌else◌}
+use Rattle.std.specs.Prelude.{◌≡◌, IfSome, MatchOption, ℕ, Bool, true, false, ◌+◌, ◌==◌, ◌&&◌, not, nat_lt, map, filter, Option, Some, None, List, []}
+use Rattle.std.specs.Prelude.{◌∷◌, ◌++◌, length, if◌then◌else◌}
 use Rattle.std.specs.List.{AllByRecursion}
 use Rattle.std.specs.Option.{option_to_list}
 use Rattle.ft_io.specs.declared.Addr.{Addr}
@@ -56,7 +57,8 @@ Revives service node place now sent = Stays place now sent
 abbrev pub Continues : {State : Type 0} → Machine State → Node → (count : ℕ) → List Fetched → Option Wanted → Stage → List Packet → Type 0
 Continues service node count fetched (Some w) after sent = (after ≡ Fetching count fetched) × (sent ≡ asked node (Some w))
 Continues service node count fetched None after sent =
-    (places : List Place) × (after ≡ Serving (restored_count fetched) places) × AllGo (Revives service node) (all_restored service node.profile fetched) places sent
+    (places : List Place) × (after ≡ Serving (restored_count fetched) places)
+    × AllGo (Revives service node) (all_restored service node.profile fetched) places sent
 
 -- the same, where the question is for what is now missing of the log's entries
 abbrev pub Fetches : {State : Type 0} → Machine State → Node → (count : ℕ) → List Fetched → Stage → List Packet → Type 0
@@ -94,7 +96,8 @@ StageTurn service node (Fetching count fetched) (Message_comes message) after se
 StageTurn service node (Fetching count fetched) (Packet_comes segment) after sent = (after ≡ Fetching count fetched) × (sent ≡ held node fetched segment)
 StageTurn service node (Fetching count fetched) Noise_comes after sent = Rests (Fetching count fetched) after sent
 StageTurn service node (Serving opened places) input after sent =
-    (later : List Place) × (after ≡ Serving (opened + length (newcomers node input opened places)) later) × ServingTurn service node input opened places later sent
+    (later : List Place) × (after ≡ Serving (opened + length (newcomers node input opened places)) later)
+    × ServingTurn service node input opened places later sent
 StageTurn service node (Fenced newer) input after sent = ⊥
 
 abbrev pub newer_than : ℕ → Body → Option ℕ
@@ -142,7 +145,8 @@ IsLawful service first (turn ∷ earlier) = IsLawful service first earlier × La
 
 -- an incarnation of this server from its boot on: what the boot sends, and the turns after it
 abbrev pub Lawful : {State : Type 0} → Machine State → Addr → Profile → (boot isn : ℕ) → List Packet → List Turn → Type 0
-Lawful service server profile boot isn at_boot turns = (at_boot ≡ hello (booted server profile boot isn)) × IsLawful service (booted server profile boot isn) turns
+Lawful service server profile boot isn at_boot turns = (at_boot ≡ hello (booted server profile boot isn))
+    × IsLawful service (booted server profile boot isn) turns
 
 -- the premises of a lawful process: a packet for this server from the client of a live connection is near to that connection, ..
 abbrev pub IsNearTo : Addr → Segment → Place → Type 0

@@ -1,12 +1,14 @@
 -- The logger (the FT-TCP article's logger): a boot number, and an entry for each connection with the client's bytes, whether its FIN is kept, the lengths of
 -- the server's reads, and how much output the client has acknowledged. One message gets at most one answer.
 use Rattle.limits.specs.Limits.{most_entries}
-use Rattle.std.specs.Prelude.{ℕ, Bool, true, false, ◌+◌, ◌-◌, ◌==◌, ◌&&◌, ◌||◌, not, nat_lt, nat_le, max, sum, map, find, Option, Some, None, option_map, List, [], ◌∷◌, ◌++◌, length, take, drop, slice_get, if◌then◌else◌}
+use Rattle.std.specs.Prelude.{ℕ, Bool, true, false, ◌+◌, ◌-◌, ◌==◌, ◌&&◌, ◌||◌, not, nat_lt, nat_le, max, sum, map, find, Option, Some, None}
+use Rattle.std.specs.Prelude.{option_map, List, [], ◌∷◌, ◌++◌, length, take, drop, slice_get, if◌then◌else◌}
 use Rattle.std.specs.List.{list_any}
 use Rattle.ft_io.specs.declared.Key.{Key}
 use Rattle.ft_io.specs.Key.{key_eq}
 use Rattle.seq_arith.specs.Message.{Numbers, Kept, EntryHead, Part, Body, Message, is_answer}
-use Rattle.seq_arith.specs.Message.Body.{HelloMsg, SummaryMsg, ListMsg, EntryMsg, BytesMsg, PartMsg, CutsMsg, LensMsg, OpenMsg, OpenedMsg, DataMsg, StableMsg, ReadMsg, ReadsMsg, DoneMsg, EndedMsg, StaleMsg, FullMsg}
+use Rattle.seq_arith.specs.Message.Body.{HelloMsg, SummaryMsg, ListMsg, EntryMsg, BytesMsg, PartMsg, CutsMsg, LensMsg, OpenMsg, OpenedMsg, DataMsg}
+use Rattle.seq_arith.specs.Message.Body.{StableMsg, ReadMsg, ReadsMsg, DoneMsg, EndedMsg, StaleMsg, FullMsg}
 
 pub record Entry : Type 0 where
   pub key : Key
@@ -38,7 +40,8 @@ new_entry n = record { key = n.key; cisn = n.cisn; sisn = n.sisn; mss = n.mss; b
 
 -- Open adds an entry for an unknown key, while there are fewer than 64
 abbrev pub opened : Numbers → Log → Log
-opened n log = if list_any (λ e. key_eq e.key n.key) log.entries || nat_le most_entries (length log.entries) then log else record log { entries = log.entries ++ new_entry n ∷ [] }
+opened n log = if list_any (λ e. key_eq e.key n.key) log.entries || nat_le most_entries (length log.entries) then log
+    else record log { entries = log.entries ++ new_entry n ∷ [] }
 
 -- Data adds the bytes past those that are kept, unless it leaves a gap. Kept bytes stay, and nothing is added after a FIN
 abbrev pub with_bytes : Part → Entry → Entry
@@ -78,7 +81,8 @@ is_hello _ = false
 
 -- a Hello makes its boot the log's. Any other message counts only if it has the log's own boot
 abbrev pub with_message : Message → Log → Log
-with_message message log = if is_hello message.body then record log { boot = message.boot } else (if message.boot == log.boot then with_body message.body log else log)
+with_message message log = if is_hello message.body then record log { boot = message.boot }
+    else (if message.boot == log.boot then with_body message.body log else log)
 
 -- The log after a message. A message of a kind that only the logger sends changes nothing, nor does one of a smaller boot.
 unfoldable pub log_after : Log → Message → Log
@@ -91,7 +95,17 @@ abbrev pub kept_of : Entry → Kept
 kept_of e = record { key = e.key; length = length e.bytes; fin = e.fin; reads = length e.lengths }
 
 abbrev pub head_of : Entry → EntryHead
-head_of e = record { key = e.key; cisn = e.cisn; sisn = e.sisn; mss = e.mss; length = length e.bytes; fin = e.fin; done = e.done; reads = length e.lengths; acked = e.acknowledged }
+head_of e = record {
+  key = e.key;
+  cisn = e.cisn;
+  sisn = e.sisn;
+  mss = e.mss;
+  length = length e.bytes;
+  fin = e.fin;
+  done = e.done;
+  reads = length e.lengths;
+  acked = e.acknowledged;
+}
 
 -- at most 1,024 bytes of an entry, from an offset below its length
 abbrev pub part_of : Entry → ℕ → Option Body
@@ -109,6 +123,10 @@ abbrev pub on_entry : (Entry → Option Body) → Option Entry → Option Body
 on_entry tell (Some e) = tell e
 on_entry tell None = None
 
+-- a Data that a later one of its turn follows has no answer: the later one's says how much is logged
+abbrev pub unless_more : Part → Option Body → Option Body
+unless_more part answer = if part.more then None else answer
+
 -- the answer to a message of the log's own boot, from the log after that message
 abbrev pub answer_from : Body → Log → Option Body
 answer_from HelloMsg log = Some (SummaryMsg (length log.entries))
@@ -116,7 +134,7 @@ answer_from (ListMsg index) log = on_entry (λ e. Some (EntryMsg index (head_of 
 answer_from (BytesMsg key offset) log = on_entry (λ e. part_of e offset) (entry_of key log)
 answer_from (CutsMsg key first) log = on_entry (λ e. lens_of e first) (entry_of key log)
 answer_from (OpenMsg n) log = opened_answer n.key (entry_of n.key log)
-answer_from (DataMsg part) log = on_entry (λ e. Some (StableMsg (kept_of e))) (entry_of part.key log)
+answer_from (DataMsg part) log = unless_more part (on_entry (λ e. Some (StableMsg (kept_of e))) (entry_of part.key log))
 answer_from (ReadMsg key index n) log = on_entry (λ e. Some (ReadsMsg (kept_of e))) (entry_of key log)
 answer_from (DoneMsg key) log = on_entry (λ e. Some (EndedMsg key)) (entry_of key log)
 answer_from _ log = None

@@ -8,7 +8,7 @@ use Rattle.seq_arith.specs.Packet.{has_rst, has_ack}
 use Rattle.server_trait.specs.Service.{Machine, Run, reference}
 use Rattle.ft_model.specs.Offset.{ack_of}
 use Rattle.ft_model.specs.Client.{Client, is_ended}
-use Rattle.ft_model.specs.Log.{Entry, Log}
+use Rattle.ft_model.specs.Log.{Entry, Log, entry_of}
 use Rattle.ft_model.specs.Growth.{IsPrefix, logged_lengths, logged_units}
 use Rattle.ft_model.specs.Network.{Packet, destination_of}
 use Rattle.ft_model.specs.Network.Packet.{To_server, To_client, To_logger, From_logger}
@@ -26,9 +26,10 @@ abbrev pub unfailing : {State : Type 0} → Machine State → Log → Client →
 unfailing service log client = reference service client.script (logged_lengths client.key log)
 
 -- a client has accepted a prefix of the uncrashed server's output, and where the server's FIN has ended the stream, that run has closed and all its output
--- is accepted
+-- is accepted. A client that the log doesn't know has accepted nothing, not even a greeting
 pub record SeesFront {State : Type 0} (service : Machine State) (log : Log) (client : Client) : Type 0 where
   pub accepted : IsPrefix client.accepted (unfailing service log client).output
+  pub unlogged : entry_of client.key log ≡ None → client.accepted ≡ []
   pub ended : is_ended client.phase ≡ true → ((unfailing service log client).closed ≡ true) × (client.accepted ≡ (unfailing service log client).output)
 
 -- no segment acknowledges what isn't logged. A RST and a segment without ACK acknowledge nothing

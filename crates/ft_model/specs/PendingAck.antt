@@ -17,9 +17,9 @@ is_refused p segment = not p.syn_acked && has_ack segment && (int_lt (ack_of p.s
 abbrev pub is_unsent_ack : Point → Segment → Bool
 is_unsent_ack p segment = has_ack segment && acknowledges_unsent p segment
 
--- which acceptable segments TCP answers: a SYN, and a RST that isn't at the next number, get a challenge ACK. A segment whose length isn't 0 gets an ACK, and so
--- does one that acknowledges what was never sent. Any other segment of length 0 past the next number gets no answer: otherwise two ends that each miss a segment
--- would answer each other forever
+-- which acceptable segments TCP answers: a SYN, and a RST that isn't at the next number, get a challenge ACK. A segment whose length isn't 0 gets an ACK, and
+-- so does one that acknowledges what was never sent. Any other segment of length 0 past the next number gets no answer: otherwise two ends that each miss a
+-- segment would answer each other forever
 abbrev pub needs_ack_if_acceptable : Point → Segment → Bool
 needs_ack_if_acceptable p segment =
     if has_rst segment then not (int_eq (first_of p.cisn segment) (pos (taken_units p)))

@@ -33,6 +33,7 @@ pub record Point : Type 0 where
   pub syn_acked : Bool  -- whether the SYN is acknowledged: an acknowledgement has counted
   pub timing : Timing  -- the estimate of the round-trip time, and the interval with which the timer starts
   pub delays : Bool  -- whether the ACK of text that isn't logged yet waits for the log. It never changes
+  pub batches : Bool  -- whether the log answers only the last of the Data that a turn sends. It never changes
   pub interval : ℕ  -- of the timer, in ticks
   pub rest : ℕ  -- the ticks until the timer expires; 0 while it doesn't run
   pub end_ticks : ℕ  -- the end ticks counted so far, up to four
@@ -63,6 +64,7 @@ blank_point profile key cisn sisn mss = record {
   syn_acked = false;
   timing = initial_timing profile.measures;
   delays = profile.delays;
+  batches = profile.batches;
   interval = first_base profile.measures;
   rest = 0;
   end_ticks = 0;

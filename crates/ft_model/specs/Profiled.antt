@@ -9,5 +9,6 @@ pub record HasProfile (profile : Profile) (p : Point) : Type 0 where
   pub measures : p.timing.measures ≡ profile.measures
   pub recovers : p.congestion.recovers ≡ profile.measures
   pub delays : p.delays ≡ profile.delays
+  pub batches : p.batches ≡ profile.batches
   pub timing : profile.measures ≡ false → p.timing ≡ initial_timing false
   pub lost : profile.measures ≡ false → p.congestion.lost ≡ 0

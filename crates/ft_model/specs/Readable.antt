@@ -2,12 +2,13 @@
 use Rattle.std.specs.Prelude.{◌≡◌, ℕ, ◌<◌, ◌^◌, Option, None, Some, List, length}
 use Rattle.std.specs.List.{AllByRecursion}
 use Rattle.hex.specs.Hex.{IsBytes}
+use Rattle.seq_arith.specs.declared.kinds.Grammar.{Grammar}
 use Rattle.ft_io.specs.declared.Addr.{Addr}
 use Rattle.ft_io.specs.declared.Key.{Key}
 use Rattle.ft_model.specs.Client.{Client}
 use Rattle.ft_model.specs.Network.{Packet, source_of, destination_of}
 use Rattle.ft_model.specs.Network.Packet.{To_server, To_client, To_logger, From_logger}
-use Rattle.ft_model.specs.Wire.{HasWire}
+use Rattle.ft_model.specs.Wire.{HasWireBy}
 use Rattle.ft_model.specs.World.{Moment}
 use Rattle.ft_model.specs.Report.{number_of_client}
 use Rattle.ft_model.specs.declared.event.Event.{Event}
@@ -15,6 +16,7 @@ use Rattle.ft_model.specs.declared.event.Event.TheVariants.{Boot, Crash, Tick, D
 use Rattle.ft_model.specs.declared.schedule.Script.{Script}
 use Rattle.ft_model.specs.declared.schedule.Script.TheVariants.{Bytes, Fill}
 use Rattle.ft_model.specs.declared.schedule.ClientLine.{ClientLine}
+use Rattle.ft_model.specs.declared.schedule.Lasting.{Lasting}
 use Rattle.ft_model.specs.declared.schedule.Schedule.{Schedule}
 use Rattle.ft_model.specs.declared.way.Way.{Way}
 use Rattle.ft_model.specs.declared.way.Way.TheVariants.{ClientToServer, ServerToClient, ServerToLogger, LoggerToServer, HeadToTail, TailToHead}
@@ -30,6 +32,10 @@ FitsU64 n = n < 2 ^ 64
 abbrev pub FitsOption : Option ℕ → Type 0
 FitsOption None = Unit {0}
 FitsOption (Some n) = FitsU64 n
+
+abbrev pub FitsLasting : Option Lasting → Type 0
+FitsLasting None = Unit {0}
+FitsLasting (Some waits) = FitsU64 waits.wait × FitsU64 waits.silence
 
 abbrev pub FitsWay : Way → Type 0
 FitsWay (ClientToServer n) = FitsU64 n
@@ -59,9 +65,9 @@ HasEnds server clients (To_client s) = IsKnown clients (destination_of s) × IsO
 HasEnds server clients (To_logger message) = Unit {0}
 HasEnds server clients (From_logger message) = Unit {0}
 
--- a packet whose line determines all of it
+-- a packet whose line determines all of it: it can be written, in one of the grammars
 abbrev pub IsReadable : Addr → List Client → Packet → Type 0
-IsReadable server clients packet = HasEnds server clients packet × HasWire packet
+IsReadable server clients packet = HasEnds server clients packet × (grammar : Grammar) × HasWireBy grammar packet
 
 -- every number of an event has at most 64 bits, and a window at most 16
 abbrev pub FitsEvent : Event → Type 0
@@ -89,6 +95,7 @@ pub record FitsSchedule (schedule : Schedule) : Type 0 where
   pub ip : schedule.server.ip < 2 ^ 32
   pub port : schedule.server.port < 2 ^ 16
   pub marks : FitsOption schedule.marks
+  pub lasting : FitsLasting schedule.lasting
   pub clients : AllByRecursion FitsClient schedule.clients
   pub count : FitsU64 (length schedule.clients)
   pub events : AllByRecursion FitsEvent schedule.events

@@ -9,8 +9,10 @@ use Rattle.tcp_rules.specs.declared.profile.Profile.TheVariants.{Plain, Wan}
 use Rattle.ft_io.specs.Key.{key_eq}
 use Rattle.seq_arith.specs.Packet.{Segment}
 use Rattle.seq_arith.specs.Message.{Numbers, Kept, EntryHead, Part, Body, Message}
-use Rattle.seq_arith.specs.Message.Body.{HelloMsg, SummaryMsg, ListMsg, EntryMsg, BytesMsg, PartMsg, CutsMsg, LensMsg, OpenMsg, OpenedMsg, DataMsg, StableMsg, ReadMsg, ReadsMsg, DoneMsg, EndedMsg, StaleMsg, FullMsg}
-use Rattle.ft_model.specs.Texts.{line, hex_text, list_text, address_text, key_text, flags_text, mss_text, bit_text, way_text, service_text, script_text, phase_text}
+use Rattle.seq_arith.specs.Message.Body.{HelloMsg, SummaryMsg, ListMsg, EntryMsg, BytesMsg, PartMsg, CutsMsg, LensMsg, OpenMsg, OpenedMsg, DataMsg}
+use Rattle.seq_arith.specs.Message.Body.{StableMsg, ReadMsg, ReadsMsg, DoneMsg, EndedMsg, StaleMsg, FullMsg}
+use Rattle.ft_model.specs.Texts.{line, hex_text, list_text, address_text, key_text, flags_text, mss_text, bit_text, ending_text, way_text}
+use Rattle.ft_model.specs.Texts.{service_text, script_text, phase_text}
 use Rattle.ft_model.specs.Client.{Client}
 use Rattle.ft_model.specs.Log.{Entry}
 use Rattle.ft_model.specs.Network.{Packet, source_of, destination_of}
@@ -24,6 +26,7 @@ use Rattle.ft_model.specs.declared.phase.Phase.{Phase}
 use Rattle.ft_model.specs.declared.way.Way.{Way}
 use Rattle.ft_model.specs.declared.way.Way.TheVariants.{ClientToServer, ServerToClient, ServerToLogger, LoggerToServer}
 use Rattle.ft_model.specs.declared.schedule.ClientLine.{ClientLine}
+use Rattle.ft_model.specs.declared.schedule.Lasting.{Lasting}
 use Rattle.ft_model.specs.declared.schedule.Schedule.{Schedule}
 
 -- What was asked for: the lines of the schedule before its events, after the report's name and version.
@@ -50,11 +53,17 @@ abbrev pub marks_line : Option ℕ → List ℕ
 marks_line None = []
 marks_line (Some every) = line (codes "marks") (decimal every ∷ [])
 
+-- that the server is one that lasts
+abbrev pub lasting_line : Option Lasting → List ℕ
+lasting_line None = []
+lasting_line (Some waits) = line (codes "lasting") (decimal waits.wait ∷ decimal waits.silence ∷ [])
+
 unfoldable pub header : Schedule → List ℕ
 header schedule =
     line (codes "ftreplay") (codes "1" ∷ []) ++ (line (codes "service") (service_text schedule.service ∷ [])
     ++ (line (codes "server") (address_text schedule.server.ip schedule.server.port ∷ [])
-    ++ (profile_line schedule.profile ++ (twin_line schedule.twin ++ (marks_line schedule.marks ++ schedule_lines 1 schedule.clients)))))
+    ++ (profile_line schedule.profile ++ (twin_line schedule.twin ++ (marks_line schedule.marks
+    ++ (lasting_line schedule.lasting ++ schedule_lines 1 schedule.clients))))))
 
 -- an event, as a schedule spells it
 abbrev pub event_words : Event → List (List ℕ)
@@ -115,7 +124,7 @@ entry_words e =
 
 abbrev pub part_words : Part → List (List ℕ)
 part_words p =
-    codes "key" ∷ key_text p.key ∷ codes "offset" ∷ decimal p.offset ∷ codes "acked" ∷ decimal p.acked ∷ codes "fin" ∷ bit_text p.fin
+    codes "key" ∷ key_text p.key ∷ codes "offset" ∷ decimal p.offset ∷ codes "acked" ∷ decimal p.acked ∷ codes "fin" ∷ ending_text p.fin p.more
     ∷ codes "bytes" ∷ hex_text p.bytes ∷ []
 
 abbrev pub read_words : Key → ℕ → ℕ → List (List ℕ)

@@ -1,7 +1,8 @@
 -- The law Restart: what a server asks the log when it boots, which answers it takes, and at which point each connection then is (FT-TCP, INFOCOM 2001: the
 -- restarted server reads the log before it serves).
 use Rattle.limits.specs.Limits.{longest_stream}
-use Rattle.std.specs.Prelude.{◌≡◌, ℕ, Bool, true, pos, ◌+◌, ◌^◌, ◌≤◌, ◌<◌, ◌==◌, ◌&&◌, not, nat_lt, nat_le, min, sum, find, Option, Some, None, List, [], ◌∷◌, ◌++◌, length, if◌then◌else◌}
+use Rattle.std.specs.Prelude.{◌≡◌, ℕ, Bool, true, pos, ◌+◌, ◌^◌, ◌≤◌, ◌<◌, ◌==◌, ◌&&◌, not, nat_lt, nat_le, min, sum, find, Option, Some, None, List}
+use Rattle.std.specs.Prelude.{[], ◌∷◌, ◌++◌, length, if◌then◌else◌}
 use Rattle.std.specs.List.{list_any}
 use Rattle.ft_io.specs.declared.Addr.{Addr}
 use Rattle.ft_io.specs.declared.Key.{Key}
@@ -138,8 +139,8 @@ output_units service e = length (run_of service e).output + one_if (run_of servi
 abbrev pub resumed_at : {State : Type 0} → Machine State → Entry → ℕ
 resumed_at service e = min e.acknowledged (length (run_of service e).output)
 
--- The point of an entry: all of it is taken, known to be logged and read as before, and one acknowledgement has counted, with window 0. Round trips are measured
--- anew
+-- The point of an entry: all of it is taken, known to be logged and read as before, and one acknowledgement has counted, with window 0. Round trips are
+-- measured anew
 abbrev pub point_of : {State : Type 0} → Machine State → Profile → Entry → Point
 point_of service profile e = record (blank_point profile e.key e.cisn e.sisn e.mss) {
   fetched = length e.bytes;

@@ -1,7 +1,8 @@
 -- What a turn sends to the client of a live connection (RFC 9293, 3.8.1, 3.8.3, 3.8.6.1 and 3.10.7.4; RFC 5681, 3.2). The laws Acknowledgement and Window are
 -- in the one header that all these segments share, the law Output in `text_at` and `fin_if_closed`.
 use Rattle.limits.specs.Limits.{largest_segment}
-use Rattle.std.specs.Prelude.{ℕ, Bool, false, zero, suc, ◌+◌, ◌-◌, ◌==◌, ◌&&◌, ◌||◌, not, nat_lt, nat_le, max, min, Option, Some, None, List, [], ◌∷◌, ◌++◌, take, drop, if◌then◌else◌}
+use Rattle.std.specs.Prelude.{ℕ, Bool, false, zero, suc, ◌+◌, ◌-◌, ◌==◌, ◌&&◌, ◌||◌, not, nat_lt, nat_le, max, min, Option, Some, None, List, [], ◌∷◌}
+use Rattle.std.specs.Prelude.{◌++◌, take, drop, if◌then◌else◌}
 use Rattle.ft_io.specs.declared.Addr.{Addr}
 use Rattle.seq_arith.specs.declared.flags.TheConstants.{FIN, SYN, ACK}
 use Rattle.seq_arith.specs.Number.{number_at}
@@ -133,7 +134,8 @@ new_fin service server before after = if sends_fin service before after then fin
 -- all segments except the pure ACK, in order
 unfoldable pub full_segments : {State : Type 0} → Machine State → Addr → News → Point → Point → List Segment
 full_segments service server news before after =
-    syn_acks server news before after ++ (resent service server news before after ++ (new_texts service server before after ++ new_fin service server before after))
+    syn_acks server news before after ++ (resent service server news before after
+    ++ (new_texts service server before after ++ new_fin service server before after))
 
 -- Acknowledgement: one pure ACK, exactly where an ACK is pending and no other segment is sent
 abbrev pub or_bare : Bool → Segment → List Segment → List Segment

@@ -85,7 +85,8 @@ is_strange node segment places = is_for node.server segment && not (is_known (so
 -- Opening: a SYN of an unknown key makes a pending opening with the next initial sequence number, while fewer than 64 are pending
 abbrev pub newcomers : Node → Input → (opened : ℕ) → List Place → List Place
 newcomers node (Packet_comes segment) opened places =
-    if is_strange node segment places && is_syn segment && nat_lt (pending_count places) most_pending then Opens (numbers_for node.isn opened segment) ∷ [] else []
+    if is_strange node segment places && is_syn segment && nat_lt (pending_count places) most_pending then Opens (numbers_for node.isn opened segment) ∷ []
+    else []
 newcomers node (Message_comes message) opened places = []
 newcomers node Noise_comes opened places = []
 newcomers node Tick_comes opened places = []
@@ -111,7 +112,8 @@ opens_at node input _ = []
 
 -- A turn of a server that serves. The packets of the known connections come first, in order, then the pending Opens in the same order. A packet of an unknown
 -- key that is refused concerns no place, so its RST is the only packet
-pub record ServingTurn {State : Type 0} (service : Machine State) (node : Node) (input : Input) (opened : ℕ) (before after : List Place) (sent : List Packet) : Type 0 where
+pub record ServingTurn {State : Type 0} (service : Machine State) (node : Node) (input : Input) (opened : ℕ) (before after : List Place)
+    (sent : List Packet) : Type 0 where
   pub went : List Place
   pub by_places : List Packet
   pub all_go : AllGo (PlaceTurn service node input) before went by_places

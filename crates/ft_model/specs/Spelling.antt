@@ -4,7 +4,8 @@
 -- from 1 to 65535, each of these with at most five digits. A script is `-`, or `hex:` and 1 to 2^24 pairs of hexadecimal digits of
 -- either case, or `fill:` and a number from 1 to 2^24. A service is `echo`, `line`, `transfer` or `meter`. A profile that is named is `wan`.
 use Rattle.limits.specs.Limits.{longest_stream}
-use Rattle.std.specs.Prelude.{ℕ, Bool, ◌+◌, ◌*◌, ◌%◌, ◌^◌, ◌==◌, ◌&&◌, nat_eq, nat_le, Option, Some, None, option_map, List, [], ◌∷◌, length, drop, codes, if◌then◌else◌}
+use Rattle.std.specs.Prelude.{ℕ, Bool, ◌+◌, ◌*◌, ◌%◌, ◌^◌, ◌==◌, ◌&&◌, nat_eq, nat_le, Option, Some, None, option_map, List, [], ◌∷◌, length, drop}
+use Rattle.std.specs.Prelude.{codes, if◌then◌else◌}
 use Rattle.std.specs.Char.{digit_value, is_ascii_digit, is_ascii_hexdigit}
 use Rattle.std.specs.List.{list_all, slice_split, starts_with}
 use Rattle.std.specs.Option.{option_and_then}

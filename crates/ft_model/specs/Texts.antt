@@ -72,6 +72,12 @@ unfoldable pub bit_text : Bool → List ℕ
 bit_text true = codes "1"
 bit_text false = codes "0"
 
+-- what a Data says of its turn, as a digit: the number that the message has
+unfoldable pub ending_text : (fin more : Bool) → List ℕ
+ending_text fin false = bit_text fin
+ending_text false true = codes "2"
+ending_text true true = codes "3"
+
 -- from whom to whom: a client as its number, the server as S, the logger as L, and of two loggers the head as H and the tail as T
 unfoldable pub way_text : Way → List ℕ
 way_text (ClientToServer n) = decimal n ++ codes ">S"

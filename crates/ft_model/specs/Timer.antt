@@ -45,7 +45,8 @@ timing_noted Begins resends before una = before.timing
 
 -- the interval is the estimate's when the timer is restarted, and doubles at each expiry, up to 64
 unfoldable pub interval_after : News → Point → Point → ℕ
-interval_after news before after = if is_set_anew before after then after.timing.base else (if expires news before then min 64 (2 * before.interval) else before.interval)
+interval_after news before after = if is_set_anew before after then after.timing.base
+    else (if expires news before then min 64 (2 * before.interval) else before.interval)
 
 -- the ticks left, if the timer must run: a full interval when it is restarted or has expired, and one less at each other tick
 unfoldable pub rest_after : {State : Type 0} → Machine State → News → Point → Point → ℕ

@@ -7,7 +7,8 @@ use Rattle.ft_model.specs.World.{World, Moment, world_after, Happens, Joint}
 -- each of these moments, newest first, happens in the world after those before it
 abbrev pub EachHappens : {State : Type 0} → Machine State → World → List Moment → Type 0
 EachHappens service before [] = Unit {0}
-EachHappens service before (moment ∷ earlier) = EachHappens service before earlier × Happens service (world_after before earlier) moment.event moment.sent moment.world
+EachHappens service before (moment ∷ earlier) = EachHappens service before earlier
+    × Happens service (world_after before earlier) moment.event moment.sent moment.world
 
 -- one moment doesn't follow the laws, by which the same event would have another outcome; all moments before and after it do
 pub record IsWrongOnce {State : Type 0} (service : Machine State) (start : World) (later : List Moment) (wrong : Moment) (earlier : List Moment) : Type 0 where

@@ -12,6 +12,7 @@ pub mod BeyondNext
 pub mod HeldSegments
 pub mod CongestionWindow
 pub mod DelayedAck
+pub mod Batch
 pub mod MeasuredRecovery
 pub mod SegmentWhileRestarting
 pub mod RestartInTurns

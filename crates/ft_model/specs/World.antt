@@ -1,13 +1,14 @@
 -- The world: clients, log, network and server, and what each event of a schedule does to them. A trace is a list of moments, newest first, each with the world
 -- after it. That world is a witness: clients, log and packets are those that the events determine.
 use Rattle.limits.specs.Limits.{longest_stream}
-use Rattle.std.specs.Prelude.{◌≡◌, ℕ, Bool, true, zero, suc, ◌*◌, ◌<◌, ◌≤◌, ◌^◌, ◌==◌, ◌&&◌, not, map, Option, Some, None, Result, Ok, Err, option_map, is_some, List, [], ◌∷◌, ◌++◌, length, slice_get, if◌then◌else◌}
+use Rattle.std.specs.Prelude.{◌≡◌, ℕ, Bool, true, zero, suc, ◌*◌, ◌<◌, ◌≤◌, ◌^◌, ◌==◌, ◌&&◌, not, map, Option, Some, None, Result, Ok, Err}
+use Rattle.std.specs.Prelude.{option_map, is_some, List, [], ◌∷◌, ◌++◌, length, slice_get, if◌then◌else◌}
 use Rattle.std.specs.List.{AllByRecursion, list_any}
 use Rattle.std.specs.Option.{option_to_list}
 use Rattle.ft_io.specs.declared.Addr.{Addr}
 use Rattle.ft_io.specs.declared.Key.{Key}
 use Rattle.ft_io.specs.Key.{key_eq}
-use Rattle.tcp_rules.specs.Profile.{Profile}
+use Rattle.tcp_rules.specs.Profile.{Profile, grammar_of}
 use Rattle.seq_arith.specs.Packet.{Segment}
 use Rattle.seq_arith.specs.Message.{Message}
 use Rattle.seq_arith.specs.PacketGrammar as segments
@@ -20,7 +21,7 @@ use Rattle.ft_model.specs.Client.{Client, IsMove, received, new_client}
 use Rattle.ft_model.specs.Log.{Log, empty_log, log_after, answer_to}
 use Rattle.ft_model.specs.Network.{Packet, packet_at, destination_of}
 use Rattle.ft_model.specs.Network.Packet.{To_server, To_client, To_logger, From_logger}
-use Rattle.ft_model.specs.Wire.{wire_of, HasWire}
+use Rattle.ft_model.specs.Wire.{wire_by, HasWireBy}
 use Rattle.ft_model.specs.Node.{Node, Input, booted}
 use Rattle.ft_model.specs.Node.Input.{Packet_comes, Message_comes, Noise_comes, Tick_comes}
 use Rattle.ft_model.specs.Lawful.{LawfulTurn, hello}
@@ -92,18 +93,19 @@ abbrev pub LogReads : Result Message BadMsg → World → List Packet → World 
 LogReads (Ok message) before sent after = LogHears message before sent after
 LogReads (Err why) before sent after = NothingHappens before sent after
 
--- these bytes reach the addressee of a packet in place of its own, and are read by the grammar of its direction
+-- these bytes reach the addressee of a packet in place of its own, and are read by the grammar of its direction. That of messages is the profile's
 abbrev pub DeliveredAs : {State : Type 0} → Machine State → World → Packet → List ℕ → List Packet → World → Type 0
 DeliveredAs service before (To_server segment) bytes sent after = ServerMoves service (segment_or_noise (segments.reading bytes)) before sent after
 DeliveredAs service before (To_client segment) bytes sent after = ClientReads (destination_of segment) (segments.reading bytes) before sent after
-DeliveredAs service before (To_logger message) bytes sent after = LogReads (messages.reading bytes) before sent after
-DeliveredAs service before (From_logger message) bytes sent after = ServerMoves service (message_or_noise (messages.reading bytes)) before sent after
+DeliveredAs service before (To_logger message) bytes sent after = LogReads (messages.reading_by (grammar_of before.profile) bytes) before sent after
+DeliveredAs service before (From_logger message) bytes sent after =
+    ServerMoves service (message_or_noise (messages.reading_by (grammar_of before.profile) bytes)) before sent after
 
 -- one bit of a packet is changed on its way. It is one of the packet's bits
 pub record Flipped {State : Type 0} (service : Machine State) (before : World) (packet : Packet) (bit : ℕ) (sent : List Packet) (after : World) : Type 0 where
-  pub wire : HasWire packet
-  pub within : bit < 8 * length (wire_of packet).bytes
-  pub comes : DeliveredAs service before packet (flipped bit (wire_of packet).bytes) sent after
+  pub wire : HasWireBy (grammar_of before.profile) packet
+  pub within : bit < 8 * length (wire_by (grammar_of before.profile) packet).bytes
+  pub comes : DeliveredAs service before packet (flipped bit (wire_by (grammar_of before.profile) packet).bytes) sent after
 
 -- a packet of this world: it may be delivered next
 abbrev pub WasSent : World → Packet → Type 0

@@ -39,8 +39,8 @@ use server_trait::Service;
 /// to the same state.
 pub fn turns_are_determined<S: Service>()
     ensures { (kind : ℕ) (before after other : Node) (input : Input) (sent also : List Packet)
-        → LawfulTurn (machine (S.started kind) S.after) before input sent after
-        → LawfulTurn (machine (S.started kind) S.after) before input also other
+        → LawfulTurn (machine (S.started kind) S.after S.greeting) before input sent after
+        → LawfulTurn (machine (S.started kind) S.after S.greeting) before input also other
         → (after ≡ other) × (sent ≡ also) }
 {}
 
@@ -48,35 +48,36 @@ pub fn turns_are_determined<S: Service>()
 /// state again. Only a fenced server has no turn any more. So the laws never contradict one another.
 pub fn turns_exist<S: Service>()
     ensures { (kind : ℕ) (before : Node) (input : Input) → is_fenced before.stage ≡ false → AllCount before.stage
-        → (after : Node) × (sent : List Packet) × LawfulTurn (machine (S.started kind) S.after) before input sent after × AllCount after.stage }
+        → (after : Node) × (sent : List Packet) × LawfulTurn (machine (S.started kind) S.after S.greeting) before input sent after × AllCount after.stage }
 {}
 
 /// After each turn the last report to the client is of what is taken and answered: every segment acknowledges that and advertises the window, and a turn
 /// without a segment changes neither.
 pub fn turns_tell_the_client<S: Service>()
     ensures { (kind boot : ℕ) (server : Addr) (news : News) (before after : Point) (sent : List Packet)
-        → LiveTurn (machine (S.started kind) S.after) server boot news before after sent → IsTold before after sent }
+        → LiveTurn (machine (S.started kind) S.after S.greeting) server boot news before after sent → IsTold before after sent }
 {}
 
 /// The turn in which a connection becomes live sends a segment to its client.
 pub fn live_connections_begin_with_a_segment<S: Service>()
     ensures { (kind boot : ℕ) (server : Addr) (before after : Point) (sent : List Packet)
-        → LiveTurn (machine (S.started kind) S.after) server boot Begins before after sent → list_any is_segment sent ≡ true }
+        → LiveTurn (machine (S.started kind) S.after S.greeting) server boot Begins before after sent → list_any is_segment sent ≡ true }
 {}
 
 /// After a turn no read is left that may be made.
 pub fn turns_leave_no_read<S: Service>()
     ensures { (kind boot : ℕ) (server : Addr) (news : News) (before after : Point) (sent : List Packet)
-        → LiveTurn (machine (S.started kind) S.after) server boot news before after sent
-        → next_read (machine (S.started kind) S.after) after ≡ None }
+        → LiveTurn (machine (S.started kind) S.after S.greeting) server boot news before after sent
+        → next_read (machine (S.started kind) S.after S.greeting) after ≡ None }
 {}
 
 /// Where the unit after all output is sent for the first time, an answered read has closed the service. So for a new FIN the law on output follows from the
 /// laws of sending.
 pub fn new_fins_are_closed<S: Service>()
     ensures { (kind : ℕ) (server : Addr) (before after : Point)
-        → new_fin (machine (S.started kind) S.after) server before after
-        ≡ (if sends_fin (machine (S.started kind) S.after) before after then fin_segment (machine (S.started kind) S.after) server after ∷ [] else []) }
+        → new_fin (machine (S.started kind) S.after S.greeting) server before after
+        ≡ (if sends_fin (machine (S.started kind) S.after S.greeting) before after then fin_segment
+        (machine (S.started kind) S.after S.greeting) server after ∷ [] else []) }
 {}
 
 /// At a zero receive window the acknowledgement of a segment at the next number is used, whatever the segment carries. Nothing of it is taken where what is
@@ -84,12 +85,14 @@ pub fn new_fins_are_closed<S: Service>()
 /// windows are both zero could continue.
 pub fn shut_windows_pass_acknowledgements()
     ensures used { (p : Point) (segment : Segment) → room p ≡ 0 → first_of p.cisn segment ≡ pos (taken_units p) → uses p segment ≡ true }
-    ensures not_taken { (p : Point) (segment : Segment) → HoldsBehind p → room p ≡ 0 → (taken_after (Comes segment) p ≡ p.taken) × (fin_after (Comes segment) p ≡ p.fin) }
+    ensures not_taken { (p : Point) (segment : Segment) → HoldsBehind p → room p ≡ 0 → (taken_after (Comes segment) p ≡ p.taken)
+        × (fin_after (Comes segment) p ≡ p.fin) }
     ensures ack_pending { (p : Point) (segment : Segment) → room p ≡ 0 → 0 < length_of segment → has_rst segment ≡ false → needs_ack p segment ≡ true }
 {}
 
 /// A segment that acknowledges what was never sent changes nothing of its connection: neither its text nor its FIN is taken or held, and neither its
-/// acknowledgement nor its window is used. An established connection answers it with an ACK. While the SYN is unacknowledged, it is dropped if it is acceptable.
+/// acknowledgement nor its window is used. An established connection answers it with an ACK.
+/// While the SYN is unacknowledged, it is dropped if it is acceptable.
 pub fn unsent_acknowledgements_change_nothing()
     ensures not_taken { (p : Point) (segment : Segment) → acknowledges_unsent p segment ≡ true
         → (taken_after (Comes segment) p ≡ p.taken) × (early_after (Comes segment) p ≡ p.early) × (fin_after (Comes segment) p ≡ p.fin) }
@@ -112,29 +115,32 @@ pub fn handshakes_acknowledge_the_syn()
 /// In every joint trace the data that a live connection holds is after a gap and below the right edge of the receive window, and nothing is held once the FIN
 /// is taken.
 pub fn held_text_stands_behind<S: Service>()
-    ensures { (kind : ℕ) (start : World) (trace : List Moment) (node : Node) → Joint (machine (S.started kind) S.after) start trace
+    ensures { (kind : ℕ) (start : World) (trace : List Moment) (node : Node) → Joint (machine (S.started kind) S.after S.greeting) start trace
         → (world_after start trace).node ≡ Some node → AllByRecursion HoldsBehind (points_at node.stage) }
 {}
 
 /// Every connection has its server's profile, from its first point on and after every turn, and a trace's servers have the profile with which it starts.
 pub fn profiles_stay<S: Service>()
     ensures opened { (profile : Profile) (numbers : Numbers) → HasProfile profile (point_opened profile numbers) }
-    ensures restored { (kind : ℕ) (profile : Profile) (entry : Entry) → HasProfile profile (point_of (machine (S.started kind) S.after) profile entry) }
+    ensures restored { (kind : ℕ) (profile : Profile) (entry : Entry)
+        → HasProfile profile (point_of (machine (S.started kind) S.after S.greeting) profile entry) }
     ensures turn { (kind boot : ℕ) (profile : Profile) (server : Addr) (news : News) (before after : Point) (sent : List Packet)
-        → ConnectionTurn (machine (S.started kind) S.after) server boot news before after sent → HasProfile profile before → HasProfile profile after }
-    ensures trace { (kind : ℕ) (start : World) (trace : List Moment) (node : Node) → Joint (machine (S.started kind) S.after) start trace
+        → ConnectionTurn (machine (S.started kind) S.after S.greeting) server boot news before after sent → HasProfile profile before
+        → HasProfile profile after }
+    ensures trace { (kind : ℕ) (start : World) (trace : List Moment) (node : Node) → Joint (machine (S.started kind) S.after S.greeting) start trace
         → (world_after start trace).node ≡ Some node
         → (node.profile ≡ start.profile) × AllByRecursion (HasProfile start.profile) (points_at node.stage) }
 {}
 
 /// A plain connection's timing never changes, so its timer always starts with one tick; and an ACK that is due is pending.
 pub fn plain_stays<S: Service>()
-    ensures timing { (kind : ℕ) (start : World) (trace : List Moment) (node : Node) → Joint (machine (S.started kind) S.after) start trace
+    ensures timing { (kind : ℕ) (start : World) (trace : List Moment) (node : Node) → Joint (machine (S.started kind) S.after S.greeting) start trace
         → (world_after start trace).node ≡ Some node → start.profile ≡ plain
         → AllByRecursion (λ p. p.timing ≡ initial_timing false) (points_at node.stage) }
     ensures base { (p : Point) → p.timing ≡ initial_timing false → p.timing.base ≡ 1 }
     ensures ack { (kind : ℕ) (news : News) (before after : Point) → before.delays ≡ false
-        → is_ack_pending (machine (S.started kind) S.after) news before after ≡ is_ack_due (machine (S.started kind) S.after) news before after }
+        → is_ack_pending (machine (S.started kind) S.after S.greeting) news before after
+        ≡ is_ack_due (machine (S.started kind) S.after S.greeting) news before after }
 {}
 
 /// At the right edge of an open window a segment of length 0 is acceptable.
@@ -146,31 +152,33 @@ pub fn right_edges_accept()
 /// A schedule has at most one legal trace: its events, the scripted clients and the laws of the server leave nothing open.
 pub fn legal_traces_are_determined<S: Service>()
     ensures { (schedule : Schedule) (trace other : List Moment)
-        → Legal (machines S.started S.after) schedule trace → Legal (machines S.started S.after) schedule other → trace ≡ other }
+        → Legal (machines S.started S.after S.greeting) schedule trace → Legal (machines S.started S.after S.greeting) schedule other → trace ≡ other }
 {}
 
 /// A schedule has an outcome: all its events are done, one is refused, or the packets exceed their limit. Its premises: the schedule can start, and its
 /// events' numbers fit their types, as in every schedule that a text spells.
 pub fn schedules_have_an_outcome<S: Service>()
     ensures { (schedule : Schedule) → IsStart (start_of schedule) → AllByRecursion FitsEvent schedule.events
-        → HasOutcome (machines S.started S.after) schedule }
+        → HasOutcome (machines S.started S.after S.greeting) schedule }
 {}
 
 /// A schedule has only one outcome: no two of the three hold of it, and the event that is refused or exceeds the limit is determined, and so is the cause.
 pub fn schedules_have_one_outcome<S: Service>()
     ensures whole_or_refused { (schedule : Schedule)
-        → IsWhole (machines S.started S.after) schedule → IsRefused (machines S.started S.after) schedule → ⊥ }
+        → IsWhole (machines S.started S.after S.greeting) schedule → IsRefused (machines S.started S.after S.greeting) schedule → ⊥ }
     ensures whole_or_past { (schedule : Schedule)
-        → IsWhole (machines S.started S.after) schedule → IsPastPackets (machines S.started S.after) schedule → ⊥ }
+        → IsWhole (machines S.started S.after S.greeting) schedule → IsPastPackets (machines S.started S.after S.greeting) schedule → ⊥ }
     ensures refused_or_past { (schedule : Schedule)
-        → IsRefused (machines S.started S.after) schedule → IsPastPackets (machines S.started S.after) schedule → ⊥ }
-    ensures refused_once { (schedule : Schedule) (a b : IsRefused (machines S.started S.after) schedule)
+        → IsRefused (machines S.started S.after S.greeting) schedule → IsPastPackets (machines S.started S.after S.greeting) schedule → ⊥ }
+    ensures refused_once { (schedule : Schedule) (a b : IsRefused (machines S.started S.after S.greeting) schedule)
         → (a.played ≡ b.played) × (a.event ≡ b.event) × (a.why ≡ b.why) }
-    ensures past_once { (schedule : Schedule) (a b : IsPastPackets (machines S.started S.after) schedule) → (a.played ≡ b.played) × (a.event ≡ b.event) }
+    ensures past_once { (schedule : Schedule) (a b : IsPastPackets (machines S.started S.after S.greeting) schedule)
+        → (a.played ≡ b.played) × (a.event ≡ b.event) }
 {}
 
 /// A packet that is delivered with a changed bit changes nothing at a client or the log.
 pub fn changed_bits_are_noise<S: Service>()
-    ensures { (kind number bit : ℕ) (before after : World) (sent : List Packet) → Happens (machine (S.started kind) S.after) before (Flip number bit) sent after
+    ensures { (kind number bit : ℕ) (before after : World) (sent : List Packet)
+        → Happens (machine (S.started kind) S.after S.greeting) before (Flip number bit) sent after
         → (after.clients ≡ before.clients) × (after.log ≡ before.log) }
 {}

@@ -10,7 +10,7 @@ pub use report::{
     values_of_spellings, words_of_a_line, worked_lines,
 };
 pub use schedule::{
-    ClientLine, ClientLines, Events, Limit, LineWhy, Schedule, Script, ServiceKind,
+    ClientLine, ClientLines, Events, Lasting, Limit, LineWhy, Schedule, Script, ServiceKind,
 };
 pub use way::Way;
 

@@ -2,7 +2,7 @@
 //! together.
 
 use crate::event::Event;
-use crate::schedule::{ClientLine, Schedule, ServiceKind};
+use crate::schedule::{ClientLine, Lasting, Schedule, ServiceKind};
 use ft_io::Addr;
 use tcp_rules::Profile;
 
@@ -30,6 +30,7 @@ pub enum Keyword {
     Profile,
     Twin,
     Marks,
+    Lasting,
     Client,
     Event(Verb),
 }
@@ -45,6 +46,8 @@ pub enum Line {
     Twin,
     /// The server marks the log after this many reads.
     Marks(u32),
+    /// The server is one that lasts, and waits so long.
+    Lasting(Lasting),
     Client(ClientLine),
     Event(Event),
 }

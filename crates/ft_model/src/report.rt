@@ -11,7 +11,8 @@ ghost use Rattle.seq_arith.specs.Message.Body.{HelloMsg};
 ghost use Rattle.ft_model.specs.Client.{Client};
 ghost use Rattle.ft_model.specs.Network.{Packet};
 ghost use Rattle.ft_model.specs.FirstPath.{client_key, from_client, from_server, hello, opening, bytes_to_log, read, stable, reads, entry, part, cuts, lens};
-ghost use Rattle.ft_model.specs.Report.{event_line, packet_line, line_of_packet, forward_words, got_words, way_of, turns_of, report, profile_line, phase_line};
+ghost use Rattle.ft_model.specs.Report.{event_line, packet_line, line_of_packet, forward_words, got_words, way_of, turns_of, report, profile_line};
+ghost use Rattle.ft_model.specs.Report.{lasting_line, phase_line};
 ghost use Rattle.ft_model.specs.Report.{entry_line, end_line};
 ghost use Rattle.ft_model.specs.Schedule.{clients_of};
 ghost use Rattle.ft_model.specs.World.{Moment};
@@ -60,11 +61,14 @@ pub fn worked_lines()
     ensures lens { packet_line 23 LoggerToServer lens
         ≡ codes "packet 23 L>S Lens boot 2 key 192.0.2.1:40000 first 0 lens 2,1\n" }
 
-    ensures forward { line_of_packet 2 HeadToTail (forward_words 1 (record { boot = 1; body = HelloMsg })) ≡ codes "packet 2 H>T Forward number 1 Hello boot 1\n" }
+    ensures forward { line_of_packet 2 HeadToTail (forward_words 1 (record { boot = 1; body = HelloMsg }))
+        ≡ codes "packet 2 H>T Forward number 1 Hello boot 1\n" }
     ensures got { line_of_packet 4 TailToHead (got_words 1) ≡ codes "packet 4 T>H Got number 1\n" }
 
     ensures profile { profile_line Wan ≡ codes "profile wan\n" }
     ensures plain_profile { profile_line Plain ≡ [] }
+    ensures lasting { lasting_line (Some (record { wait = 2; silence = 0 })) ≡ codes "lasting 2 0\n" }
+    ensures not_lasting { lasting_line None ≡ [] }
     ensures client { phase_line 1 Established (codes "hello") ≡ codes "client 1 open accepted 5 68656c6c6f\n" }
     ensures log { entry_line client_key 5 false 0 false (5 ∷ [])
         ≡ codes "log 192.0.2.1:40000 length 5 fin 0 acked 0 done 0 reads 5\n" }
@@ -105,19 +109,19 @@ pub fn turns_of_reports()
         → AllByRecursion (IsReadableTurn other.server (clients_of other.server other.clients)) also
         → report schedule trace ≡ report other also
         → (schedule.service ≡ other.service) × (schedule.server ≡ other.server) × (schedule.profile ≡ other.profile) × (schedule.twin ≡ other.twin)
-        × (schedule.marks ≡ other.marks) × (schedule.clients ≡ other.clients) × (turns_of trace ≡ turns_of also) }
+        × (schedule.marks ≡ other.marks) × (schedule.lasting ≡ other.lasting) × (schedule.clients ≡ other.clients) × (turns_of trace ≡ turns_of also) }
 {}
 
 /// A report determines its schedule and its trace: two legal traces have the same report only where their schedules are the same, and the traces too.
 pub fn reports_tell_their_traces<S: Service>()
     ensures { (schedule other : Schedule) (trace also : List Moment) → FitsSchedule schedule → FitsSchedule other
-        → Legal (machines S.started S.after) schedule trace → Legal (machines S.started S.after) other also
+        → Legal (machines S.started S.after S.greeting) schedule trace → Legal (machines S.started S.after S.greeting) other also
         → report schedule trace ≡ report other also → (schedule ≡ other) × (trace ≡ also) }
 {}
 
 /// All that is sent in a legal trace has a line that determines it: it has a wire, and a segment has the addresses of a client and of the server. The premise
 /// is that the schedule's numbers fit their types.
 pub fn legal_turns_are_readable<S: Service>()
-    ensures { (schedule : Schedule) (trace : List Moment) → FitsSchedule schedule → Legal (machines S.started S.after) schedule trace
+    ensures { (schedule : Schedule) (trace : List Moment) → FitsSchedule schedule → Legal (machines S.started S.after S.greeting) schedule trace
         → AllByRecursion (IsReadableTurn schedule.server (clients_of schedule.server schedule.clients)) trace }
 {}

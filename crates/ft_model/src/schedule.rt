@@ -156,6 +156,15 @@ impl Events {
     }
 }
 
+/// How long a server that lasts waits, in ticks.
+#[derive(Clone, Copy)]
+pub struct Lasting {
+    /// How long a connection that is done is in quarantine.
+    pub wait: u32,
+    /// After how long a silence a client is sent a keep-alive. 0: never.
+    pub silence: u32,
+}
+
 /// A run as it is written down: the service, the server's address, the clients, and the events in order.
 #[derive(Drop)]
 pub struct Schedule {
@@ -169,6 +178,8 @@ pub struct Schedule {
     pub twin: bool,
     /// The number of reads after which the server marks the log, if it does.
     pub marks: Option<u32>,
+    /// How long the server waits, if it is one that lasts.
+    pub lasting: Option<Lasting>,
     /// At most 16 in a schedule that a text spells.
     pub clients: ClientLines,
     /// At most 100,000 in a schedule that a text spells.

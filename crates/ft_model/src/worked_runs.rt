@@ -22,6 +22,7 @@ ghost use Rattle.ft_model.specs.WorkedRuns.BeyondNext;
 ghost use Rattle.ft_model.specs.WorkedRuns.HeldSegments;
 ghost use Rattle.ft_model.specs.WorkedRuns.CongestionWindow;
 ghost use Rattle.ft_model.specs.WorkedRuns.DelayedAck;
+ghost use Rattle.ft_model.specs.WorkedRuns.Batch;
 ghost use Rattle.ft_model.specs.WorkedRuns.MeasuredRecovery;
 ghost use Rattle.ft_model.specs.WorkedRuns.CrashBeforeSynAck;
 ghost use Rattle.ft_model.specs.WorkedRuns.ClientKnowsMore;
@@ -87,9 +88,12 @@ pub fn congestion_window_is_legal()
 
 /// No fifth segment may be sent at once. The missing one may not be retransmitted at the second duplicate, and must be at the third.
 pub fn wrong_windows_are_refused()
-    ensures past_it { CongestionWindow.IsUnlawful (FirstPath.node_live CongestionWindow.logged_point) CongestionWindow.read_is_logged CongestionWindow.past_the_window }
-    ensures early { CongestionWindow.IsUnlawful (FirstPath.node_live (CongestionWindow.repeated 1)) CongestionWindow.acknowledgement_comes CongestionWindow.one_too_early }
-    ensures never { CongestionWindow.IsUnlawful (FirstPath.node_live (CongestionWindow.repeated 2)) CongestionWindow.acknowledgement_comes CongestionWindow.never_again }
+    ensures past_it { CongestionWindow.IsUnlawful
+        (FirstPath.node_live CongestionWindow.logged_point) CongestionWindow.read_is_logged CongestionWindow.past_the_window }
+    ensures early { CongestionWindow.IsUnlawful
+        (FirstPath.node_live (CongestionWindow.repeated 1)) CongestionWindow.acknowledgement_comes CongestionWindow.one_too_early }
+    ensures never { CongestionWindow.IsUnlawful
+        (FirstPath.node_live (CongestionWindow.repeated 2)) CongestionWindow.acknowledgement_comes CongestionWindow.never_again }
 {}
 
 /// The first path with the profile for wide-area networks: the text gets no ACK until the log has answered. The complete run is a legal trace of its schedule,
@@ -97,6 +101,20 @@ pub fn wrong_windows_are_refused()
 pub fn delayed_acks_are_legal()
     ensures legal { Legal (λ kind. echo) DelayedAck.schedule DelayedAck.trace }
     ensures told { report DelayedAck.schedule DelayedAck.trace ≡ concat DelayedAck.report_lines }
+{}
+
+/// With that profile the Data of a turn are a batch: each but the last says that another follows, and the log answers only the last. The complete run, in which
+/// two texts are copied in one turn, is a legal trace of its schedule, and its report has these lines.
+pub fn batches_are_legal()
+    ensures legal { Legal (λ kind. echo) Batch.schedule Batch.trace }
+    ensures told { report Batch.schedule Batch.trace ≡ concat Batch.report_lines }
+{}
+
+/// With that profile, neither may all Data of a turn leave it out that another follows, nor may the last or only one say so.
+pub fn wrong_batches_are_refused()
+    ensures none { IsUnlawful (DelayedAck.node_live Batch.held_point) HeldSegments.gap_filled Batch.none_follows }
+    ensures last { IsUnlawful (DelayedAck.node_live Batch.held_point) HeldSegments.gap_filled Batch.another_follows }
+    ensures only { IsUnlawful (DelayedAck.node_live DelayedAck.open_point) FirstPath.text_comes Batch.single_of_more }
 {}
 
 /// With that profile the timer follows the measured round trip, and each partial acknowledgement retransmits the next missing segment, after an expiry too. The
@@ -111,7 +129,8 @@ pub fn measured_recoveries_are_legal()
 pub fn wrong_turns_over_a_wide_area_are_refused()
     ensures at_once { IsUnlawful (DelayedAck.node_live DelayedAck.open_point) FirstPath.text_comes DelayedAck.acked_at_once }
     ensures early { CongestionWindow.IsUnlawful (DelayedAck.node_live (MeasuredRecovery.waiting 2)) Tick_comes MeasuredRecovery.one_too_early }
-    ensures never { CongestionWindow.IsUnlawful (DelayedAck.node_live MeasuredRecovery.losing_point) (MeasuredRecovery.acknowledged 1072) MeasuredRecovery.never_recovered }
+    ensures never { CongestionWindow.IsUnlawful (DelayedAck.node_live MeasuredRecovery.losing_point) (MeasuredRecovery.acknowledged 1072)
+        MeasuredRecovery.never_recovered }
     ensures never_later { CongestionWindow.IsUnlawful (DelayedAck.node_live MeasuredRecovery.expired_point) (MeasuredRecovery.acknowledged 1608)
         MeasuredRecovery.never_recovered_later }
 {}

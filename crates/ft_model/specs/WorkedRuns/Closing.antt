@@ -10,7 +10,8 @@ use Rattle.ft_model.specs.Point.{Point}
 use Rattle.ft_model.specs.Opening.{point_opened}
 use Rattle.ft_model.specs.Restart.{Fetched}
 use Rattle.ft_model.specs.Lawful.{Turn}
-use Rattle.ft_model.specs.WorkedRuns.Common.{key, client_segment, to_client, to_log, numbers, kept_with, part_with, on_message, on_segment, on_tick, serving_at, idle, opening_at, fetching, head_with, fetched_with, congestion_with}
+use Rattle.ft_model.specs.WorkedRuns.Common.{key, client_segment, to_client, to_log, numbers, kept_with, part_with, on_message, on_segment, on_tick}
+use Rattle.ft_model.specs.WorkedRuns.Common.{serving_at, idle, opening_at, fetching, head_with, fetched_with, congestion_with}
 
 -- the client's segments
 abbrev pub syn : Segment
@@ -78,7 +79,8 @@ first_4 = on_segment first_ack [] (serving_at 1 5000 opened)
 
 -- the FIN is copied and read, and not yet acknowledged
 abbrev pub first_5 : Turn
-first_5 = on_segment fin (to_client 16 5001 1001 65535 None [] ∷ to_log 1 (DataMsg (part_with 0 0 true [])) ∷ to_log 1 (ReadMsg key 0 0) ∷ []) (serving_at 1 5000 taken)
+first_5 = on_segment fin (to_client 16 5001 1001 65535 None [] ∷ to_log 1 (DataMsg (part_with 0 0 true [])) ∷ to_log 1 (ReadMsg key 0 0) ∷ [])
+    (serving_at 1 5000 taken)
 
 -- it is logged, so it is acknowledged
 abbrev pub first_6 : Turn

@@ -34,7 +34,7 @@ abbrev pub echoed : Bool → List ℕ → Served Bool
 echoed state chunk = record { next = state; output = chunk; closed = length chunk == 0 }
 
 abbrev pub echo : Machine Bool
-echo = record { fresh = false; after = echoed }
+echo = record { fresh = false; greeting = []; after = echoed }
 
 -- the bytes of "hello"
 abbrev pub hello_text : List ℕ
@@ -82,7 +82,7 @@ abbrev pub kept_with : (len : ℕ) → (fin : Bool) → (reads : ℕ) → Kept
 kept_with len fin reads = record { key = key; length = len; fin = fin; reads = reads }
 
 abbrev pub part_with : (offset acked : ℕ) → (fin : Bool) → List ℕ → Part
-part_with offset acked fin bytes = record { key = key; offset = offset; acked = acked; fin = fin; bytes = bytes }
+part_with offset acked fin bytes = record { key = key; offset = offset; acked = acked; fin = fin; more = false; bytes = bytes }
 
 -- a turn in which a message of this boot comes, or a segment of client 1, or a tick
 abbrev pub on_message : ℕ → Body → List Packet → Node → Turn

@@ -18,8 +18,10 @@ use Rattle.ft_model.specs.Point.{Point}
 use Rattle.ft_model.specs.Texts.{hex_text}
 use Rattle.ft_model.specs.World.{World, Moment}
 use Rattle.ft_model.specs.Legal.{start_of}
-use Rattle.ft_model.specs.WorkedRuns.Common.{server, key, client_with, client_segment, from_client, to_client, to_log, from_log, numbers, kept_with, part_with, congestion_with}
-use Rattle.ft_model.specs.WorkedRuns.FirstPath.{moment, log_with, opened_entry, begun_point, open_point, node_at, node_live, packet_1, packet_2, packet_3, packet_4, packet_5, packet_6, packet_7, packet_9}
+use Rattle.ft_model.specs.WorkedRuns.Common.{server, key, client_with, client_segment, from_client, to_client, to_log, from_log, numbers, kept_with}
+use Rattle.ft_model.specs.WorkedRuns.Common.{part_with, congestion_with}
+use Rattle.ft_model.specs.WorkedRuns.FirstPath.{moment, log_with, opened_entry, begun_point, open_point, node_at, node_live, packet_1, packet_2}
+use Rattle.ft_model.specs.WorkedRuns.FirstPath.{packet_3, packet_4, packet_5, packet_6, packet_7, packet_9}
 use Rattle.ft_model.specs.declared.event.Event.TheVariants.{Boot, Deliver, Begin, Send, Ack}
 use Rattle.ft_model.specs.declared.phase.Phase.TheVariants.{Opening, Established}
 use Rattle.ft_model.specs.declared.schedule.Schedule.{Schedule}
@@ -44,7 +46,7 @@ abbrev pub transferred : ℕ → List ℕ → Served ℕ
 transferred place chunk = record { next = place + length (given place chunk); output = given place chunk; closed = length chunk == 0 }
 
 abbrev pub transfer : Machine ℕ
-transfer = record { fresh = 0; after = transferred }
+transfer = record { fresh = 0; greeting = []; after = transferred }
 
 -- two requests of 2,047 bytes each
 abbrev pub requests : List ℕ
@@ -57,6 +59,7 @@ schedule = record {
   profile = Plain;
   twin = false;
   marks = None;
+  lasting = None;
   clients = record { key = key; isn = 1000; script = Bytes requests } ∷ [];
   events = Boot 1 5000 ∷ Deliver 1 ∷ Deliver 2 ∷ Begin 1 65535 ∷ Deliver 3 ∷ Deliver 4 ∷ Deliver 5 ∷ Deliver 6 ∷ Ack 1 65535 ∷ Deliver 7 ∷ Send 1 0 8 ∷ Deliver 8
       ∷ Deliver 10 ∷ Deliver 12 ∷ Deliver 11 ∷ Deliver 14 ∷ Deliver 15 ∷ Ack 1 65535 ∷ Deliver 19 ∷ Ack 1 65535 ∷ Ack 1 65535 ∷ Ack 1 65535 ∷ Deliver 23 ∷ Deliver 24
@@ -193,7 +196,8 @@ moment_18 = moment (Ack 1 65535) (acknowledgement ∷ []) (record moment_17.worl
 
 -- so it has left the network and the window is a segment larger: two more are sent
 abbrev pub moment_19 : Moment
-moment_19 = moment (Deliver 19) (text 2144 536 ∷ text 2680 536 ∷ to_log 1 (DataMsg (part_with 8 536 false [])) ∷ []) (record moment_18.world { node = Some (node_live grown_point) })
+moment_19 = moment (Deliver 19) (text 2144 536 ∷ text 2680 536 ∷ to_log 1 (DataMsg (part_with 8 536 false [])) ∷ [])
+    (record moment_18.world { node = Some (node_live grown_point) })
 
 -- the second one is lost, and the client acknowledges the first one again at each of the next three
 abbrev pub moment_20 : Moment

@@ -13,7 +13,9 @@ use Rattle.ft_model.specs.Node.Stage.{Serving}
 use Rattle.ft_model.specs.World.{World, Moment}
 use Rattle.ft_model.specs.Legal.{start_of}
 use Rattle.ft_model.specs.WorkedRuns.Common.{server, key, hello_text, numbers}
-use Rattle.ft_model.specs.WorkedRuns.FirstPath.{moment, log_with, opened_entry, filled_entry, read_entry, opening, open_client, told_client, served_client, packet_1, packet_2, packet_3, packet_4, packet_5, packet_6, packet_7, packet_8, packet_9, packet_10, packet_11, packet_12, packet_13, packet_14, packet_15}
+use Rattle.ft_model.specs.WorkedRuns.FirstPath.{moment, log_with, opened_entry, filled_entry, read_entry, opening, open_client, told_client, served_client}
+use Rattle.ft_model.specs.WorkedRuns.FirstPath.{packet_1, packet_2, packet_3, packet_4, packet_5, packet_6, packet_7, packet_8}
+use Rattle.ft_model.specs.WorkedRuns.FirstPath.{packet_9, packet_10, packet_11, packet_12, packet_13, packet_14, packet_15}
 use Rattle.ft_model.specs.declared.event.Event.TheVariants.{Boot, Deliver, Begin, Send, Ack}
 use Rattle.ft_model.specs.declared.schedule.Schedule.{Schedule}
 use Rattle.ft_model.specs.declared.schedule.Script.TheVariants.{Bytes}
@@ -26,6 +28,7 @@ schedule = record {
   profile = Wan;
   twin = false;
   marks = None;
+  lasting = None;
   clients = record { key = key; isn = 1000; script = Bytes hello_text } ∷ [];
   events = Boot 1 5000 ∷ Deliver 1 ∷ Deliver 2 ∷ Begin 1 65535 ∷ Deliver 3 ∷ Deliver 4 ∷ Deliver 5 ∷ Deliver 6 ∷ Ack 1 65535 ∷ Deliver 7
       ∷ Send 1 0 5 ∷ Deliver 8 ∷ Deliver 9 ∷ Deliver 11 ∷ Deliver 10 ∷ Deliver 13 ∷ Deliver 14 ∷ [];
@@ -115,11 +118,12 @@ moment_16 = moment (Deliver 13) (packet_15 ∷ []) (record moment_15.world { nod
 abbrev pub moment_17 : Moment
 moment_17 = moment (Deliver 14) [] (record moment_16.world { clients = served_client ∷ [] })
 
--- the whole trace, newest moment first
+-- the trace up to the open connection, and the whole one, newest moment first
+abbrev pub opening_trace : List Moment
+opening_trace = moment_10 ∷ moment_9 ∷ moment_8 ∷ moment_7 ∷ moment_6 ∷ moment_5 ∷ moment_4 ∷ moment_3 ∷ moment_2 ∷ moment_1 ∷ []
+
 abbrev pub trace : List Moment
-trace =
-    moment_17 ∷ moment_16 ∷ moment_15 ∷ moment_14 ∷ moment_13 ∷ moment_12 ∷ moment_11 ∷ moment_10 ∷ moment_9 ∷ moment_8 ∷ moment_7 ∷ moment_6
-    ∷ moment_5 ∷ moment_4 ∷ moment_3 ∷ moment_2 ∷ moment_1 ∷ []
+trace = moment_17 ∷ moment_16 ∷ moment_15 ∷ moment_14 ∷ moment_13 ∷ moment_12 ∷ moment_11 ∷ opening_trace
 
 -- A wrong turn: the text gets its ACK at once, as with the plain profile
 abbrev pub acked_at_once : List Packet

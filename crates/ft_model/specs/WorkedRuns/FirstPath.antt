@@ -15,7 +15,8 @@ use Rattle.ft_model.specs.World.{World, Moment}
 use Rattle.ft_model.specs.declared.event.Event.{Event}
 use Rattle.ft_model.specs.declared.event.Event.TheVariants.{Boot, Deliver, Begin, Send, Ack}
 use Rattle.ft_model.specs.declared.phase.Phase.TheVariants.{Opening, Established}
-use Rattle.ft_model.specs.WorkedRuns.Common.{server, key, hello_text, client_with, start_with, client_segment, from_client, to_client, to_log, from_log, numbers, kept_with, part_with}
+use Rattle.ft_model.specs.WorkedRuns.Common.{server, key, hello_text, client_with, start_with, client_segment, from_client, to_client, to_log}
+use Rattle.ft_model.specs.WorkedRuns.Common.{from_log, numbers, kept_with, part_with}
 
 abbrev pub start : World
 start = start_with hello_text

@@ -10,7 +10,8 @@ use Rattle.ft_model.specs.Node.Input.{Packet_comes}
 use Rattle.ft_model.specs.Point.{Point}
 use Rattle.ft_model.specs.World.{Moment}
 use Rattle.ft_model.specs.WorkedRuns.Common.{server, key, hello_text, client_segment, from_client, to_client, to_log, part_with}
-use Rattle.ft_model.specs.WorkedRuns.FirstPath.{moment, opening_trace, moment_10, open_client, told_client, open_point, taken_point, node_live, packet_10, packet_11}
+use Rattle.ft_model.specs.WorkedRuns.FirstPath.{moment, opening_trace, moment_10, open_client, told_client, open_point, taken_point, node_live}
+use Rattle.ft_model.specs.WorkedRuns.FirstPath.{packet_10, packet_11}
 use Rattle.ft_model.specs.declared.event.Event.TheVariants.{Boot, Deliver, Begin, Send, Ack}
 use Rattle.ft_model.specs.declared.schedule.Schedule.{Schedule}
 use Rattle.ft_model.specs.declared.schedule.Script.TheVariants.{Bytes}
@@ -24,6 +25,7 @@ schedule = record {
   profile = Plain;
   twin = false;
   marks = None;
+  lasting = None;
   clients = record { key = key; isn = 1000; script = Bytes hello_text } ∷ [];
   events = Boot 1 5000 ∷ Deliver 1 ∷ Deliver 2 ∷ Begin 1 65535 ∷ Deliver 3 ∷ Deliver 4 ∷ Deliver 5 ∷ Deliver 6 ∷ Ack 1 65535 ∷ Deliver 7 ∷ Send 1 0 2 ∷ Send 1 2 3
       ∷ Deliver 9 ∷ Deliver 8 ∷ [];

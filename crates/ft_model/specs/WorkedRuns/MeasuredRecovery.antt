@@ -1,6 +1,6 @@
--- The profile for wide-area networks: a client asks for 2,047 bytes, and four segments are sent. The round trip of the first is measured, and the timer follows it.
--- The second counts as lost at the third duplicate. A partial acknowledgement retransmits the third at once, and it again when the timer expires, which doubles
--- its interval. The next partial acknowledgement retransmits the fourth. After a crash a restart measures anew. Forty-nine events, thirty-nine packets.
+-- The profile for wide-area networks: a client asks for 2,047 bytes, and four segments are sent. The round trip of the first is measured, and the timer follows
+-- it. The second counts as lost at the third duplicate. At a partial acknowledgement the third is retransmitted at once, and once more when the timer expires,
+-- which doubles its interval. At the next partial acknowledgement the fourth is. After a crash a restart measures anew. Forty-nine events, thirty-nine packets.
 use Rattle.std.specs.Prelude.{ℕ, codes, ◌+◌, ◌-◌, true, false, None, Some, List, [], ◌∷◌, pos}
 use Rattle.tcp_rules.specs.Profile.{wan}
 use Rattle.tcp_rules.specs.Timing.{Timing}
@@ -18,7 +18,8 @@ use Rattle.ft_model.specs.Point.{Point, blank_point}
 use Rattle.ft_model.specs.Restart.{Fetched}
 use Rattle.ft_model.specs.World.{World, Moment}
 use Rattle.ft_model.specs.Legal.{start_of}
-use Rattle.ft_model.specs.WorkedRuns.Common.{server, key, client_with, client_segment, from_client, to_client, to_log, from_log, numbers, kept_with, part_with, recovery_with, serving_in, head_with, fetched_with}
+use Rattle.ft_model.specs.WorkedRuns.Common.{server, key, client_with, client_segment, from_client, to_client, to_log}
+use Rattle.ft_model.specs.WorkedRuns.Common.{from_log, numbers, kept_with, part_with, recovery_with, serving_in, head_with, fetched_with}
 use Rattle.ft_model.specs.WorkedRuns.CongestionWindow.{pattern, with_pattern}
 use Rattle.ft_model.specs.WorkedRuns.DelayedAck.{timing_of, begun_point, open_point, node_at, node_live}
 use Rattle.ft_model.specs.WorkedRuns.FirstPath.{moment, log_with, opened_entry, packet_1, packet_2, packet_3, packet_4, packet_5, packet_6, packet_7}
@@ -39,6 +40,7 @@ schedule = record {
   profile = Wan;
   twin = false;
   marks = None;
+  lasting = None;
   clients = record { key = key; isn = 1000; script = Bytes request } ∷ [];
   events = Boot 1 5000 ∷ Deliver 1 ∷ Deliver 2 ∷ Begin 1 65535 ∷ Deliver 3 ∷ Deliver 4 ∷ Deliver 5 ∷ Deliver 6 ∷ Ack 1 65535 ∷ Deliver 7
       ∷ Send 1 0 4 ∷ Deliver 8 ∷ Deliver 9 ∷ Deliver 11 ∷ Deliver 10 ∷ Deliver 13 ∷ Tick ∷ Tick ∷ Deliver 14 ∷ Ack 1 65535 ∷ Deliver 18 ∷ Ack 1 65535
@@ -70,8 +72,8 @@ filled_entry = record opened_entry { bytes = request }
 abbrev pub read_entry : Entry
 read_entry = record filled_entry { lengths = 4 ∷ [] }
 
--- The estimate when the first unit's round trip took two ticks, and when the timer has expired. A sample: smoothed 16 eighths, a variation of 4 quarters, and an
--- interval of 2 + 4 ticks
+-- the estimate when the first unit's round trip took two ticks, which are 16 eighths, with a variation of 4 quarters: the interval is 2 + 4 ticks. And when the
+-- timer has expired
 abbrev pub sampled : Timing
 sampled = record (timing_of 1) { ticks = 2; timed = false; sampled = true; smoothed = 16; variation = 4; base = 6 }
 
@@ -94,7 +96,16 @@ ticked = λ ticks. record sent_point { rest = 10 - ticks; timing = record (timin
 
 -- .. when the first segment is acknowledged, after so many duplicates of that, and at the third, ..
 abbrev pub measured_point : Point
-measured_point = record sent_point { una = 536; edge = 66071; wl1 = pos 4; wl2 = 536; congestion = recovery_with 2680 65535 0 0; timing = sampled; interval = 6; rest = 6 }
+measured_point = record sent_point {
+  una = 536;
+  edge = 66071;
+  wl1 = pos 4;
+  wl2 = 536;
+  congestion = recovery_with 2680 65535 0 0;
+  timing = sampled;
+  interval = 6;
+  rest = 6;
+}
 
 abbrev pub repeated : ℕ → Point
 repeated = λ dups. record measured_point { congestion = recovery_with 2680 65535 dups 0 }

@@ -40,7 +40,8 @@ turn_6 = on_message 2 (LensMsg key 1 (1 ∷ [])) (to_log 2 (BytesMsg key 2) ∷ 
 
 -- no length is missing any more, only the bytes that no logged read has taken
 abbrev pub turn_7 : Turn
-turn_7 = on_message 2 (PartMsg key 2 (108 ∷ [])) (to_log 2 (BytesMsg key 3) ∷ []) (fetching 2 900000 (fetched_with head (104 ∷ 101 ∷ 108 ∷ []) (2 ∷ 1 ∷ []) ∷ []))
+turn_7 = on_message 2 (PartMsg key 2 (108 ∷ [])) (to_log 2 (BytesMsg key 3) ∷ [])
+    (fetching 2 900000 (fetched_with head (104 ∷ 101 ∷ 108 ∷ []) (2 ∷ 1 ∷ []) ∷ []))
 
 abbrev pub turn_8 : Turn
 turn_8 = on_message 2 (PartMsg key 3 (108 ∷ 111 ∷ [])) (to_client 16 5001 1006 65535 None [] ∷ to_log 2 (ReadMsg key 2 2) ∷ []) (serving_at 2 900000 restarted)

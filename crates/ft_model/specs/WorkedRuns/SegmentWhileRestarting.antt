@@ -31,7 +31,8 @@ restart_5 = serves_again
 
 -- the output of the fetched read is sent, and the new byte is copied and read
 abbrev pub restart_6 : Turn
-restart_6 = on_segment more (to_client 16 5001 1006 65535 None hello_text ∷ to_log 2 (DataMsg (part_with 5 0 false (33 ∷ []))) ∷ to_log 2 (ReadMsg key 1 1) ∷ []) (serving_at 2 900000 taken)
+restart_6 = on_segment more (to_client 16 5001 1006 65535 None hello_text ∷ to_log 2 (DataMsg (part_with 5 0 false (33 ∷ []))) ∷ to_log 2
+    (ReadMsg key 1 1) ∷ []) (serving_at 2 900000 taken)
 
 -- the second incarnation's turns, newest first
 abbrev pub restart_turns : List Turn

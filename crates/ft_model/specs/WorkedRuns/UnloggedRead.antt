@@ -11,7 +11,8 @@ use Rattle.ft_model.specs.Node.{booted}
 use Rattle.ft_model.specs.Point.{Point}
 use Rattle.ft_model.specs.World.{Moment}
 use Rattle.ft_model.specs.declared.event.Event.TheVariants.{Boot, Crash, Deliver, Send}
-use Rattle.ft_model.specs.WorkedRuns.Common.{server, key, hello_text, from_client, to_client, to_log, from_log, kept_with, part_with, head_with, fetching, serving_at}
+use Rattle.ft_model.specs.WorkedRuns.Common.{server, key, hello_text, from_client, to_client, to_log, from_log, kept_with, part_with, head_with}
+use Rattle.ft_model.specs.WorkedRuns.Common.{fetching, serving_at}
 use Rattle.ft_model.specs.WorkedRuns.FirstPath.{moment, opening_trace, moment_10, open_client, opened_entry, open_point, node_live}
 
 -- for each read the service writes one byte, the read's length, and it closes at the end of input
@@ -19,7 +20,7 @@ abbrev pub metered : Bool → List ℕ → Served Bool
 metered state chunk = record { next = state; output = length chunk ∷ []; closed = length chunk == 0 }
 
 abbrev pub meter : Machine Bool
-meter = record { fresh = false; after = metered }
+meter = record { fresh = false; greeting = []; after = metered }
 
 -- the bytes of "hel"
 abbrev pub first_text : List ℕ
@@ -112,7 +113,8 @@ restart_trace told =
 
 -- Early output. The output is sent before its read is logged, and the network delivers it only once the second read is logged. The law Output refuses the turn.
 abbrev pub early_22 : Moment
-early_22 = moment (Deliver 20) (from_log 2 (ReadsMsg (kept_with 5 false 1)) ∷ []) (record (moment_21 early).world { log = log_with (record filled_entry { lengths = 5 ∷ [] }) })
+early_22 = moment (Deliver 20) (from_log 2 (ReadsMsg (kept_with 5 false 1)) ∷ [])
+    (record (moment_21 early).world { log = log_with (record filled_entry { lengths = 5 ∷ [] }) })
 
 abbrev pub early_client : Client
 early_client = record whole_client { accepted = 3 ∷ [] }
@@ -129,7 +131,8 @@ abbrev pub before_unfenced : List Moment
 before_unfenced = moment_21 bare ∷ moment_20 bare ∷ moment_19 bare ∷ moment_18 bare ∷ moment_17 bare ∷ moment_16 bare ∷ moment_15 bare ∷ moment_14 bare ∷ moment_13 bare ∷ moment_12 bare ∷ sent_trace
 
 abbrev pub unfenced : Moment
-unfenced = moment (Deliver 11) (from_log 1 (ReadsMsg (kept_with 5 false 1)) ∷ []) (record (moment_21 bare).world { log = log_with (record filled_entry { lengths = 3 ∷ [] }) })
+unfenced = moment (Deliver 11) (from_log 1 (ReadsMsg (kept_with 5 false 1)) ∷ [])
+    (record (moment_21 bare).world { log = log_with (record filled_entry { lengths = 3 ∷ [] }) })
 
 abbrev pub unfenced_23 : Moment
 unfenced_23 = moment (Deliver 20) (from_log 2 (ReadsMsg (kept_with 5 false 1)) ∷ []) unfenced.world
@@ -138,7 +141,8 @@ abbrev pub released_point : Point
 released_point = record second_point { answered = 5; reads_answered = 1; sent = 1; rest = 1 }
 
 abbrev pub unfenced_24 : Moment
-unfenced_24 = moment (Deliver 23) (to_client 16 5001 1006 65535 None (5 ∷ []) ∷ []) (record unfenced_23.world { node = Some (serving_at 2 900000 released_point) })
+unfenced_24 = moment (Deliver 23) (to_client 16 5001 1006 65535 None (5 ∷ []) ∷ [])
+    (record unfenced_23.world { node = Some (serving_at 2 900000 released_point) })
 
 abbrev pub unfenced_client : Client
 unfenced_client = record whole_client { acknowledged = 5; accepted = 5 ∷ [] }

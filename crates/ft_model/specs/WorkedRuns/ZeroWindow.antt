@@ -7,7 +7,8 @@ use Rattle.ft_model.specs.Network.{Packet}
 use Rattle.ft_model.specs.Point.{Point}
 use Rattle.ft_model.specs.Opening.{point_opened}
 use Rattle.ft_model.specs.Lawful.{Turn}
-use Rattle.ft_model.specs.WorkedRuns.Common.{key, hello_text, client_segment, to_client, to_log, numbers, kept_with, part_with, on_message, on_segment, on_tick, serving_at, idle, opening_at, congestion_with}
+use Rattle.ft_model.specs.WorkedRuns.Common.{key, hello_text, client_segment, to_client, to_log, numbers, kept_with, part_with, on_message}
+use Rattle.ft_model.specs.WorkedRuns.Common.{on_segment, on_tick, serving_at, idle, opening_at, congestion_with}
 
 -- the client's segments, with window 0 until the last
 abbrev pub syn : Segment
@@ -61,7 +62,8 @@ abbrev pub probe_4 : Turn
 probe_4 = on_segment first_ack [] (serving_at 1 5000 opened)
 
 abbrev pub probe_5 : Turn
-probe_5 = on_segment text (to_client 16 5001 1001 65535 None [] ∷ to_log 1 (DataMsg (part_with 0 0 false hello_text)) ∷ to_log 1 (ReadMsg key 0 5) ∷ []) (serving_at 1 5000 taken)
+probe_5 = on_segment text (to_client 16 5001 1001 65535 None [] ∷ to_log 1 (DataMsg (part_with 0 0 false hello_text)) ∷ to_log 1 (ReadMsg key 0 5) ∷ [])
+    (serving_at 1 5000 taken)
 
 abbrev pub probe_6 : Turn
 probe_6 = on_message 1 (StableMsg (kept_with 5 false 0)) (to_client 16 5001 1006 65535 None [] ∷ []) (serving_at 1 5000 logged)
@@ -126,7 +128,8 @@ abbrev pub over : Point
 over = record (fin_probed 1 0) { una = 1; edge = 1; wl1 = pos 1; wl2 = 1; congestion = congestion_with 2145 65535 0 }
 
 abbrev pub fin_5 : Turn
-fin_5 = on_segment fin (to_client 16 5001 1001 65535 None [] ∷ to_log 1 (DataMsg (part_with 0 0 true [])) ∷ to_log 1 (ReadMsg key 0 0) ∷ []) (serving_at 1 5000 fin_taken)
+fin_5 = on_segment fin (to_client 16 5001 1001 65535 None [] ∷ to_log 1 (DataMsg (part_with 0 0 true [])) ∷ to_log 1 (ReadMsg key 0 0) ∷ [])
+    (serving_at 1 5000 fin_taken)
 
 abbrev pub fin_6 : Turn
 fin_6 = on_message 1 (StableMsg (kept_with 0 true 0)) (to_client 16 5001 1002 65535 None [] ∷ []) (serving_at 1 5000 fin_logged)

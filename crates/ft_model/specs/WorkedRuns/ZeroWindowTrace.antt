@@ -11,7 +11,8 @@ use Rattle.ft_model.specs.World.{World, Moment}
 use Rattle.ft_model.specs.Legal.{start_of}
 use Rattle.ft_model.specs.WorkedRuns.Common.{server, key, hello_text, client_with, to_log, from_log, numbers, kept_with, idle, opening_at, serving_at}
 use Rattle.ft_model.specs.WorkedRuns.FirstPath.{moment, log_with, opened_entry, filled_entry, read_entry}
-use Rattle.ft_model.specs.WorkedRuns.ZeroWindow.{syn, first_ack, text, room, begun, opened, taken, logged, waiting, probed, given, lost, probe_2, probe_3, probe_5, probe_6, probe_8, probe_10, probe_11, probe_15}
+use Rattle.ft_model.specs.WorkedRuns.ZeroWindow.{syn, first_ack, text, room, begun, opened, taken, logged, waiting, probed, given, lost, probe_2}
+use Rattle.ft_model.specs.WorkedRuns.ZeroWindow.{probe_3, probe_5, probe_6, probe_8, probe_10, probe_11, probe_15}
 use Rattle.ft_model.specs.declared.event.Event.TheVariants.{Boot, Tick, Deliver, Begin, Send, Ack}
 use Rattle.ft_model.specs.declared.phase.Phase.TheVariants.{Opening, Established}
 use Rattle.ft_model.specs.declared.schedule.Schedule.{Schedule}
@@ -25,6 +26,7 @@ schedule = record {
   profile = Plain;
   twin = false;
   marks = None;
+  lasting = None;
   clients = record { key = key; isn = 1000; script = Bytes hello_text } ∷ [];
   events = Boot 1 5000 ∷ Deliver 1 ∷ Deliver 2 ∷ Begin 1 0 ∷ Deliver 3 ∷ Deliver 4 ∷ Deliver 5 ∷ Deliver 6 ∷ Ack 1 0 ∷ Deliver 7 ∷ Send 1 0 5 ∷ Deliver 8
       ∷ Deliver 10 ∷ Deliver 12 ∷ Deliver 11 ∷ Deliver 14 ∷ Tick ∷ Tick ∷ Tick ∷ Ack 1 5 ∷ Deliver 17 ∷ Tick ∷ Tick ∷ Tick ∷ Tick ∷ [];

@@ -3,4 +3,4 @@ use Rattle.server_trait.specs.Service.{machine}
 use Rattle.ft_model.proofs.Cuttable.{cut_over}
 
 pub returns : goal.returns
-returns g c = λ kind start trace joint. cut_over (machine (g.S.Service.started kind) g.S.Service.after) start trace joint
+returns g c = λ kind start trace joint. cut_over (machine (g.S.Service.started kind) g.S.Service.after g.S.Service.greeting) start trace joint

@@ -3,4 +3,4 @@ use Rattle.server_trait.specs.Service.{machine}
 use Rattle.ft_model.proofs.Acknowledged.{acknowledged_after}
 
 pub returns : goal.returns
-returns g c = λ kind start moment earlier joint. acknowledged_after (machine (g.S.Service.started kind) g.S.Service.after) start moment earlier joint
+returns g c = λ kind start moment earlier joint. acknowledged_after (machine (g.S.Service.started kind) g.S.Service.after g.S.Service.greeting) start moment earlier joint

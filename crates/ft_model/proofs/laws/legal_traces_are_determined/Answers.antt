@@ -3,4 +3,4 @@ use Rattle.ft_model.specs.Legal.{machines}
 use Rattle.ft_model.proofs.OneTrace.{legal_once}
 
 pub returns : goal.returns
-returns g c = λ schedule trace other a b. legal_once (machines g.S.Service.started g.S.Service.after) schedule schedule.events trace other a b
+returns g c = λ schedule trace other a b. legal_once (machines g.S.Service.started g.S.Service.after g.S.Service.greeting) schedule schedule.events trace other a b

@@ -3,4 +3,4 @@ use Rattle.server_trait.specs.Service.{machine}
 use Rattle.ft_model.proofs.TurnTells.{begins_told}
 
 pub returns : goal.returns
-returns g c = λ kind boot server before after sent t. begins_told (machine (g.S.Service.started kind) g.S.Service.after) server boot before after sent t
+returns g c = λ kind boot server before after sent t. begins_told (machine (g.S.Service.started kind) g.S.Service.after g.S.Service.greeting) server boot before after sent t

@@ -3,4 +3,4 @@ use Rattle.server_trait.specs.Service.{machine}
 use Rattle.ft_model.proofs.TurnTells.{settled_reads}
 
 pub returns : goal.returns
-returns g c = λ kind boot server news before after sent t. settled_reads (machine (g.S.Service.started kind) g.S.Service.after) server boot news before after sent t
+returns g c = λ kind boot server news before after sent t. settled_reads (machine (g.S.Service.started kind) g.S.Service.after g.S.Service.greeting) server boot news before after sent t

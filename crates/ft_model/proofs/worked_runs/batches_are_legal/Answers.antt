@@ -1,0 +1,9 @@
+-- The trace is legal moment by moment, and each line of its report computes.
+use Rattle.std.proofs.Common.{refl}
+use Rattle.ft_model.proofs.Batch.{is_legal}
+use Rattle.ft_model.proofs.ReportOnLiterals.{report_on_literals}
+use Rattle.ft_model.proofs.worked_runs.batches_are_legal.Goals as goal
+
+pub returns : goal.returns
+unfolding report_on_literals
+returns c = record { legal = is_legal; told = refl }
