@@ -14,7 +14,6 @@ use Rattle.ft_model.specs.Network.{Packet}
 use Rattle.ft_model.specs.News.{News}
 use Rattle.ft_model.specs.News.News.{Begins}
 use Rattle.ft_model.specs.Node.{Node, Place, Stage, Input, key_of, place_at}
-use Rattle.ft_model.specs.Node.Input.{Packet_comes, Message_comes, Noise_comes, Tick_comes}
 use Rattle.ft_model.specs.Node.Place.{Opens, Lives, Ended}
 use Rattle.ft_model.specs.Node.Stage.{Serving}
 use Rattle.ft_model.specs.Opening.{point_opened}
@@ -29,12 +28,7 @@ use Rattle.long_laws.specs.LongTrace.{places_at}
 use Rattle.long_laws.specs.Quarantine.{Quarantined, begun, aged, named_in, quarantined_at, goes_on_or_begins, quarantine_of, quarantine_after}
 use Rattle.long_laws.proofs.QuarantineKept.{named_key}
 use Rattle.lasting_laws.specs.ByKey.{next_quarantine, quarantine_at, KeyWent}
-
-aged_key : (input : Input) (q : Quarantined) → (aged input q).named.key ≡ q.named.key
-aged_key Tick_comes q = refl
-aged_key (Packet_comes segment) q = refl
-aged_key (Message_comes message) q = refl
-aged_key Noise_comes q = refl
+use Rattle.long_laws.proofs.QuarantineWhole.{aged_key}
 
 -- The quarantine of a key after a turn is that of its place
 module _ (node : Node) (input : Input) (qs : List Quarantined) where

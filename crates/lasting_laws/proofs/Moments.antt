@@ -59,13 +59,13 @@ module _ {State : Type 0} (service : Machine State) (wait : ℕ) (n : LastingNod
   -- what comes by a delivery
   module _ (number : ℕ) (packet : Packet) (input : Input) (at : packet_at w.now.packets number ≡ Some packet) (arrives : arriving (Some packet) ≡ Some input)
       (fresh : OpensFresh n input w) where
-    comes : event_input w.now.packets (Deliver number) ≡ Some input
+    comes : event_input w.now (Deliver number) ≡ Some input
     comes = ap arriving at ∙ arrives
 
-    dropped_is : drops wait w.now.node (event_input w.now.packets (Deliver number)) w.quarantine ≡ is_dropped wait n.node.server input n.quarantine
+    dropped_is : drops wait w.now.node (event_input w.now (Deliver number)) w.quarantine ≡ is_dropped wait n.node.server input n.quarantine
     dropped_is = λ i. drops wait (own.up i) (comes i) (own.quarantine i)
 
-    full_is : is_full_input (event_input w.now.packets (Deliver number)) ≡ is_full_input (Some input)
+    full_is : is_full_input (event_input w.now (Deliver number)) ≡ is_full_input (Some input)
     full_is = ap is_full_input comes
 
     rests : (sent : LastingSent) (after : LastingNode) → is_dropped wait n.node.server input n.quarantine ≡ true → RestsLasting n sent after
@@ -74,7 +74,7 @@ module _ {State : Type 0} (service : Machine State) (wait : ℕ) (n : LastingNod
       Usual (Joint_event (Deliver number)),
       (
         refl,
-        subst (λ b. MatchBool b ((sent.packets ≡ []) × (world_then after sent w ≡ w)) (MatchBool (is_full_input (event_input w.now.packets (Deliver number)))
+        subst (λ b. MatchBool b ((sent.packets ≡ []) × (world_then after sent w ≡ w)) (MatchBool (is_full_input (event_input w.now (Deliver number)))
             (DropsSilently service w (Joint_event (Deliver number)) sent.packets (world_then after sent w))
             (Usually service wait w (Joint_event (Deliver number)) sent.packets (world_then after sent w)))) (sym (dropped_is ∙ d))
             (ap (λ s. s.packets) t.0, (λ i. world_then (t.1 i) (t.0 i) w) ∙ same),
@@ -114,8 +114,8 @@ module _ {State : Type 0} (service : Machine State) (wait : ℕ) (n : LastingNod
         here = subst (λ s. Usually service wait w (Joint_event (Deliver number)) s.packets (world_then after s w)) (sym t.sent_is)
             (subst (λ a. Usually service wait w (Joint_event (Deliver number)) t.packets (world_then a (record { packets = t.packets; forgets = [] }) w)) (sym t.after_is) one)
 
-        both : MatchBool (drops wait w.now.node (event_input w.now.packets (Deliver number)) w.quarantine) ((sent.packets ≡ []) × (world_then after sent w ≡ w))
-            (MatchBool (is_full_input (event_input w.now.packets (Deliver number)))
+        both : MatchBool (drops wait w.now.node (event_input w.now (Deliver number)) w.quarantine) ((sent.packets ≡ []) × (world_then after sent w ≡ w))
+            (MatchBool (is_full_input (event_input w.now (Deliver number)))
             (DropsSilently service w (Joint_event (Deliver number)) sent.packets (world_then after sent w))
             (Usually service wait w (Joint_event (Deliver number)) sent.packets (world_then after sent w)))
         both = rw (dropped_is ∙ d) (rw (full_is ∙ f) here)
@@ -139,8 +139,8 @@ module _ {State : Type 0} (service : Machine State) (wait : ℕ) (n : LastingNod
         here = subst (λ s. DropsSilently service w (Joint_event (Deliver number)) s.packets (world_then after s w)) (sym t.sent_is)
             (subst (λ a. DropsSilently service w (Joint_event (Deliver number)) [] (world_then a nothing_sent w)) (sym t.after_is) one)
 
-        both : MatchBool (drops wait w.now.node (event_input w.now.packets (Deliver number)) w.quarantine) ((sent.packets ≡ []) × (world_then after sent w ≡ w))
-            (MatchBool (is_full_input (event_input w.now.packets (Deliver number)))
+        both : MatchBool (drops wait w.now.node (event_input w.now (Deliver number)) w.quarantine) ((sent.packets ≡ []) × (world_then after sent w ≡ w))
+            (MatchBool (is_full_input (event_input w.now (Deliver number)))
             (DropsSilently service w (Joint_event (Deliver number)) sent.packets (world_then after sent w))
             (Usually service wait w (Joint_event (Deliver number)) sent.packets (world_then after sent w)))
         both = rw (dropped_is ∙ d) (rw (full_is ∙ f) here)
@@ -168,7 +168,7 @@ module _ {State : Type 0} (service : Machine State) (patience : Patience) (n : L
   on_message message at fresh sent after false full t =
       goes service patience.wait n w own number (From_logger message) (Message_comes message) at refl fresh sent after refl full refl t
 
-  pub one_moment : (input : Input) → event_input w.now.packets (Deliver number) ≡ Some input → OpensFresh n input w → (sent : LastingSent) (after : LastingNode)
+  pub one_moment : (input : Input) → event_input w.now (Deliver number) ≡ Some input → OpensFresh n input w → (sent : LastingSent) (after : LastingNode)
       → LastingTurn service patience n (Usual_comes input) sent after → IsOneMoment service patience.wait w sent.packets (world_then after sent w)
   one_moment input comes fresh sent after turn = by (packet_at w.now.packets number) refl comes
     where

@@ -35,20 +35,17 @@ use Rattle.lasting_laws.specs.ByKey.{KeyWent}
 use Rattle.lasting_laws.specs.LastingTurn.{LastingNode, LastingSent, Patience, TicksLasting, TendsAll, after_turn}
 use Rattle.lasting_laws.specs.Watching.{Watch, is_let_go, is_asked}
 use Rattle.lasting_laws.proofs.ByKey.{key_went, serves_on}
-
-no_second : (a b : Bool) → b ≡ false → (a && b) ≡ false
-no_second true b e = e
-no_second false b e = refl
+use Rattle.tcp_rules.proofs.ComingKeeps.{and_false}
 
 -- A RST that nobody sent opens nothing
-no_new : (node : Node) (p : Point) (opened : ℕ) (places : List Place) → newcomers node (Packet_comes (last_rst node.server p)) opened places ≡ []
+pub no_new : (node : Node) (p : Point) (opened : ℕ) (places : List Place) → newcomers node (Packet_comes (last_rst node.server p)) opened places ≡ []
 no_new node p opened places =
     if_false (is_strange node (last_rst node.server p) places && is_syn (last_rst node.server p) && nat_lt (pending_count places) 64)
     (Opens (numbers_for node.isn opened (last_rst node.server p)) ∷ []) []
-    (ap (λ b. b && nat_lt (pending_count places) 64) (no_second (is_strange node (last_rst node.server p) places) (is_syn (last_rst node.server p)) refl))
+    (ap (λ b. b && nat_lt (pending_count places) 64) (and_false (is_strange node (last_rst node.server p) places) (is_syn (last_rst node.server p)) refl))
 
 -- the places that are still to be tended are those of the node
-record Tending (m : Node) (left : List Place) : Type 0 where
+pub record Tending (m : Node) (left : List Place) : Type 0 where
   pub opened : ℕ
   pub places : List Place
   pub at : m.stage ≡ Serving opened places
@@ -67,12 +64,12 @@ module _ {State : Type 0} (service : Machine State) where
   still m p places went by_places d t q there other =
       let w : KeyWent service m (Packet_comes (last_rst m.server p)) (key_of q) (Some q) went =
       subst (λ o. KeyWent service m (Packet_comes (last_rst m.server p)) (key_of q) o went) there (key_went service m (Packet_comes (last_rst m.server p)) (key_of q) places went by_places d t) in
-      let out : concerns m (Packet_comes (last_rst m.server p)) (key_of q) ≡ false = no_second _ (key_eq p.key (key_of q)) (key_eq_turns (key_of q) p.key other) in
+      let out : concerns m (Packet_comes (last_rst m.server p)) (key_of q) ≡ false = and_false _ (key_eq p.key (key_of q)) (key_eq_turns (key_of q) p.key other) in
       let stayed : Stays q w.0 w.1 =
       subst (λ b. MatchBool b (Meets service m (Packet_comes (last_rst m.server p)) q w.0 w.1) (Stays q w.0 w.1)) out w.2 in
       w.3 ∙ (ap (place_at (key_of q)) stayed.0 ∙ if_true (key_eq (key_of q) (key_of q)) (Some q) None (key_is (key_of q)))
 
-  tended : (m next : Node) (p : Point) (left : List Place) (sent : List Packet) → Tending m (Lives p ∷ left) → LawfulTurn service m (Packet_comes (last_rst m.server p)) sent next → Tending next left
+  pub tended : (m next : Node) (p : Point) (left : List Place) (sent : List Packet) → Tending m (Lives p ∷ left) → LawfulTurn service m (Packet_comes (last_rst m.server p)) sent next → Tending next left
   tended m next p left sent s t =
       let served = serves_on service m next (Packet_comes (last_rst m.server p)) s.opened s.places sent s.at refl t in
       let none = no_new m p s.opened s.places in

@@ -1,5 +1,6 @@
 -- A new SYN at the place of a connection that is done. A SYN above the old connection's last number is of a new connection (RFC 9293, 3.6.1: it must be larger
--- than the largest number that the previous incarnation used): then the server has the entry recycled at once. The SYN itself is dropped, and its repetition opens.
+-- than the largest number that the previous incarnation used): then the server has the entry recycled at once.
+-- The SYN itself is dropped, and its repetition opens.
 use Rattle.std.specs.Prelude.{ℕ, ◌+◌, ◌&&◌, Bool, find, option_map, unwrap_or, Option, Some, None, List, if◌then◌else◌}
 use Rattle.ft_io.specs.declared.Addr.{Addr}
 use Rattle.ft_io.specs.declared.Key.{Key}

@@ -62,7 +62,8 @@ after_turn before input later = record {
 }
 
 -- the turn of a server without quarantine
-pub record GoesUsually {State : Type 0} (service : Machine State) (before : LastingNode) (input : Input) (sent : LastingSent) (after : LastingNode) : Type 0 where
+pub record GoesUsually {State : Type 0} (service : Machine State) (before : LastingNode) (input : Input) (sent : LastingSent)
+    (after : LastingNode) : Type 0 where
   pub later : Node
   pub packets : List Packet
   pub turn : LawfulTurn service before.node input packets later
@@ -70,7 +71,8 @@ pub record GoesUsually {State : Type 0} (service : Machine State) (before : Last
   pub after_is : after ≡ after_turn before input later
 
 -- Full drops the opening that it names, and nothing is sent
-pub record DropsOpening {State : Type 0} (service : Machine State) (before : LastingNode) (input : Input) (sent : LastingSent) (after : LastingNode) : Type 0 where
+pub record DropsOpening {State : Type 0} (service : Machine State) (before : LastingNode) (input : Input) (sent : LastingSent)
+    (after : LastingNode) : Type 0 where
   pub later : Node
   pub all : List Packet  -- what a server without quarantine would send
   pub turn : LawfulTurn service before.node input all later
@@ -100,7 +102,8 @@ TendsAll service silence watches node (place ∷ places) sent after =
     × (sent ≡ first ++ rest) × Tends service silence watches node place first next × TendsAll service silence watches next places rest after
 
 -- A tick: the node's own turn, then what is let go of and asked, place by place, and at last the Forgets
-pub record TicksLasting {State : Type 0} (service : Machine State) (patience : Patience) (before : LastingNode) (sent : LastingSent) (after : LastingNode) : Type 0 where
+pub record TicksLasting {State : Type 0} (service : Machine State) (patience : Patience) (before : LastingNode) (sent : LastingSent)
+    (after : LastingNode) : Type 0 where
   pub later : Node
   pub last : Node
   pub first : List Packet
@@ -128,7 +131,8 @@ PacketTurn service patience before input sent after =
 abbrev pub UsualTurn : {State : Type 0} → Machine State → Patience → LastingNode → Input → LastingSent → LastingNode → Type 0
 UsualTurn service patience before (Packet_comes segment) sent after = PacketTurn service patience before (Packet_comes segment) sent after
 UsualTurn service patience before (Message_comes message) sent after =
-    MatchBool (says_full message.body) (DropsOpening service before (Message_comes message) sent after) (GoesUsually service before (Message_comes message) sent after)
+    MatchBool (says_full message.body) (DropsOpening service before (Message_comes message) sent after)
+    (GoesUsually service before (Message_comes message) sent after)
 UsualTurn service patience before Noise_comes sent after = GoesUsually service before Noise_comes sent after
 UsualTurn service patience before Tick_comes sent after = TicksLasting service patience before sent after
 

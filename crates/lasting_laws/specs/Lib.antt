@@ -4,3 +4,8 @@ pub mod LastingTurn
 pub mod WorkedSilence
 pub mod ByKey
 pub mod AsMoments
+pub mod LastingWorld
+pub mod LastingLegal
+pub mod LastingReport
+pub mod LastingUnseen
+pub mod WorkedReuse

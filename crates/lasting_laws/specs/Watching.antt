@@ -1,6 +1,6 @@
 -- Clients that say nothing (RFC 9293, 3.8.3 and 3.8.4). A server counts the ticks since it last got a packet from the client of a live connection. From a first
--- threshold on, `silence`, it sends keep-alives, and at twice that it lets go of the connection. A connection whose SYN is never acknowledged is half-open: it is
--- let go of after 250 ticks. Without a threshold, where `silence` is 0, no established connection is let go of.
+-- threshold on, `silence`, it sends keep-alives, and at twice that it lets go of the connection. A connection whose SYN is never acknowledged is half-open:
+-- it is let go of after 250 ticks. Without a threshold, where `silence` is 0, no established connection is let go of.
 use Rattle.std.specs.Prelude.{ℕ, ◌+◌, ◌-◌, ◌*◌, ◌/◌, ◌%◌, ◌==◌, ◌&&◌, not, nat_le, nat_lt, max, Bool, true, false, Option, Some, length, if◌then◌else◌}
 use Rattle.ft_io.specs.declared.Key.{Key}
 use Rattle.ft_model.specs.Node.{Node, Place, Stage, Input, place_at}
@@ -14,7 +14,8 @@ use Rattle.long_laws.specs.LongTrace.{places_at}
 -- how the server got a connection
 pub data Origin : Type 0 where
   Opened_here : Origin  -- this incarnation opened it
-  Restored_empty : Origin  -- it was restored from an entry in which nothing is logged, and its client has sent nothing since: it may be half-open or established
+  -- it was restored from an entry in which nothing is logged, and its client has sent nothing since: it may be half-open or established
+  Restored_empty : Origin
   Restored : Origin  -- any other
 
 pub record Watch : Type 0 where

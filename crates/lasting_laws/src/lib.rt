@@ -1,5 +1,5 @@
-//! A server that lasts: the law of its turn, as definitions, and what follows from it. It keeps what is done in quarantine, has it recycled and forgets it, and it
-//! watches its clients: it asks a silent one for a sign of life, and lets go of one that is gone. Nothing here runs; each function is a theorem.
+//! A server that lasts: the law of its turn, as definitions, and what follows from it. It keeps what is done in quarantine, has it recycled and forgets it,
+//! and it watches its clients: it asks a silent one for a sign of life, and lets go of one that is gone. Nothing here runs; each function is a theorem.
 #![tactic(auto)]
 
 ghost use Rattle.std.specs.Prelude.{◌≡◌, ◌<◌, ◌≤◌, ◌+◌, ◌*◌, ℕ, true, false, [], ◌∷◌, Some, None};
@@ -27,6 +27,12 @@ ghost use Rattle.lasting_laws.specs.ByKey.{quarantine_at, KeyWent};
 ghost use Rattle.lasting_laws.specs.Watching.Origin.{Opened_here, Restored_empty, Restored};
 ghost use Rattle.lasting_laws.specs.WorkedSilence.{open_point, half_open_point, asked_at, let_go_at};
 ghost use Rattle.lasting_laws.specs.Watching.{Watch, watched, is_half_open, is_unheard, is_let_go, is_asked};
+ghost use Rattle.std.specs.Prelude.{codes};
+ghost use Rattle.ft_model.specs.Report.{line_of_packet};
+ghost use Rattle.ft_model.specs.declared.way.Way.TheVariants.{ServerToLogger, LoggerToServer};
+ghost use Rattle.long_laws.specs.Forgetting.{forget, forgotten_message};
+ghost use Rattle.lasting_laws.specs.LastingReport.{forget_words, gone_line, number_of_guest};
+ghost use Rattle.lasting_laws.specs.WorkedReuse.{first_named, recycled_entry, two_guests};
 
 use server_trait::Service;
 
@@ -55,8 +61,8 @@ pub fn half_open_connections_are_let_go()
     ensures unasked { (silence : ℕ) (w : Watch) (p : Point) → is_half_open w p ≡ true → is_asked silence w p ≡ false }
 {}
 
-/// Worked: with a threshold of 16 ticks a silent client is asked at every second tick from the 16th to the 30th, and let go of at the 32nd; with one of 5, which
-/// is below 8, at each tick from the 5th to the 9th, and let go of at the 10th. Without a threshold nothing happens to it.
+/// Worked: with a threshold of 16 ticks a silent client is asked at every second tick from the 16th to the 30th, and let go of at the 32nd; with one of 5,
+/// which is below 8, at each tick from the 5th to the 9th, and let go of at the 10th. Without a threshold nothing happens to it.
 pub fn worked_silences()
     ensures sixteen { asked_at 16 Opened_here open_point 32 ≡ 16 ∷ 18 ∷ 20 ∷ 22 ∷ 24 ∷ 26 ∷ 28 ∷ 30 ∷ [] }
     ensures then_gone { let_go_at 16 Opened_here open_point 40 ≡ Some 32 }
@@ -72,27 +78,39 @@ pub fn worked_half_open_connections()
     ensures empty { (asked_at 5 Restored_empty open_point 260 ≡ 50 ∷ 100 ∷ 150 ∷ 200 ∷ []) × (let_go_at 5 Restored_empty open_point 260 ≡ Some 250) }
 {}
 
-/// A turn does at a key what it does at the key's own place: the quarantine that the key then has depends on that place and on the key's earlier quarantine alone,
-/// and no other key's place becomes the key's.
+/// A turn does at a key what it does at the key's own place: the quarantine that the key then has depends on that place and on the key's earlier quarantine
+/// alone, and no other key's place becomes the key's.
 pub fn each_key_has_its_own_turn<S: Service>()
     ensures quarantine { (node : Node) (input : Input) (later : Stage) (qs : List Quarantined) (key : Key) → AreDistinct (map key_of (places_at later))
         → quarantined_at key (quarantine_after node input later qs) ≡ quarantine_at node input key (quarantined_at key qs) (place_at key (places_at later)) }
     ensures one_each { (node : Node) (input : Input) (later : Stage) (qs : List Quarantined) → AreDistinct (map key_of (places_at later))
         → AreDistinct (map (λ q. q.named.key) (quarantine_after node input later qs)) }
     ensures place { (kind : ℕ) (node : Node) (input : Input) (key : Key) (before after : List Place) (sent : List Packet)
-        → AreDistinct (map key_of before) → AllGo (PlaceTurn (machine (S.started kind) S.after) node input) before after sent
-        → KeyWent (machine (S.started kind) S.after) node input key (place_at key before) after }
+        → AreDistinct (map key_of before) → AllGo (PlaceTurn (machine (S.started kind) S.after S.greeting) node input) before after sent
+        → KeyWent (machine (S.started kind) S.after S.greeting) node input key (place_at key before) after }
 {}
 
-/// The turn of a server that lasts on what comes by a delivery is one moment of a world with a quarantine: it drops what is for a connection that is leaving, or
-/// ends a quarantine early, or drops an opening silently, or takes the turn of a server without quarantine. A tick is several moments: the tick of such a server,
-/// and then one for each client that is asked or let go of. So what is proved of the traces of such worlds holds of it.
+/// The turn of a server that lasts on what comes by a delivery is one moment of a world with a quarantine: it drops what is for a connection that is leaving,
+/// or ends a quarantine early, or drops an opening silently, or takes the turn of a server without quarantine. A tick is several moments: the tick of such a
+/// server, and then one for each client that is asked or let go of. So what is proved of the traces of such worlds holds of it.
 pub fn lasting_turns_are_quarantine_steps<S: Service>()
     ensures delivery { (kind : ℕ) (patience : Patience) (n after : LastingNode) (w : QuarantineWorld) (number : ℕ) (input : Input) (sent : LastingSent)
-        → IsServerOf n w → event_input w.now.packets (Deliver number) ≡ Some input → OpensFresh n input w
-        → LastingTurn (machine (S.started kind) S.after) patience n (Usual_comes input) sent after
-        → IsOneMoment (machine (S.started kind) S.after) patience.wait w sent.packets (world_then after sent w) }
+        → IsServerOf n w → event_input w.now (Deliver number) ≡ Some input → OpensFresh n input w
+        → LastingTurn (machine (S.started kind) S.after S.greeting) patience n (Usual_comes input) sent after
+        → IsOneMoment (machine (S.started kind) S.after S.greeting) patience.wait w sent.packets (world_then after sent w) }
     ensures tick { (kind : ℕ) (patience : Patience) (n after : LastingNode) (w : QuarantineWorld) (sent : LastingSent) → IsServerOf n w
-        → AreDistinct (map key_of (places_at n.node.stage)) → LastingTurn (machine (S.started kind) S.after) patience n (Usual_comes Tick_comes) sent after
-        → AreMoments (machine (S.started kind) S.after) patience.wait w sent.packets (world_then after sent w) }
+        → AreDistinct (map key_of (places_at n.node.stage))
+        → LastingTurn (machine (S.started kind) S.after S.greeting) patience n (Usual_comes Tick_comes) sent after
+        → AreMoments (machine (S.started kind) S.after S.greeting) patience.wait w sent.packets (world_then after sent w) }
+{}
+
+/// Worked: the lines of the messages about forgetting and of a recycled entry; and the number of the client that came last to an address.
+pub fn worked_lines()
+    ensures forget { line_of_packet 21 ServerToLogger (forget_words (forget 1 first_named))
+        ≡ codes "packet 21 S>L Forget boot 1 key 192.0.2.1:40000 cisn 1000 sisn 5000\n" }
+    ensures forgotten { line_of_packet 22 LoggerToServer (forget_words (forgotten_message 1 first_named))
+        ≡ codes "packet 22 L>S Forgotten boot 1 key 192.0.2.1:40000 cisn 1000 sisn 5000\n" }
+    ensures gone { gone_line recycled_entry ≡ codes "gone 192.0.2.1:40000 length 0 fin 1 acked 1 done 1 reads 0\n" }
+    ensures second { number_of_guest two_guests first_named.key ≡ 2 }
+    ensures nobody { number_of_guest [] first_named.key ≡ 0 }
 {}

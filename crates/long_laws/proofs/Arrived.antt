@@ -89,14 +89,14 @@ module _ {State : Type 0} (service : Machine State) (c : Client) (w : World) (o 
   sees_own : IsSeen service script w.log c
   sees_own =
       subst (IsSeen service script w.log) (sym may.new.new)
-      (record { front = ((logged_run service script w.log c.key).output, refl); ended = λ e. absurd (true≢false (sym e)); holds = record { held = tt; held_fin = tt }; sisn = λ x. absurd (true≢false (sym x)) })
+      (record { front = ((logged_run service script w.log c.key).output, refl); ended = λ e. absurd (true≢false (sym e)); holds = record { held = tt; held_fin = tt }; sisn = λ x. absurd (true≢false (sym x)); unlogged = λ n. refl })
 
   short_here : (k : Key) → length (script k) ≤ 2 ^ 24
   short_here k = holds_if (λ l. length l ≤ 2 ^ 24) (key_eq k c.key) c.script (o.script k) (λ t. may.new.short) (λ t. o.short k)
 
   made_here : (k : Key) → length (reference service (script k) (new k)).output ≤ 2 ^ 24
   made_here k =
-      holds_if (λ l. length (reference service (script k) l).output ≤ 2 ^ 24) (key_eq k c.key) [] (old k) (λ t. nothing_made service (script k))
+      holds_if (λ l. length (reference service (script k) l).output ≤ 2 ^ 24) (key_eq k c.key) [] (old k) (λ t. nothing_made service (o.script k) (old k) (script k) (o.author.short k))
       (λ t. subst (λ s. length (reference service s (old k)).output ≤ 2 ^ 24) (script_here k t) (o.author.short k))
 
   pub stands_with_new : Stands service (with_new c w)

@@ -38,7 +38,11 @@ ended_node = path.node_at (Serving 1 (Ended key ∷ []))
 pub all_ended : (node : Node) → Some ended_node ≡ Some node → AllByRecursion (λ place. key_eq (key_of place) key ≡ true → IsEnded place) (places_at node.stage)
 all_ended node up = subst (λ x. AllByRecursion (λ place. key_eq (key_of place) key ≡ true → IsEnded place) (places_at x.stage)) (some_is ended_node node up) ((λ same. tt), tt)
 
-module _ {State : Type 0} (service : Machine State) where
+-- any service, without a greeting
+module _ {State : Type 0} (any : Machine State) where
+  abbrev service : Machine State
+  service = record any { greeting = [] }
+
   abbrev Passes : LongMoment → LongMoment → Type 0
   Passes before after = MayPass service before.world after.step after.sent after.world
 
@@ -144,7 +148,7 @@ module _ {State : Type 0} (service : Machine State) where
 
   pub is_long : LongJoint service path.start run.trace
   is_long =
-      ((((((((((((long_of_joint service path.start path.opening_trace (opening_is_joint service), passes_11), passes_12), passes_13), passes_14), passes_15), passes_16), passes_17), passes_18), passes_19), passes_20), passes_21), passes_22)
+      ((((((((((((long_of_joint service path.start path.opening_trace (opening_is_joint any), passes_11), passes_12), passes_13), passes_14), passes_15), passes_16), passes_17), passes_18), passes_19), passes_20), passes_21), passes_22)
 
 -- the RST is under way to a client whose entry isn't done
 pub logged : AllByRecursion (ResetsNoLogged run.moment_21.world.now.log) run.moment_21.world.now.packets → ⊥

@@ -120,6 +120,7 @@ module _ {State : Type 0} (service : Machine State) (key : Key) (script more : K
     ended = λ e. subst (λ r. (r.closed ≡ true) × (c.accepted ≡ r.output)) (run_there c.key a) (s.ended e);
     holds = subst (λ r. HoldsOf r (length c.accepted) c.early) (run_there c.key a) s.holds;
     sisn = λ o. let x = s.sisn o in (x.0, sym (same_entry c.key a) ∙ x.1, x.2);
+    unlogged = λ n. s.unlogged (same_entry c.key a ∙ n);
   }
 
 -- the same of the reads

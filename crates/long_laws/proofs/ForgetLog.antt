@@ -13,6 +13,7 @@ use Rattle.long_laws.specs.Forgetting.ForgetBody.{ForgetMsg, ForgottenMsg}
 use Rattle.long_laws.specs.Forgetting.ForgetAnswer.{About_forgetting, Of_log}
 use Rattle.long_laws.specs.LongTrace.{others}
 use Rattle.long_laws.proofs.Forgets.{either, RecyclesOne}
+use Rattle.ft_io.proofs.Booleans.{and_false}
 
 abbrev message_of : ℕ → ForgetBody → ForgetMessage
 message_of boot body = record { boot = boot; body = body }
@@ -140,10 +141,6 @@ forgotten_means_gone log message answer e =
 
 pub gone_means_forgotten : (log : Log) (n : Named) → IsGone n (after_forget log (forget log.boot n)) → answer_to_forget log (forget log.boot n) ≡ Some (About_forgetting (forgotten_message log.boot n))
 gone_means_forgotten log n gone = answers_own log (forget log.boot n) refl refl ∙ if_false _ None _ gone
-
-and_false : (b : Bool) → (b && false) ≡ false
-and_false true = refl
-and_false false = refl
 
 -- an entry that isn't done stays
 stays : (n : Named) (es : List Entry) (e : Entry) → find (λ x. key_eq x.key n.key) es ≡ Some e → is_entry_of n e ≡ true → e.done ≡ false → list_any (is_entry_of n) (others (is_recycled n) es) ≡ true

@@ -2,6 +2,7 @@
 -- differ.
 use Rattle.std.proofs.Common.{◌≡◌, ℕ, ◌<◌, ◌*◌, Bool, false, true, true≢false, not, arith, List, length}
 use Rattle.std.specs.Prelude.{Option, None, Some, Result, Ok, Err, IsOk, IsErr, nat_eq, nat_lt, ◌||◌, slice_index, if◌then◌else◌}
+use Rattle.seq_arith.specs.declared.kinds.Grammar.{Grammar}
 use Rattle.seq_arith.specs.Bytes.{word_at}
 use Rattle.seq_arith.specs.Checksum.{checksum}
 use Rattle.seq_arith.specs.Damage.{flipped}
@@ -49,11 +50,11 @@ magic bytes ok =
     magic_held (nat_lt (length bytes) 16) (word_at bytes 0) 18007 bad.Short bad.Magic
     (if not (nat_eq (slice_index bytes 2) 1) then Err bad.Version else reading_if (kind_numbered (slice_index bytes 3)) bytes) ok
 
-message_magic : (bytes : List ℕ) → IsOk (messages.reading bytes) → word_at bytes 0 ≡ 18004
-unfolding messages.reading
-message_magic bytes ok =
+message_magic : (grammar : Grammar) (bytes : List ℕ) → IsOk (messages.reading_by grammar bytes) → word_at bytes 0 ≡ 18004
+unfolding messages.reading_by
+message_magic grammar bytes ok =
     magic_held (nat_lt (length bytes) 16) (word_at bytes 0) 18004 bad.Short bad.Magic
-    (if not (nat_eq (slice_index bytes 2) 1) then Err bad.Version else messages.reading_if (messages.kind_numbered (slice_index bytes 3)) bytes) ok
+    (if not (nat_eq (slice_index bytes 2) (messages.version grammar)) then Err bad.Version else messages.reading_if grammar (messages.kind_numbered (slice_index bytes 3)) bytes) ok
 
 mark_magic : (bytes : List ℕ) → IsOk (marks.reading bytes) → word_at bytes 0 ≡ 18006
 unfolding marks.reading
@@ -61,20 +62,20 @@ mark_magic bytes ok =
     magic_held (nat_lt (length bytes) 16) (word_at bytes 0) 18006 bad_mark.Short bad_mark.Magic
     (if not (nat_eq (slice_index bytes 2) 1) then Err bad_mark.Version else marks.reading_if (marks.kind_numbered (slice_index bytes 3)) bytes) ok
 
-twin_magic : (bytes : List ℕ) → IsOk (twins.reading bytes) → word_at bytes 0 ≡ 18005
-unfolding twins.reading
-twin_magic bytes ok =
+twin_magic : (grammar : Grammar) (bytes : List ℕ) → IsOk (twins.reading_by grammar bytes) → word_at bytes 0 ≡ 18005
+unfolding twins.reading_by
+twin_magic grammar bytes ok =
     magic_held (nat_lt (length bytes) 16) (word_at bytes 0) 18005 bad_twin.Short bad_twin.Magic
-    (if not (nat_eq (slice_index bytes 2) 1) then Err bad_twin.Version else twins.reading_if (twins.kind_numbered (slice_index bytes 3)) bytes) ok
+    (if not (nat_eq (slice_index bytes 2) 1) then Err bad_twin.Version else twins.reading_if grammar (twins.kind_numbered (slice_index bytes 3)) bytes) ok
 
-pub no_message : (bytes : List ℕ) (m : ForgetMessage) → reading bytes ≡ Ok m → IsErr (messages.reading bytes)
-no_message bytes m is = refused (messages.reading bytes) (λ ok. omega (arith, magic bytes (accepted is), message_magic bytes ok))
+pub no_message : (grammar : Grammar) (bytes : List ℕ) (m : ForgetMessage) → reading bytes ≡ Ok m → IsErr (messages.reading_by grammar bytes)
+no_message grammar bytes m is = refused (messages.reading_by grammar bytes) (λ ok. omega (arith, magic bytes (accepted is), message_magic grammar bytes ok))
 
 pub no_mark : (bytes : List ℕ) (m : ForgetMessage) → reading bytes ≡ Ok m → IsErr (marks.reading bytes)
 no_mark bytes m is = refused (marks.reading bytes) (λ ok. omega (arith, magic bytes (accepted is), mark_magic bytes ok))
 
-pub no_twin : (bytes : List ℕ) (m : ForgetMessage) → reading bytes ≡ Ok m → IsErr (twins.reading bytes)
-no_twin bytes m is = refused (twins.reading bytes) (λ ok. omega (arith, magic bytes (accepted is), twin_magic bytes ok))
+pub no_twin : (grammar : Grammar) (bytes : List ℕ) (m : ForgetMessage) → reading bytes ≡ Ok m → IsErr (twins.reading_by grammar bytes)
+no_twin grammar bytes m is = refused (twins.reading_by grammar bytes) (λ ok. omega (arith, magic bytes (accepted is), twin_magic grammar bytes ok))
 
 -- its length
 length_if : (kind : Option ForgetKind) (bytes : List ℕ) → IsOk (reading_if kind bytes) → length bytes ≡ 30

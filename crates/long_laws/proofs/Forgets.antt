@@ -42,7 +42,7 @@ its_numbers : (n : Named) (e : Entry) → is_recycled n e ≡ true → ((e.cisn 
 its_numbers n e g =
     and_parts (e.cisn == n.cisn) (e.sisn == n.sisn) (and_parts (key_eq e.key n.key) (e.cisn == n.cisn && e.sisn == n.sisn) (and_parts (is_entry_of n e) e.done g).0).1
 
-no_key : (n : Named) (x : Entry) (xs : List Entry) → AreDistinct (map (λ e. e.key) (x ∷ xs)) → key_eq x.key n.key ≡ true → has_key n.key (map (λ e. e.key) xs) ≡ false
+pub no_key : (n : Named) (x : Entry) (xs : List Entry) → AreDistinct (map (λ e. e.key) (x ∷ xs)) → key_eq x.key n.key ≡ true → has_key n.key (map (λ e. e.key) xs) ≡ false
 no_key n x xs d k = subst (λ z. has_key z (map (λ e. e.key) xs) ≡ false) (same_key x.key n.key k) d.0
 
 pub either : (n : Named) (xs : List Entry) → AreDistinct (map (λ e. e.key) xs) → (others (is_recycled n) xs ≡ xs) ⊎ RecyclesOne n xs

@@ -29,7 +29,7 @@ use Rattle.long_laws.proofs.Elsewhere.{entry_of_author, read_there, place_runs}
 use Rattle.long_laws.proofs.Recycled.{author_without, author_elsewhere, short_without}
 use Rattle.long_laws.proofs.Stands.{Stands, AreSame}
 
-same_stage : (key : Key) (stage : Stage) → is_restarting (stage_without key stage) ≡ is_restarting stage
+pub same_stage : (key : Key) (stage : Stage) → is_restarting (stage_without key stage) ≡ is_restarting stage
 same_stage key Asking = refl
 same_stage key (Fetching count fetched) = refl
 same_stage key (Serving opened places) = refl

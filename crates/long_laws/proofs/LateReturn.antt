@@ -27,7 +27,11 @@ use Rattle.long_laws.specs.LongTrace.{LongMoment, LongJoint, MayPass}
 use Rattle.long_laws.specs.LongResets.{hears_full, is_reset, ResetsOnlyLogged, IsDiscreet, AreDiscreet}
 use Rattle.long_laws.proofs.EarlyReturn.{all_ended, is_long}
 
-module _ {State : Type 0} (service : Machine State) where
+-- any service, without a greeting
+module _ {State : Type 0} (any : Machine State) where
+  abbrev service : Machine State
+  service = record any { greeting = [] }
+
   abbrev Passes : LongMoment → LongMoment → Type 0
   Passes before after = MayPass service before.world after.step after.sent after.world
 
@@ -65,7 +69,7 @@ module _ {State : Type 0} (service : Machine State) where
 
   -- the first return up to the SYN, and then these
   pub late_is_long : LongJoint service path.start run.trace
-  late_is_long = ((((((is_long service).0.0.0.0.0, passes_18), passes_19), passes_20), passes_21), passes_22)
+  late_is_long = ((((((is_long any).0.0.0.0.0, passes_18), passes_19), passes_20), passes_21), passes_22)
 
 -- nobody is reset, and no Full is heard
 spares : (log : Log) (p : Packet) → is_reset p ≡ false → ResetsOnlyLogged log p

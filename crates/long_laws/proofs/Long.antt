@@ -79,7 +79,7 @@ module _ {State : Type 0} (service : Machine State) (small : HasSmallOutputs ser
   passed before after (Keeps_alive key) sent o past h = record { shown = keep_alive_shown service key before.now sent after.now o h.0; past = subst (AllByRecursion (SawFront service)) (sym h.1) past }
 
   pub all_stand : (start : World) (trace : List LongMoment) → LongJoint service start trace → Stands service (long_after start trace).now × AllSaw (long_after start trace)
-  all_stand start [] j = (at_start service start j, tt)
+  all_stand start [] j = (at_start service small start j, tt)
   all_stand start (moment ∷ earlier) j =
       let was = all_stand start earlier j.0 in
       let now : Passed (long_after start earlier) moment.sent moment.world = passed (long_after start earlier) moment.world moment.step moment.sent was.0 was.1 j.1 in

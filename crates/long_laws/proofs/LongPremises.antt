@@ -45,7 +45,7 @@ passed service small before after (Keeps_alive key) sent o h = premised_kept_ali
 
 pub premised_after : {State : Type 0} (service : Machine State) → HasSmallOutputs service → (start : World) (trace : List LongMoment) → LongJoint service start trace
     → Premised service (long_after start trace).now
-premised_after service small start [] j = premised_at_start service start j
+premised_after service small start [] j = premised_at_start service small start j
 premised_after service small start (moment ∷ earlier) j =
     passed service small (long_after start earlier) moment.world moment.step moment.sent (premised_after service small start earlier j.0) j.1
 

@@ -44,10 +44,10 @@ joint_of service w o = record {
 pub short_of : {State : Type 0} (service : Machine State) (w : World) → (o : Premised service w) → (key : Key) → length (script_of o.roster key) ≤ 2 ^ 24
 short_of service w o = subst (λ s. (key : Key) → length (s key) ≤ 2 ^ 24) (sym o.script) o.stands.short
 
-pub premised_at_start : {State : Type 0} (service : Machine State) (start : World) → IsStart start → Premised service start
+pub premised_at_start : {State : Type 0} (service : Machine State) → HasSmallOutputs service → (start : World) → IsStart start → Premised service start
 unfolding at_start
-premised_at_start service start s = record {
-  stands = at_start service start s;
+premised_at_start service small start s = record {
+  stands = at_start service small start s;
   roster = start;
   script = refl;
   isn = refl;

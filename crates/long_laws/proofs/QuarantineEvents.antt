@@ -11,7 +11,8 @@ use Rattle.seq_arith.specs.Damage.{flipped}
 use Rattle.seq_arith.specs.declared.BadPacket.{BadPacket}
 use Rattle.seq_arith.proofs.Spelling.{spelling_is_read}
 use Rattle.seq_arith.proofs.MessageSpelling.{message_is_read}
-use Rattle.seq_arith.proofs.Refused.{flipped_packet_is_refused, flipped_message_is_refused}
+use Rattle.seq_arith.proofs.Refused.{flipped_packet_is_refused, flipped_is_refused_by}
+use Rattle.tcp_rules.specs.Profile.{grammar_of}
 use Rattle.ft_model.specs.Lawful.{LawfulTurn, hello}
 use Rattle.ft_model.specs.Log.{log_after}
 use Rattle.ft_model.specs.Network.{Packet, packet_at, destination_of}
@@ -40,12 +41,12 @@ pub record Elsewhere (before : World) (sent : List Packet) (after : World) : Typ
   pub log : (after.log ≡ before.log) ⊎ ((message : Message) × IsUnderWay before (To_logger message) × (after.log ≡ log_after before.log message))
 
 pub data Went {State : Type 0} (service : Machine State) (before : World) (event : Event) (sent : List Packet) (after : World) : Type 0 where
-  took_turn : (input : Input) (node later : Node) → event_input before.packets event ≡ Some input → IsBrought before input → before.node ≡ Some node → LawfulTurn service node input sent later
+  took_turn : (input : Input) (node later : Node) → event_input before event ≡ Some input → IsBrought before input → before.node ≡ Some node → LawfulTurn service node input sent later
       → after ≡ record before { node = Some later; packets = before.packets ++ sent } → Went service before event sent after
-  was_elsewhere : event_input before.packets event ≡ None → Elsewhere before sent after → Went service before event sent after
-  has_booted : (boot isn : ℕ) → event_input before.packets event ≡ None → before.node ≡ None → IsNextBoot before boot → sent ≡ hello (booted before.server before.profile boot isn)
+  was_elsewhere : event_input before event ≡ None → Elsewhere before sent after → Went service before event sent after
+  has_booted : (boot isn : ℕ) → event_input before event ≡ None → before.node ≡ None → IsNextBoot before boot → sent ≡ hello (booted before.server before.profile boot isn)
       → after ≡ record before { boot = boot; node = Some (booted before.server before.profile boot isn); packets = before.packets ++ sent } → Went service before event sent after
-  is_down : (before.node ≡ None) ⊎ (event_input before.packets event ≡ None) → sent ≡ [] → after ≡ record before { node = None; packets = before.packets ++ sent } → Went service before event sent after
+  is_down : (before.node ≡ None) ⊎ (event_input before event ≡ None) → sent ≡ [] → after ≡ record before { node = None; packets = before.packets ++ sent } → Went service before event sent after
 
 nothing_goes : (before : World) (sent : List Packet) (after : World) → sent ≡ [] → after ≡ before → Elsewhere before sent after
 nothing_goes before sent after none same = record {
@@ -94,15 +95,15 @@ move_goes number before sent after m = record {
 }
 
 module _ {State : Type 0} (service : Machine State) (before : World) (event : Event) (sent : List Packet) (after : World) where
-  turns : (input : Input) (node : Option Node) → event_input before.packets event ≡ Some input → IsBrought before input → before.node ≡ node
+  turns : (input : Input) (node : Option Node) → event_input before event ≡ Some input → IsBrought before input → before.node ≡ node
       → ServerTurn service input node sent after.node → after ≡ record before { node = after.node; packets = before.packets ++ sent } → Went service before event sent after
   turns input None e brought up t a = is_down (inl up) t.0 (a ∙ ap (λ n. record before { node = n; packets = before.packets ++ sent }) t.1)
   turns input (Some node) e brought up t a = took_turn input node t.0 e brought up t.2 (a ∙ ap (λ n. record before { node = n; packets = before.packets ++ sent }) t.1)
 
-  server_goes : (input : Input) → event_input before.packets event ≡ Some input → IsBrought before input → ServerMoves service input before sent after → Went service before event sent after
+  server_goes : (input : Input) → event_input before event ≡ Some input → IsBrought before input → ServerMoves service input before sent after → Went service before event sent after
   server_goes input e brought m = turns input before.node e brought refl m.0 m.1
 
-  noise_goes : (input : Input) → input ≡ Noise_comes → event_input before.packets event ≡ Some input → ServerMoves service input before sent after → Went service before event sent after
+  noise_goes : (input : Input) → input ≡ Noise_comes → event_input before event ≡ Some input → ServerMoves service input before sent after → Went service before event sent after
   noise_goes input noise e m = server_goes Noise_comes (e ∙ ap Some noise) tt (subst (λ i. ServerMoves service i before sent after) noise m)
 
 comes : {State : Type 0} (service : Machine State) (before : World) (number : ℕ) (sent : List Packet) (after : World) (packet : Packet) → packet_at before.packets number ≡ Some packet
@@ -116,15 +117,15 @@ comes_flipped : {State : Type 0} (service : Machine State) (before : World) (num
     → Flipped service before packet bit sent after → Went service before (Flip number bit) sent after
 comes_flipped service before number bit sent after (To_server segment) at f =
     noise_goes service before (Flip number bit) sent after (segment_or_noise (segments.reading (flipped bit (segments.spelling segment))))
-    (segment_is_noise _ (flipped_packet_is_refused bit (segments.spelling segment) segment (spelling_is_read segment f.wire.0) f.within)) (ap (λ p. arriving_as p bit) at) f.comes
+    (segment_is_noise _ (flipped_packet_is_refused bit (segments.spelling segment) segment (spelling_is_read segment f.wire.0) f.within)) (ap (λ p. arriving_as (grammar_of before.profile) p bit) at) f.comes
 comes_flipped service before number bit sent after (From_logger message) at f =
-    noise_goes service before (Flip number bit) sent after (message_or_noise (messages.reading (flipped bit (messages.spelling message))))
-    (message_is_noise (messages.reading (flipped bit (messages.spelling message))) (flipped_message_is_refused bit (messages.spelling message) message (message_is_read message f.wire.0) f.within))
-    (ap (λ p. arriving_as p bit) at) f.comes
+    noise_goes service before (Flip number bit) sent after (message_or_noise (messages.reading_by (grammar_of before.profile) (flipped bit (messages.spelling_by (grammar_of before.profile) message))))
+    (message_is_noise (messages.reading_by (grammar_of before.profile) (flipped bit (messages.spelling_by (grammar_of before.profile) message))) (flipped_is_refused_by (grammar_of before.profile) bit (messages.spelling_by (grammar_of before.profile) message) message (message_is_read message f.wire.0) f.within))
+    (ap (λ p. arriving_as (grammar_of before.profile) p bit) at) f.comes
 comes_flipped service before number bit sent after (To_client segment) at f =
-    was_elsewhere (ap (λ p. arriving_as p bit) at) (client_reads (destination_of segment) (segments.reading (flipped bit (segments.spelling segment))) before sent after f.comes)
+    was_elsewhere (ap (λ p. arriving_as (grammar_of before.profile) p bit) at) (client_reads (destination_of segment) (segments.reading (flipped bit (segments.spelling segment))) before sent after f.comes)
 comes_flipped service before number bit sent after (To_logger message) at f =
-    let q = flip_is_quiet service before message bit sent after f in was_elsewhere (ap (λ p. arriving_as p bit) at) (nothing_goes before sent after q.0 q.1)
+    let q = flip_is_quiet service before message bit sent after f in was_elsewhere (ap (λ p. arriving_as (grammar_of before.profile) p bit) at) (nothing_goes before sent after q.0 q.1)
 
 pub went : {State : Type 0} (service : Machine State) (before : World) (event : Event) (sent : List Packet) (after : World) → Happens service before event sent after
     → Went service before event sent after

@@ -31,7 +31,7 @@ use Rattle.long_laws.specs.Quarantine.{Quarantined, is_same, named_by, taken_awa
 use Rattle.long_laws.specs.QuarantineWorld.{QuarantineWorld, seen, key_recycled, recycled_by, recycled_world, with_answer, answer_sent, after_forget_came, without_place, after_forgotten_came, NotOpening, IsLongStep}
 use Rattle.long_laws.proofs.Again.{none_left, none_there}
 use Rattle.long_laws.proofs.ForgetLog.{takes_out_or_nothing, own_boot, forgotten_means_gone}
-use Rattle.long_laws.proofs.Forgotten.{Was, was, left}
+use Rattle.long_laws.proofs.Forgotten.{Was, was, left, same_stage}
 use Rattle.long_laws.proofs.Others.{all_others, find_others}
 use Rattle.long_laws.proofs.QuarantineDone.{HasIt}
 use Rattle.long_laws.proofs.QuarantineEvents.{Elsewhere}
@@ -444,12 +444,6 @@ left_places P key Asking a = tt
 left_places P key (Fetching count fetched) a = tt
 left_places P key (Fenced newer) a = tt
 
-same_restarting : (key : Key) (stage : Stage) → is_restarting (stage_without key stage) ≡ is_restarting stage
-same_restarting key Asking = refl
-same_restarting key (Fetching count fetched) = refl
-same_restarting key (Serving opened places) = refl
-same_restarting key (Fenced newer) = refl
-
 module _ (w : QuarantineWorld) (key : Key) (k : KeepsAll w) (vacant : IsVacant key w.now) where
   abbrev without : Node → Node
   without node = record node { stage = stage_without key node.stage }
@@ -462,7 +456,7 @@ module _ (w : QuarantineWorld) (key : Key) (k : KeepsAll w) (vacant : IsVacant k
       (λ q apart r. (done_without key q.named.key node.stage apart r.0, r.1)) (k.rests node up))
 
   over_left : (node : Node) (n : Named) → IsOver w.now node n → IsOver (forgotten key w.now) (without node) n
-  over_left node n x = (x.0, x.1, left_places (NotOpening n) key node.stage x.2, same_restarting key node.stage ∙ x.3)
+  over_left node n x = (x.0, x.1, left_places (NotOpening n) key node.stage x.2, same_stage key node.stage ∙ x.3)
 
   rest_left : (node : Node) (n : Named) (b : Bool) → key_eq n.key key ≡ b → RestsThere w.now node n → BodyHolds (forgotten key w.now) (without node) (ForgetMsg n)
   rest_left node n true e r =

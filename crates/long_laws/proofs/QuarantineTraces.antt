@@ -117,7 +117,7 @@ no_forgets wait None qs = refl
 module _ {State : Type 0} (service : Machine State) (wait : ℕ) (before after : QuarantineWorld) (step : LongStep) (sent : List Packet) (o : Stands service before.now)
     (k : KeepsAll before) (u : Usually service wait before step sent after) where
   abbrev comes : Option Input
-  comes = step_input before.now.packets step
+  comes = step_input before.now step
 
   -- where nothing comes to the server, no Forget goes out
   silent_notes : comes ≡ None → after.notes ≡ before.notes
@@ -146,19 +146,19 @@ module _ {State : Type 0} (service : Machine State) (wait : ℕ) (before after :
       let qs : List Quarantined = quarantine_after node input later.stage before.quarantine in
       let now : after.now.node ≡ Some later = ap (λ w. w.node) is in
       let same : after.quarantine ≡ qs =
-      u.quarantine ∙ (ap (λ n. quarantine_then n (event_input before.now.packets event) after.now.node before.quarantine) up
+      u.quarantine ∙ (ap (λ n. quarantine_then n (event_input before.now event) after.now.node before.quarantine) up
       ∙ (ap (λ x. quarantine_then (Some node) x after.now.node before.quarantine) i ∙ ap (λ n. quarantine_then (Some node) (Some input) n before.quarantine) now)) in
       let told : after.notes ≡ before.notes ++ forgets wait node.boot input qs =
-      u.notes ∙ (ap (λ n. before.notes ++ forgets_then wait n (event_input before.now.packets event) after.quarantine) up
+      u.notes ∙ (ap (λ n. before.notes ++ forgets_then wait n (event_input before.now event) after.quarantine) up
       ∙ (ap (λ x. before.notes ++ forgets_then wait (Some node) x after.quarantine) i ∙ ap (λ r. before.notes ++ forgets wait node.boot input r) same)) in
       let fresh : AllByRecursion (IsFresh (new_places node input node.stage)) before.notes =
       subst (λ i. AllByRecursion (IsFresh (new_places_then (Some node) i)) before.notes) i
-      (subst (λ n. AllByRecursion (IsFresh (new_places_then n (event_input before.now.packets event))) before.notes) up u.fresh) in
+      (subst (λ n. AllByRecursion (IsFresh (new_places_then n (event_input before.now event))) before.notes) up u.fresh) in
       kept_as (record before.now { node = Some later; packets = before.now.packets ++ sent }) after.now (before.notes ++ forgets wait node.boot input qs) after.notes qs after.quarantine is told same
       (turned_kept service before.now o before.notes before.quarantine k input node later sent up turn sent (λ P a. a) fresh wait brought (later_stands.distinct later now))
   by_event event u (was_elsewhere i e) = elsewhere service wait before after (Joint_event event) sent o k u i e
   by_event event u (has_booted boot isn none_comes down larger s is) =
-      let none : after.quarantine ≡ [] = u.quarantine ∙ ap (λ n. quarantine_then n (event_input before.now.packets event) after.now.node before.quarantine) down in
+      let none : after.quarantine ≡ [] = u.quarantine ∙ ap (λ n. quarantine_then n (event_input before.now event) after.now.node before.quarantine) down in
       kept_as _ after.now before.notes after.notes [] after.quarantine is (down_notes service wait before after (Joint_event event) sent o k u down) none
       (booted_kept before.now boot isn sent before.notes before.quarantine larger.0 s k)
   by_event event u (is_down why s is) =
@@ -207,10 +207,10 @@ module _ {State : Type 0} (service : Machine State) (wait : ℕ) (before after :
   abbrev Silent : LongStep → Type 0
   Silent step = (d : DropsSilently service before step sent after) → (AllByRecursion IsRefusal d.all × (d.there.packets ≡ before.now.packets ++ d.all)) × KeepsAll after
 
-  silent_event : (event : Event) (d : DropsSilently service before (Joint_event event) sent after) → (later_stands : Stands service d.there) → is_full_input (event_input before.now.packets event) ≡ true
+  silent_event : (event : Event) (d : DropsSilently service before (Joint_event event) sent after) → (later_stands : Stands service d.there) → is_full_input (event_input before.now event) ≡ true
       → Went service before.now event d.all d.there → (AllByRecursion IsRefusal d.all × (d.there.packets ≡ before.now.packets ++ d.all)) × KeepsAll after
-  silent_event event d later_stands full (was_elsewhere i e) = never_full (event_input before.now.packets event) i full
-  silent_event event d later_stands full (has_booted boot isn i down larger s is) = never_full (event_input before.now.packets event) i full
+  silent_event event d later_stands full (was_elsewhere i e) = never_full (event_input before.now event) i full
+  silent_event event d later_stands full (has_booted boot isn i down larger s is) = never_full (event_input before.now event) i full
   silent_event event d later_stands full (is_down why s is) = (
     (subst (AllByRecursion IsRefusal) (sym s) tt, ap (λ w. w.packets) is),
     kept_as (record before.now { node = None; packets = before.now.packets ++ [] }) after.now before.notes after.notes after.quarantine after.quarantine
@@ -222,7 +222,7 @@ module _ {State : Type 0} (service : Machine State) (wait : ℕ) (before after :
       let now : d.there.node ≡ Some later = ap (λ w. w.node) is in
       let full_input : is_full_input (Some input) ≡ true = ap is_full_input (sym i) ∙ full in
       let same : after.quarantine ≡ qs =
-      d.quarantine ∙ (ap (λ n. quarantine_then n (event_input before.now.packets event) d.there.node before.quarantine) up
+      d.quarantine ∙ (ap (λ n. quarantine_then n (event_input before.now event) d.there.node before.quarantine) up
       ∙ (ap (λ x. quarantine_then (Some node) x d.there.node before.quarantine) i ∙ ap (λ n. quarantine_then (Some node) (Some input) n before.quarantine) now)) in
       let told : after.notes ≡ before.notes ++ forgets wait node.boot input qs =
       d.notes ∙ (sym (append-nil before.notes) ∙ ap (λ fs. before.notes ++ fs) (sym (full_forgets input wait node.boot qs full_input))) in (
@@ -232,7 +232,7 @@ module _ {State : Type 0} (service : Machine State) (wait : ℕ) (before after :
             (turned_kept service before.now o before.notes before.quarantine k input node later d.all up turn [] (λ P a. tt) (full_fresh before.notes node input full_input) wait brought (later_stands.distinct later now)),
       )
 
-  silent : (step : LongStep) (d : DropsSilently service before step sent after) → Stands service d.there → is_full_input (step_input before.now.packets step) ≡ true
+  silent : (step : LongStep) (d : DropsSilently service before step sent after) → Stands service d.there → is_full_input (step_input before.now step) ≡ true
       → (AllByRecursion IsRefusal d.all × (d.there.packets ≡ before.now.packets ++ d.all)) × KeepsAll after
   silent (Joint_event event) d later_stands full = silent_event event d later_stands full (went service before.now event d.all d.there d.passes.0)
   silent (Recycles key) d later_stands full = absurd (true≢false (sym full))
@@ -267,7 +267,7 @@ module _ {State : Type 0} (service : Machine State) (small : HasSmallOutputs ser
   Goes before sent after = IsLongStep service (seen before) sent (seen after) × KeepsAll after
 
   usual : (before after : QuarantineWorld) (step : LongStep) (sent : List Packet) → Stands service before.now → AllSaw service small (seen before) → KeepsAll before → is_by_message step ≡ false
-      → (dropped full : Bool) → is_full_input (step_input before.now.packets step) ≡ full
+      → (dropped full : Bool) → is_full_input (step_input before.now step) ≡ full
       → MatchBool dropped ((sent ≡ []) × (after ≡ before)) (MatchBool full (DropsSilently service before step sent after) (Usually service wait before step sent after)) → Goes before sent after
   usual before after step sent o past k b true full f d = (inl (d.0, ap seen d.1), subst KeepsAll (sym d.1) k)
   usual before after step sent o past k b false false f u =
@@ -293,7 +293,7 @@ module _ {State : Type 0} (service : Machine State) (small : HasSmallOutputs ser
   moment_goes : (before after : QuarantineWorld) (step : QuarantineStep) (sent : List Packet) → Stands service before.now → AllSaw service small (seen before) → KeepsAll before
       → MayQuarantine service wait before step sent after → Goes before sent after
   moment_goes before after (Usual step) sent o past k (b, d) =
-      usual before after step sent o past k b (drops wait before.now.node (step_input before.now.packets step) before.quarantine) (is_full_input (step_input before.now.packets step)) refl d
+      usual before after step sent o past k b (drops wait before.now.node (step_input before.now step) before.quarantine) (is_full_input (step_input before.now step)) refl d
   moment_goes before after (To_log number) sent o past k (message, there, s, is) =
       subst (Goes before sent) (sym is)
       (subst (λ x. Goes before x (after_forget_came message before)) (sym s) (forget_came service before o k number message there))
@@ -324,7 +324,7 @@ module _ {State : Type 0} (service : Machine State) (small : HasSmallOutputs ser
   }
 
   pub follows : (start : World) (trace : List QuarantineMoment) → QuarantineJoint service wait start trace → Followed start trace
-  follows start [] j = record { stands = at_start service start j; saw = tt; kept = begins start j; steps = tt }
+  follows start [] j = record { stands = at_start service small start j; saw = tt; kept = begins start j; steps = tt }
   follows start (moment ∷ earlier) j =
       let f : Followed start earlier = follows start earlier j.0 in
       let g : Goes (after_moments start earlier) moment.sent moment.world = moment_goes (after_moments start earlier) moment.world moment.step moment.sent f.stands f.saw f.kept j.1 in

@@ -89,7 +89,7 @@ Source node input qs (Ended key) = Has qs key ⊎ ((n : Named) × (named_in node
 Source node input qs (Lives p) = Unit {0}
 Source node input qs (Opens n) = Unit {0}
 
-aged_key : (input : Input) (q : Quarantined) → (aged input q).named.key ≡ q.named.key
+pub aged_key : (input : Input) (q : Quarantined) → (aged input q).named.key ≡ q.named.key
 aged_key Tick_comes q = refl
 aged_key (Packet_comes segment) q = refl
 aged_key (Message_comes message) q = refl
@@ -283,12 +283,12 @@ module _ {State : Type 0} (service : Machine State) (before : QuarantineWorld) (
       is ∙ (ap (λ n. quarantine_then n None there.node before.quarantine) up ∙ ap (λ n. quarantine_then (Some old) None n before.quarantine) (same ∙ up)) in
       subst (λ l. AllByRecursion (HasIts l) (places_at node.stage)) (sym kept) (h node (sym same ∙ e))
 
-  event_has : (event : Event) (sent : List Packet) (there : World) (qs : List Quarantined) → qs ≡ quarantine_then before.now.node (event_input before.now.packets event) there.node before.quarantine
+  event_has : (event : Event) (sent : List Packet) (there : World) (qs : List Quarantined) → qs ≡ quarantine_then before.now.node (event_input before.now event) there.node before.quarantine
       → Went service before.now event sent there → AllHave there qs
   event_has event sent there qs is (took_turn input node later i brought up turn then_) x e =
       let now : there.node ≡ Some later = ap (λ w. w.node) then_ in
       let kept : qs ≡ quarantine_after node input later.stage before.quarantine =
-      is ∙ (ap (λ n. quarantine_then n (event_input before.now.packets event) there.node before.quarantine) up
+      is ∙ (ap (λ n. quarantine_then n (event_input before.now event) there.node before.quarantine) up
       ∙ (ap (λ y. quarantine_then (Some node) y there.node before.quarantine) i ∙ ap (λ n. quarantine_then (Some node) (Some input) n before.quarantine) now)) in
       subst (λ n. AllByRecursion (HasIts qs) (places_at n.stage)) (some_is later x (sym now ∙ e))
       (subst (λ l. AllByRecursion (HasIts l) (places_at later.stage)) (sym kept)
@@ -314,7 +314,7 @@ module _ {State : Type 0} (service : Machine State) (before : QuarantineWorld) (
       (subst (λ q. AllByRecursion (HasIts q) (places_at l.later.stage)) (sym kept)
       (packet_stage service l.node _ before.quarantine sent l.later.stage (h l.node l.up) (stage_went service l.node l.later _ sent l.turn)))
 
-  silent_has : (step : LongStep) (sent : List Packet) (after : QuarantineWorld) → is_full_input (step_input before.now.packets step) ≡ true → DropsSilently service before step sent after
+  silent_has : (step : LongStep) (sent : List Packet) (after : QuarantineWorld) → is_full_input (step_input before.now step) ≡ true → DropsSilently service before step sent after
       → AllHave after.now after.quarantine
   silent_has (Joint_event event) sent after f d = λ x e.
       event_has event d.all d.there after.quarantine d.quarantine (went service before.now event d.all d.there d.passes.0) x (sym (ap (λ w. w.node) d.now_is) ∙ e)
@@ -325,7 +325,7 @@ module _ {State : Type 0} (service : Machine State) (before : QuarantineWorld) (
   silent_has (Keeps_alive key) sent after f d = absurd (true≢false (sym f))
 
   event_step : (wait : ℕ) (step : LongStep) (sent : List Packet) (after : QuarantineWorld) (dropped full : Bool) → is_by_message step ≡ false
-      → is_full_input (step_input before.now.packets step) ≡ full
+      → is_full_input (step_input before.now step) ≡ full
       → MatchBool dropped ((sent ≡ []) × (after ≡ before)) (MatchBool full (DropsSilently service before step sent after) (Usually service wait before step sent after)) → AllHave after.now after.quarantine
   event_step wait step sent after true full b f d = subst (λ w. AllHave w.now w.quarantine) (sym d.1) h
   event_step wait step sent after false true b f d = silent_has step sent after f d
@@ -386,8 +386,8 @@ module _ {State : Type 0} (service : Machine State) (small : HasSmallOutputs ser
   step_has : (before after : QuarantineWorld) (step : QuarantineStep) (sent : List Packet) → Stands service before.now → AllHave before.now before.quarantine
       → MayQuarantine service wait before step sent after → AllHave after.now after.quarantine
   step_has before after (Usual step) sent o h (b, d) =
-      event_step service before o h wait step sent after (drops wait before.now.node (step_input before.now.packets step) before.quarantine)
-      (is_full_input (step_input before.now.packets step)) b refl d
+      event_step service before o h wait step sent after (drops wait before.now.node (step_input before.now step) before.quarantine)
+      (is_full_input (step_input before.now step)) b refl d
   step_has before after (To_log number) sent o h (message, there, s, is) =
       subst (λ w. AllHave w.now w.quarantine) (sym is)
       (answered_has (answer_to_forget before.now.log message) (recycled_world (recycled_by message before.now.log) before) (out_has (recycled_by message before.now.log) before h))

@@ -1,5 +1,5 @@
 -- The invariants are preserved when the log recycles the entry of a connection that is done.
-use Rattle.std.proofs.Common.{◌≡◌, ◌⊎◌, inl, ℕ, ◌<◌, ◌≤◌, ◌^◌, Bool, true, false, refl, sym, ◌∙◌, List, [], length, arith, if◌then◌else◌}
+use Rattle.std.proofs.Common.{◌≡◌, ◌⊎◌, inl, ℕ, ◌<◌, ◌≤◌, ◌^◌, Bool, true, false, refl, sym, ◌∙◌, le_trans, List, [], length, arith, if◌then◌else◌}
 use Rattle.std.specs.List.{AllByRecursion}
 use Rattle.ft_io.specs.declared.Key.{Key}
 use Rattle.ft_io.specs.Key.{key_eq}
@@ -26,6 +26,7 @@ use Rattle.ft_model.proofs.Fetching.{AgreesWith}
 use Rattle.ft_model.proofs.Lists.{all_both}
 use Rattle.ft_model.proofs.Scripts.{EntryFits}
 use Rattle.ft_model.proofs.Seen.{IsSeen}
+use Rattle.ft_model.proofs.Services.{prefix_length, reads_go_on}
 use Rattle.ft_model.proofs.ToldLast.{WasTold}
 use Rattle.ft_model.proofs.ToldOver.{StageTold}
 use Rattle.ft_io.proofs.Choices.{holds_if, if_false}
@@ -41,14 +42,19 @@ author_without key author k = if key_eq k key then [] else author k
 pub author_elsewhere : (key : Key) (author : Key → List ℕ) (k : Key) → key_eq k key ≡ false → author k ≡ author_without key author k
 author_elsewhere key author k a = sym (if_false (key_eq k key) [] (author k) a)
 
-pub nothing_made : {State : Type 0} (service : Machine State) (script : List ℕ) → length (reference service script []).output ≤ 2 ^ 24
+-- where a run's output is within the stream's limit, so is the output before its first read
+pub nothing_made : {State : Type 0} (service : Machine State) (bytes lengths script : List ℕ) → length (reference service bytes lengths).output ≤ 2 ^ 24
+    → length (reference service script []).output ≤ 2 ^ 24
 unfolding reference
-nothing_made service script = omega arith
+nothing_made service bytes lengths script short =
+    let more : length service.greeting ≤ length (reference service bytes lengths).output =
+    prefix_length service.greeting (reference service bytes lengths).output (reads_go_on service bytes [] lengths (lengths, refl)).output in
+    le_trans more short
 
 pub short_without : {State : Type 0} (service : Machine State) (script : Key → List ℕ) (key : Key) (author : Key → List ℕ)
     → ((k : Key) → length (reference service (script k) (author k)).output ≤ 2 ^ 24) → (k : Key) → length (reference service (script k) (author_without key author k)).output ≤ 2 ^ 24
 short_without service script key author short k =
-    holds_if (λ l. length (reference service (script k) l).output ≤ 2 ^ 24) (key_eq k key) [] (author k) (λ t. nothing_made service (script k)) (λ t. short k)
+    holds_if (λ l. length (reference service (script k) l).output ≤ 2 ^ 24) (key_eq k key) [] (author k) (λ t. nothing_made service (script k) (author k) (script k) (short k)) (λ t. short k)
 
 pub only_without : (key : Key) (author : Key → List ℕ) (places : List Place) → OnlySettled author places → OnlySettled (author_without key author) places
 only_without key author places only k =

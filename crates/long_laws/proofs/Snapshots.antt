@@ -54,7 +54,7 @@ partly e bytes fin acked lengths done = record e { bytes = bytes; fin = fin; ack
 
 -- bytes
 piece_added : (e : Entry) (key : Key) (bytes piece : List ℕ)
-    → with_part (record { key = key; offset = length bytes; acked = 0; fin = false; bytes = piece }) (partly e bytes false 0 [] false) ≡ partly e (bytes ++ piece) false 0 [] false
+    → with_part (record { key = key; offset = length bytes; acked = 0; fin = false; more = false; bytes = piece }) (partly e bytes false 0 [] false) ≡ partly e (bytes ++ piece) false 0 [] false
 piece_added e key bytes piece =
     let none : length bytes - length bytes ≡ 0 = omega arith in
     ap (λ (x : Entry). record x { acknowledged = 0 })
@@ -66,7 +66,7 @@ data_made : (boot : ℕ) (before : List Entry) (e : Entry) (bytes : List ℕ) (p
     → log_after_all (ending boot before (partly e bytes false 0 [] false)) (data_of boot e.key (length bytes) pieces) ≡ ending boot before (partly e (bytes ++ joined pieces) false 0 [] false)
 data_made boot before e bytes [] a = ap (λ l. ending boot before (partly e l false 0 [] false)) (sym (append-nil bytes))
 data_made boot before e bytes (piece ∷ pieces) a =
-    let part : Part = record { key = e.key; offset = length bytes; acked = 0; fin = false; bytes = piece } in
+    let part : Part = record { key = e.key; offset = length bytes; acked = 0; fin = false; more = false; bytes = piece } in
     let one : log_after (ending boot before (partly e bytes false 0 [] false)) (said boot (DataMsg part)) ≡ ending boot before (partly e (bytes ++ piece) false 0 [] false) =
     own (ending boot before (partly e bytes false 0 [] false)) (DataMsg part) refl refl
     ∙ (changed boot e.key (with_part part) before (partly e bytes false 0 [] false) a refl ∙ ap (ending boot before) (piece_added e e.key bytes piece)) in

@@ -46,6 +46,7 @@ use Rattle.long_laws.proofs.LetGo.{with_packets, with_rst}
 use Rattle.long_laws.proofs.Long.{all_stand}
 use Rattle.long_laws.proofs.Others.{all_others, find_others, settled_others, last_there, all_but_one}
 use Rattle.long_laws.proofs.Stands.{Stands}
+use Rattle.tcp_rules.specs.Profile.{grammar_of}
 
 -- An entry is recycled
 module _ (key : Key) (log : Log) (clients : List Client) (packets : List Packet) where
@@ -282,7 +283,7 @@ module _ {State : Type 0} (service : Machine State) (before : World) (o : Stands
   flipped_spares (To_server segment) bit f = noise_spares _ (segment_is_noise _ (bit_changed bit segment f.wire f.within)) f.comes
   flipped_spares (To_client segment) bit f = nothing (client_silent (destination_of segment) _ f.comes)
   flipped_spares (To_logger message) bit f = nothing (flip_is_quiet service before message bit sent after f).0
-  flipped_spares (From_logger message) bit f = noise_spares _ (message_is_noise _ (message_bit_changed bit message f.wire f.within)) f.comes
+  flipped_spares (From_logger message) bit f = noise_spares _ (message_is_noise _ (message_bit_changed (grammar_of before.profile) bit message f.wire f.within)) f.comes
 
   not_full : (number : ℕ) (packet : Packet) → packet_at before.packets number ≡ Some packet → brings_full before (Deliver number) ≡ false → is_full packet ≡ false
   not_full number packet at full = (or_parts (is_full packet) false (sym (ap (λ x. list_any is_full (option_to_list x)) at) ∙ full)).0

@@ -48,9 +48,9 @@ pub record Stands {State : Type 0} (service : Machine State) (w : World) : Type 
 abbrev pub AreSame : {State : Type 0} {service : Machine State} {was is : World} → Stands service was → Stands service is → Type 0
 AreSame was is = (is.script ≡ was.script) × (is.isn ≡ was.isn)
 
-unfoldable pub at_start : {State : Type 0} (service : Machine State) (start : World) → IsStart start → Stands service start
-at_start service start s =
-    let j : JointInvariant service start start = start_sound service start s in
+unfoldable pub at_start : {State : Type 0} (service : Machine State) → HasSmallOutputs service → (start : World) → IsStart start → Stands service start
+at_start service small start s =
+    let j : JointInvariant service start start = start_sound service small start s in
     record {
       script = script_of start;
       isn = isn_of start;
@@ -89,6 +89,7 @@ sees_front service w o =
     (λ c s f. let same : logged_run service o.script w.log c.key ≡ unfailing service w.log c = ap (λ l. reference service l (logged_lengths c.key w.log)) (sym f.0) in
     record {
       accepted = subst (λ r. IsPrefix c.accepted r.output) same s.front;
+      unlogged = s.unlogged;
       ended = λ e. subst (λ r. (r.closed ≡ true) × (c.accepted ≡ r.output)) same (s.ended e);
     }) o.sees o.faithful.clients
 

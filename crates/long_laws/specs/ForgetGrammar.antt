@@ -1,6 +1,7 @@
 -- The grammar of messages about forgetting: which strings of bytes are such a message and what they say, and the one spelling in which this project writes it.
 -- It has the header of a message with another magic, and after it the key and the two initial sequence numbers of a connection.
-use Rattle.std.specs.Prelude.{ℕ, not, List, [], ◌∷◌, length, drop, slice_index, find, Option, None, Some, Result, Ok, Err, ◌≤◌, ◌<◌, ◌^◌, ◌==◌, ◌||◌, nat_lt, if◌then◌else◌}
+use Rattle.std.specs.Prelude.{ℕ, not, List, [], ◌∷◌, length, drop, slice_index, find, Option, None, Some, Result, Ok, Err, ◌≤◌, ◌<◌, ◌^◌, ◌==◌, ◌||◌}
+use Rattle.std.specs.Prelude.{nat_lt, if◌then◌else◌}
 use Rattle.seq_arith.specs.declared.kinds.Field.{Field}
 use Rattle.seq_arith.specs.declared.kinds.Field.TheVariants as fields
 use Rattle.seq_arith.specs.declared.kinds.BadMsg.{BadMsg}

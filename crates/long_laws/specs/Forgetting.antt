@@ -81,8 +81,8 @@ abbrev pub is_forget_answer : ForgetBody → Bool
 is_forget_answer (ForgetMsg n) = false
 is_forget_answer (ForgottenMsg n) = true
 
--- The answer to a message about forgetting, once the log has taken it: Forgotten where the log doesn't have the connection then. A message of an older boot gets
--- Stale, as any other message would, and one of a newer boot nothing.
+-- The answer to a message about forgetting, once the log has taken it: Forgotten where the log doesn't have the connection then. A message of an older boot
+-- gets Stale, as any other message would, and one of a newer boot nothing.
 unfoldable pub answer_to_forget : Log → ForgetMessage → Option ForgetAnswer
 answer_to_forget log message =
     if is_forget_answer message.body then None

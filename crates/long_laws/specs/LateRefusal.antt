@@ -1,5 +1,5 @@
--- A late refusal: a live client refuses a wrong acknowledgement of its SYN by a RST, and opens after all. When the RST comes, its number is exactly the next one:
--- it ends the connection, which its client believes open. Fifteen events.
+-- A late refusal: a live client refuses a wrong acknowledgement of its SYN by a RST, and opens after all. When the RST comes, its number is exactly the next
+-- one: it ends the connection, which its client believes open. Fifteen events.
 use Rattle.std.specs.Prelude.{true, Some, List, [], ◌∷◌}
 use Rattle.tcp_rules.specs.Profile.{plain}
 use Rattle.seq_arith.specs.Message.Body.{DoneMsg, EndedMsg}
@@ -14,7 +14,9 @@ use Rattle.ft_model.specs.Point.{Point}
 use Rattle.ft_model.specs.World.{World, Moment}
 use Rattle.ft_model.specs.declared.event.Event.TheVariants.{Boot, Deliver, Begin, Send, Ack}
 use Rattle.ft_model.specs.WorkedRuns.Common.{server, key, hello_text, client_with, start_with, from_client, to_log, from_log, numbers}
-use Rattle.ft_model.specs.WorkedRuns.FirstPath.{moment, packet_1, packet_2, packet_3, packet_4, packet_5, packet_6, packet_7, packet_8, packet_9, packet_10, packet_11, opening, open_client, told_client, opened_entry, log_with, open_point, taken_point, begun_point, node_at, node_live}
+use Rattle.ft_model.specs.WorkedRuns.FirstPath.{moment, packet_1, packet_2, packet_3, packet_4, packet_5, packet_6, packet_7, packet_8, packet_9}
+use Rattle.ft_model.specs.WorkedRuns.FirstPath.{packet_10, packet_11, opening, open_client, told_client, opened_entry, log_with, open_point}
+use Rattle.ft_model.specs.WorkedRuns.FirstPath.{taken_point, begun_point, node_at, node_live}
 
 abbrev pub live : Client → Client
 live client = record client { kind = Live }

@@ -14,14 +14,16 @@ use Rattle.ft_model.specs.WorkedRuns.Common.{key, to_client, to_log, from_log}
 use Rattle.ft_model.specs.WorkedRuns.FirstPath.{opening_trace, node_at, log_with}
 use Rattle.long_laws.specs.LongTrace.{LongMoment, forgotten}
 use Rattle.long_laws.specs.LongTrace.LongStep.{Joint_event, Forgets}
-use Rattle.long_laws.specs.EarlyReturn.{joint_moment, moment, moment_11, moment_12, moment_13, moment_14, moment_15, moment_16, moment_17, past, opening, numbers}
+use Rattle.long_laws.specs.EarlyReturn.{joint_moment, moment, moment_11, moment_12, moment_13, moment_14, moment_15, moment_16, moment_17, past}
+use Rattle.long_laws.specs.EarlyReturn.{opening, numbers}
 
 -- the server forgets the key while the new client's SYN is under way
 abbrev pub moment_18 : LongMoment
 moment_18 = moment (Forgets key) [] past (forgotten key moment_17.world.now)
 
 abbrev pub moment_19 : LongMoment
-moment_19 = moment (Joint_event (Deliver 3)) (to_log 1 (OpenMsg numbers) ∷ []) past (record moment_18.world.now { node = Some (node_at (Serving 2 (Opens numbers ∷ []))) })
+moment_19 = moment (Joint_event (Deliver 3)) (to_log 1 (OpenMsg numbers) ∷ []) past
+    (record moment_18.world.now { node = Some (node_at (Serving 2 (Opens numbers ∷ []))) })
 
 abbrev pub moment_20 : LongMoment
 moment_20 = moment (Joint_event (Deliver 4)) (from_log 1 (OpenedMsg numbers) ∷ []) past (record moment_19.world.now { log = log_with (new_entry numbers ∷ []) })
@@ -30,7 +32,8 @@ abbrev pub begun_point : Point
 begun_point = record (point_opened plain numbers) { rest = 1 }
 
 abbrev pub moment_21 : LongMoment
-moment_21 = moment (Joint_event (Deliver 5)) (to_client 18 70536 9001 65535 (Some 1460) [] ∷ []) past (record moment_20.world.now { node = Some (node_at (Serving 2 (Lives begun_point ∷ []))) })
+moment_21 = moment (Joint_event (Deliver 5)) (to_client 18 70536 9001 65535 (Some 1460) [] ∷ []) past
+    (record moment_20.world.now { node = Some (node_at (Serving 2 (Lives begun_point ∷ []))) })
 
 abbrev pub open_client : Client
 open_client = record opening { phase = Established; sisn = 70536 }

@@ -1,8 +1,8 @@
--- No false reset in long traces: a RST ends a connection for good (RFC 9293, 3.5.2), so none may be sent to a client whose connection the log keeps. In a joint trace
--- none is ever under way. In a long trace one may be, for two reasons. A log that is full has room again once an entry is recycled. An opening is asked for at each
--- tick, so the log may say Full and take it later: if the server hears that Full afterwards, it resets a client that has an entry; and the RST for a Full that it
--- heard in time may reach the client when the log has taken the opening. And a new client may come at a key whose entry is recycled and that the server has not
--- forgotten yet: it gets CLOSED's RST, which may reach it when its own connection is in the log.
+-- No false reset in long traces: a RST ends a connection for good (RFC 9293, 3.5.2), so none may be sent to a client whose connection the log keeps. In a
+-- joint trace none is ever under way. In a long trace one may be, for two reasons. A log that is full has room again once an entry is recycled. An opening is
+-- asked for at each tick, so the log may say Full and take it later: if the server hears that Full afterwards, it resets a client that has an entry; and the
+-- RST for a Full that it heard in time may reach the client when the log has taken the opening. And a new client may come at a key whose entry is recycled
+-- and that the server has not forgotten yet: it gets CLOSED's RST, which may reach it when its own connection is in the log.
 use Rattle.limits.specs.Limits.{most_entries}
 use Rattle.std.specs.Prelude.{◌≡◌, ◌<◌, Bool, true, false, is_some, List, [], ◌∷◌, length}
 use Rattle.std.specs.List.{AllByRecursion, list_any}
@@ -58,9 +58,9 @@ ResetsOnlyLogged log (To_server segment) = Unit {0}
 ResetsOnlyLogged log (To_logger message) = Unit {0}
 ResetsOnlyLogged log (From_logger message) = Unit {0}
 
--- A server is discreet in a moment: when it hears that the log is full it sends no RST, and it resets no client that has no entry, so that a new client's SYN at a
--- key that is not forgotten yet is merely lost. The SYN is sent again (RFC 9293, 3.8.1). By the law of a turn a pending opening answers Full with a RST: so the
--- first says that no Full reaches one
+-- A server is discreet in a moment: when it hears that the log is full it sends no RST, and it resets no client that has no entry, so that a new client's SYN
+-- at a key that is not forgotten yet is merely lost. The SYN is sent again (RFC 9293, 3.8.1). By the law of a turn a pending opening answers Full with a RST:
+-- so the first says that no Full reaches one
 pub record IsDiscreet (before : World) (moment : LongMoment) : Type 0 where
   pub full : hears_full before moment.step ≡ true → AllByRecursion (λ packet. is_reset packet ≡ false) moment.sent
   pub unlogged : AllByRecursion (ResetsOnlyLogged moment.world.now.log) moment.sent

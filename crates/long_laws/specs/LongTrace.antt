@@ -1,7 +1,8 @@
 -- Long traces, of a service that lives for years. To the events of a joint trace they add five steps: the log recycles the entry of a connection that is done,
 -- the server forgets its key, a new client arrives, also at an address and port that were used before, the server sends a silent client a keep-alive, and it
--- lets go of one that is gone. The one premise more is on the network: whatever of a connection is still under way when its entry is recycled is lost (RFC 9293,
--- 3.4.2: no segment outlives MSL, the maximum segment lifetime). A server makes it true by a quarantine: it waits that long before it has the entry recycled.
+-- lets go of one that is gone. The one premise more is on the network: whatever of a connection is still under way when its entry is recycled is lost (RFC
+-- 9293, 3.4.2: no segment outlives MSL, the maximum segment lifetime). A server makes it true by a quarantine: it waits that long before it has the entry
+-- recycled.
 use Rattle.std.specs.Prelude.{◌≡◌, ◌<◌, ◌+◌, ◌%◌, ◌^◌, ℕ, Bool, true, false, map, filter, if◌then◌else◌, Option, Some, None, List, [], ◌∷◌, ◌++◌}
 use Rattle.std.specs.List.{AllByRecursion}
 use Rattle.ft_io.specs.declared.Addr.{Addr}
@@ -11,7 +12,8 @@ use Rattle.seq_arith.specs.Number.{number_at}
 use Rattle.seq_arith.specs.declared.flags.TheConstants.{RST, ACK}
 use Rattle.seq_arith.specs.Packet.{Segment}
 use Rattle.seq_arith.specs.Message.{Body}
-use Rattle.seq_arith.specs.Message.Body.{HelloMsg, SummaryMsg, ListMsg, EntryMsg, BytesMsg, PartMsg, CutsMsg, LensMsg, OpenMsg, OpenedMsg, DataMsg, StableMsg, ReadMsg, ReadsMsg, DoneMsg, EndedMsg, StaleMsg, FullMsg}
+use Rattle.seq_arith.specs.Message.Body.{HelloMsg, SummaryMsg, ListMsg, EntryMsg, BytesMsg, PartMsg, CutsMsg, LensMsg, OpenMsg, OpenedMsg, DataMsg}
+use Rattle.seq_arith.specs.Message.Body.{StableMsg, ReadMsg, ReadsMsg, DoneMsg, EndedMsg, StaleMsg, FullMsg}
 use Rattle.server_trait.specs.Service.{Machine, reference}
 use Rattle.ft_model.specs.Client.{Client, is_ended}
 use Rattle.ft_model.specs.Growth.{IsPrefix, logged_lengths}
@@ -123,8 +125,8 @@ pub record MayArrive (c : Client) (w : World) : Type 0 where
   pub clear : IsClear c.key w
   pub unheard : AllByRecursion (λ p. concerns c.key p ≡ false) w.packets
 
--- The server lets go of a client that is silent for too long (RFC 9293, 3.8.3: the second threshold is reached; 3.8.4: keep-alives stay unanswered), half-open or established.
--- It takes the turn of a RST at exactly the next number, which nobody sent: the connection is reset, and the client isn't told
+-- The server lets go of a client that is silent for too long (RFC 9293, 3.8.3: the second threshold is reached; 3.8.4: keep-alives stay unanswered),
+-- half-open or established. It takes the turn of a RST at exactly the next number, which nobody sent: the connection is reset, and the client isn't told
 abbrev pub last_rst : Addr → Point → Segment
 last_rst server p = record {
   head = record {
@@ -150,8 +152,8 @@ pub record LetsGo {State : Type 0} (service : Machine State) (key : Key) (before
   pub turn : LawfulTurn service node (Packet_comes (last_rst node.server point)) sent later
   pub after_is : after ≡ record before { node = Some later; packets = before.packets ++ sent }
 
--- The server sends a silent client a keep-alive (RFC 9293, 3.8.4): SEG.SEQ is SND.NXT - 1, so the segment isn't acceptable, and a client that has the connection
--- answers it by an ACK. Acknowledgement and window are those that it was told last
+-- The server sends a silent client a keep-alive (RFC 9293, 3.8.4): SEG.SEQ is SND.NXT - 1, so the segment isn't acceptable, and a client that has the
+-- connection answers it by an ACK. Acknowledgement and window are those that it was told last
 abbrev pub keep_alive : Addr → Point → Segment
 keep_alive server p = record {
   head = record {

@@ -1,4 +1,5 @@
--- Done means over: the client of an entry that is done has all that the server wrote until it closed, or it has reset the connection, or the server let go of it.
+-- Done means over: the client of an entry that is done has all that the server wrote until it closed, or it has reset the connection, or the server let go of
+-- it.
 use Rattle.std.specs.Prelude.{◌≡◌, ◌⊎◌, Bool, true, false, ◌&&◌, ◌||◌, if◌then◌else◌, Some, List, [], ◌∷◌}
 use Rattle.std.specs.List.{list_any}
 use Rattle.ft_io.specs.declared.Key.{Key}
@@ -20,8 +21,8 @@ abbrev pub is_reset : Phase → Bool
 is_reset Reset = true
 is_reset _ = false
 
--- nothing is open any more: the server's FIN was accepted, or there was a RST. A server that has forgotten all but that the connection is done answers by a RST,
--- if the client sends its FIN again (RFC 9293, 3.10.7.1)
+-- nothing is open any more: the server's FIN was accepted, or there was a RST. A server that has forgotten all but that the connection is done answers by a
+-- RST, if the client sends its FIN again (RFC 9293, 3.10.7.1)
 abbrev pub is_at_end : Phase → Bool
 is_at_end Ended = true
 is_at_end Reset = true

@@ -1,6 +1,7 @@
 -- Quarantine: a server keeps the place of a connection that is done for `wait` ticks, until no packet of the connection is under way any more (RFC 9293, 3.6.1,
 -- TIME-WAIT; RFC 791, 3.2: the time to live). Then it has the log recycle the entry, and forgets the key.
-use Rattle.std.specs.Prelude.{◌≡◌, ◌⊎◌, ◌≤◌, ℕ, ◌+◌, ◌==◌, ◌&&◌, nat_le, max, Bool, false, map, if◌then◌else◌, find, Option, Some, None, option_map, List, [], ◌∷◌, filter}
+use Rattle.std.specs.Prelude.{◌≡◌, ◌⊎◌, ◌≤◌, ℕ, ◌+◌, ◌==◌, ◌&&◌, nat_le, max, Bool, false, map, if◌then◌else◌, find, Option, Some, None, option_map}
+use Rattle.std.specs.Prelude.{List, [], ◌∷◌, filter}
 use Rattle.std.specs.List.{list_any, flat_map}
 use Rattle.ft_io.specs.declared.Addr.{Addr}
 use Rattle.ft_io.specs.declared.Key.{Key}
@@ -62,7 +63,8 @@ fetched_now node Tick_comes count fetched = []
 -- the numbers of a key's connection in the turn that ends it, or that ends the restart in which it was fetched as done
 abbrev pub named_in : Node → Input → Stage → Key → Option Named
 named_in node input (Serving opened places) key = named_place (place_at key places)
-named_in node input (Fetching count fetched) key = option_map (λ f. named_head f.head) (find (λ f. key_eq f.head.key key) (fetched_now node input count fetched))
+named_in node input (Fetching count fetched) key = option_map (λ f. named_head f.head)
+    (find (λ f. key_eq f.head.key key) (fetched_now node input count fetched))
 named_in node input Asking key = None
 named_in node input (Fenced newer) key = None
 

@@ -20,7 +20,9 @@ use Rattle.ft_model.specs.Node.Input.{Packet_comes, Message_comes, Tick_comes}
 use Rattle.ft_model.specs.Node.Place.{Opens, Lives, Ended}
 use Rattle.ft_model.specs.Node.Stage.{Serving}
 use Rattle.ft_model.specs.ServingTurn.{newcomers}
-use Rattle.ft_model.specs.Wire.{wire_of}
+use Rattle.seq_arith.specs.declared.kinds.Grammar.{Grammar}
+use Rattle.tcp_rules.specs.Profile.{grammar_of}
+use Rattle.ft_model.specs.Wire.{wire_by}
 use Rattle.ft_model.specs.World.{World, IsStart, segment_or_noise, message_or_noise}
 use Rattle.ft_model.specs.declared.event.Event.{Event}
 use Rattle.ft_model.specs.declared.event.Event.TheVariants.{Tick, Deliver, Flip}
@@ -28,7 +30,8 @@ use Rattle.long_laws.specs.Forgetting.{Named, ForgetBody, ForgetMessage, is_recy
 use Rattle.long_laws.specs.Forgetting.ForgetBody.{ForgetMsg, ForgottenMsg}
 use Rattle.long_laws.specs.Forgetting.ForgetAnswer.{About_forgetting, Of_log}
 use Rattle.long_laws.specs.LongResets.{says_full}
-use Rattle.long_laws.specs.LongTrace.{others, places_at, without_entry, recycled, MayRecycle, forgotten, Gone, gone_with, LongWorld, LongStep, MayPass, IsMaskedMoment}
+use Rattle.long_laws.specs.LongTrace.{others, places_at, without_entry, recycled, MayRecycle, forgotten, Gone, gone_with, LongWorld, LongStep}
+use Rattle.long_laws.specs.LongTrace.{MayPass, IsMaskedMoment}
 use Rattle.long_laws.specs.LongTrace.LongStep.{Joint_event, Recycles, Forgets}
 use Rattle.long_laws.specs.Quarantine.{Quarantined, quarantined_at, quarantine_after, forgets, ended_early, is_dropped, taken_away}
 
@@ -47,20 +50,21 @@ arriving (Some (To_server segment)) = Some (Packet_comes segment)
 arriving (Some (From_logger message)) = Some (Message_comes message)
 arriving _ = None
 
-abbrev pub arriving_as : Option Packet → (bit : ℕ) → Option Input
-arriving_as (Some (To_server segment)) bit = Some (segment_or_noise (segments.reading (flipped bit (wire_of (To_server segment)).bytes)))
-arriving_as (Some (From_logger message)) bit = Some (message_or_noise (messages.reading (flipped bit (wire_of (From_logger message)).bytes)))
-arriving_as _ bit = None
+abbrev pub arriving_as : Grammar → Option Packet → (bit : ℕ) → Option Input
+arriving_as grammar (Some (To_server segment)) bit = Some (segment_or_noise (segments.reading (flipped bit (wire_by grammar (To_server segment)).bytes)))
+arriving_as grammar (Some (From_logger message)) bit =
+    Some (message_or_noise (messages.reading_by grammar (flipped bit (wire_by grammar (From_logger message)).bytes)))
+arriving_as grammar _ bit = None
 
-abbrev pub event_input : List Packet → Event → Option Input
-event_input packets Tick = Some Tick_comes
-event_input packets (Deliver number) = arriving (packet_at packets number)
-event_input packets (Flip number bit) = arriving_as (packet_at packets number) bit
-event_input packets _ = None
+abbrev pub event_input : World → Event → Option Input
+event_input w Tick = Some Tick_comes
+event_input w (Deliver number) = arriving (packet_at w.packets number)
+event_input w (Flip number bit) = arriving_as (grammar_of w.profile) (packet_at w.packets number) bit
+event_input w _ = None
 
-abbrev pub step_input : List Packet → LongStep → Option Input
-step_input packets (Joint_event event) = event_input packets event
-step_input packets _ = None
+abbrev pub step_input : World → LongStep → Option Input
+step_input w (Joint_event event) = event_input w event
+step_input w _ = None
 
 -- The quarantine of the server that is up. It dies with the server
 abbrev pub quarantine_then : Option Node → Option Input → Option Node → List Quarantined → List Quarantined
@@ -109,18 +113,20 @@ abbrev pub IsFresh : List Place → ForgetMessage → Type 0
 IsFresh places message = AllByRecursion (NotOpening (named_of message.body)) places
 
 -- a step that a server without quarantine may take too
-pub record Usually {State : Type 0} (service : Machine State) (wait : ℕ) (before : QuarantineWorld) (step : LongStep) (sent : List Packet) (after : QuarantineWorld) : Type 0 where
+pub record Usually {State : Type 0} (service : Machine State) (wait : ℕ) (before : QuarantineWorld) (step : LongStep) (sent : List Packet)
+    (after : QuarantineWorld) : Type 0 where
   pub passes : MayPass service (seen before) step sent (seen after)
-  pub quarantine : after.quarantine ≡ quarantine_then before.now.node (step_input before.now.packets step) after.now.node before.quarantine
-  pub notes : after.notes ≡ before.notes ++ forgets_then wait before.now.node (step_input before.now.packets step) after.quarantine
-  pub fresh : AllByRecursion (IsFresh (new_places_then before.now.node (step_input before.now.packets step))) before.notes
+  pub quarantine : after.quarantine ≡ quarantine_then before.now.node (step_input before.now step) after.now.node before.quarantine
+  pub notes : after.notes ≡ before.notes ++ forgets_then wait before.now.node (step_input before.now step) after.quarantine
+  pub fresh : AllByRecursion (IsFresh (new_places_then before.now.node (step_input before.now step))) before.notes
 
 -- Full drops the opening that it names, and no RST goes out: the log will have room again, and the client repeats its SYN
-pub record DropsSilently {State : Type 0} (service : Machine State) (before : QuarantineWorld) (step : LongStep) (sent : List Packet) (after : QuarantineWorld) : Type 0 where
+pub record DropsSilently {State : Type 0} (service : Machine State) (before : QuarantineWorld) (step : LongStep) (sent : List Packet)
+    (after : QuarantineWorld) : Type 0 where
   pub all : List Packet  -- what a server without quarantine would send
   pub there : World  -- .. and the world after that
   pub passes : MayPass service (seen before) step all (record { now = there; past = after.past })
-  pub quarantine : after.quarantine ≡ quarantine_then before.now.node (step_input before.now.packets step) there.node before.quarantine
+  pub quarantine : after.quarantine ≡ quarantine_then before.now.node (step_input before.now step) there.node before.quarantine
   pub notes : after.notes ≡ before.notes
   pub sent_is : sent ≡ []
   pub now_is : after.now ≡ record there { packets = before.now.packets }
@@ -187,8 +193,8 @@ pub data QuarantineStep : Type 0 where
 abbrev pub MayQuarantine : {State : Type 0} → Machine State → (wait : ℕ) → QuarantineWorld → QuarantineStep → List Packet → QuarantineWorld → Type 0
 MayQuarantine service wait before (Usual step) sent after =
     (is_by_message step ≡ false)
-    × MatchBool (drops wait before.now.node (step_input before.now.packets step) before.quarantine) ((sent ≡ []) × (after ≡ before))
-    (MatchBool (is_full_input (step_input before.now.packets step)) (DropsSilently service before step sent after) (Usually service wait before step sent after))
+    × MatchBool (drops wait before.now.node (step_input before.now step) before.quarantine) ((sent ≡ []) × (after ≡ before))
+    (MatchBool (is_full_input (step_input before.now step)) (DropsSilently service before step sent after) (Usually service wait before step sent after))
 MayQuarantine service wait before (To_log number) sent after =
     (message : ForgetMessage) × (slice_get before.notes number ≡ Some message) × (sent ≡ answer_sent (answer_to_forget before.now.log message))
     × (after ≡ after_forget_came message before)

@@ -1,5 +1,5 @@
--- A log as messages: for each entry an Open, its bytes in pieces, one Data with its FIN and what is acknowledged, its reads, and a Done if it is done. A journal may
--- begin with them in place of all messages that made the log.
+-- A log as messages: for each entry an Open, its bytes in pieces, one Data with its FIN and what is acknowledged, its reads, and a Done if it is done. A
+-- journal may begin with them in place of all messages that made the log.
 use Rattle.limits.specs.Limits.{most_entries}
 use Rattle.std.specs.Prelude.{◌≡◌, ℕ, ◌+◌, ◌≤◌, true, false, map, if◌then◌else◌, List, [], ◌∷◌, ◌++◌, length}
 use Rattle.std.specs.List.{AllByRecursion}
@@ -21,10 +21,11 @@ joined (piece ∷ pieces) = piece ++ joined pieces
 abbrev pub data_of : ℕ → Key → ℕ → List (List ℕ) → List Message
 data_of boot key offset [] = []
 data_of boot key offset (piece ∷ pieces) =
-    said boot (DataMsg (record { key = key; offset = offset; acked = 0; fin = false; bytes = piece })) ∷ data_of boot key (offset + length piece) pieces
+    said boot (DataMsg (record { key = key; offset = offset; acked = 0; fin = false; more = false; bytes = piece })) ∷ data_of boot key
+    (offset + length piece) pieces
 
 abbrev pub last_data : Entry → Part
-last_data e = record { key = e.key; offset = length e.bytes; acked = e.acknowledged; fin = e.fin; bytes = [] }
+last_data e = record { key = e.key; offset = length e.bytes; acked = e.acknowledged; fin = e.fin; more = false; bytes = [] }
 
 abbrev pub reads_of : ℕ → Key → ℕ → List ℕ → List Message
 reads_of boot key index [] = []
@@ -35,7 +36,8 @@ done_of boot e = if e.done then said boot (DoneMsg e.key) ∷ [] else []
 
 abbrev pub messages_of : ℕ → Entry → List (List ℕ) → List Message
 messages_of boot e pieces =
-    said boot (OpenMsg (numbers_of_entry e)) ∷ (data_of boot e.key 0 pieces ++ (said boot (DataMsg (last_data e)) ∷ (reads_of boot e.key 0 e.lengths ++ done_of boot e)))
+    said boot (OpenMsg (numbers_of_entry e)) ∷ (data_of boot e.key 0 pieces
+    ++ (said boot (DataMsg (last_data e)) ∷ (reads_of boot e.key 0 e.lengths ++ done_of boot e)))
 
 -- in pieces of any lengths
 abbrev pub AreSaid : ℕ → List Entry → List Message → Type 0

@@ -17,7 +17,8 @@ use Rattle.ft_model.specs.Node.Stage.{Serving}
 use Rattle.ft_model.specs.Opening.{point_opened}
 use Rattle.ft_model.specs.Point.{Point}
 use Rattle.ft_model.specs.World.{World, Moment}
-use Rattle.ft_model.specs.WorkedRuns.Common.{server, key, client_with, start_with, client_segment, to_client, to_log, from_log, numbers, kept_with, part_with, idle, opening_at, serving_at}
+use Rattle.ft_model.specs.WorkedRuns.Common.{server, key, client_with, start_with, client_segment, to_client, to_log, from_log, numbers, kept_with}
+use Rattle.ft_model.specs.WorkedRuns.Common.{part_with, idle, opening_at, serving_at}
 use Rattle.ft_model.specs.WorkedRuns.Closing as closing
 use Rattle.ft_model.specs.WorkedRuns.FirstPath.{moment, log_with, opened_entry}
 use Rattle.ft_model.specs.declared.event.Event.TheVariants.{Boot, Tick, Deliver, Begin, Fin, Ack}
@@ -211,14 +212,16 @@ moment_33 = later (Forgets key) [] (forgotten key moment_32.world.now)
 
 -- of the first life only Hello and Summary are still under way, so the SYN is packet 3 again
 abbrev pub moment_34 : LongMoment
-moment_34 = later (Joint_event (Deliver 3)) (to_log 1 (OpenMsg second_numbers) ∷ []) (record moment_33.world.now { node = Some (serving 2 (Opens second_numbers ∷ [])) })
+moment_34 = later (Joint_event (Deliver 3)) (to_log 1 (OpenMsg second_numbers) ∷ [])
+    (record moment_33.world.now { node = Some (serving 2 (Opens second_numbers ∷ [])) })
 
 abbrev pub moment_35 : LongMoment
 moment_35 = later (Joint_event (Deliver 4)) (from_log 1 (OpenedMsg second_numbers) ∷ []) (record moment_34.world.now { log = log_with (second_entry ∷ []) })
 
 abbrev pub moment_36 : LongMoment
 moment_36 =
-    later (Joint_event (Deliver 5)) (to_client 18 70536 9001 65535 (Some 1460) [] ∷ []) (record moment_35.world.now { node = Some (serving 2 (Lives second_begun ∷ [])) })
+    later (Joint_event (Deliver 5)) (to_client 18 70536 9001 65535 (Some 1460) [] ∷ [])
+    (record moment_35.world.now { node = Some (serving 2 (Lives second_begun ∷ [])) })
 
 -- up to the SYN-ACK of the second connection, newest moment first
 abbrev pub trace : List LongMoment

@@ -1,6 +1,6 @@
-//! Laws of a service that lives for years. A long trace is a joint trace in which besides the log recycles the entries of connections that are done, new clients
-//! arrive at addresses and ports that were used before, and silent clients are sent keep-alives or let go. Every long trace is masked. Nothing here runs; each
-//! function is a theorem.
+//! Laws of a service that lives for years. A long trace is a joint trace in which besides the log recycles the entries of connections that are done, new
+//! clients arrive at addresses and ports that were used before, and silent clients are sent keep-alives or let go. Every long trace is masked. Nothing here
+//! runs; each function is a theorem.
 #![tactic(auto)]
 
 ghost use Rattle.std.specs.Prelude.{◌≡◌, ◌==◌, ◌&&◌, ℕ, List, map, Some, None, true, false};
@@ -27,16 +27,16 @@ pub mod worked;
 /// nothing is acknowledged that isn't logged, a restart resumes every logged connection that isn't done, and each live client was last told what is taken and
 /// logged. Each client whose entry was recycled has accepted a prefix of the output over the reads that its entry had then.
 pub fn every_long_trace_is_masked<S: Service>()
-    ensures { (kind : ℕ) (start : World) (trace : List LongMoment) → LongJoint (machine (S.started kind) S.after) start trace
-        → AreMasked (machine (S.started kind) S.after) start trace }
+    ensures { (kind : ℕ) (start : World) (trace : List LongMoment) → LongJoint (machine (S.started kind) S.after S.greeting) start trace
+        → AreMasked (machine (S.started kind) S.after S.greeting) start trace }
 {}
 
 /// Joint traces are long traces, and a long trace without the five steps is a joint trace. So nothing changes for a service that takes none of them.
 pub fn joint_traces_are_the_long_traces_without_the_steps<S: Service>()
-    ensures long { (kind : ℕ) (start : World) (trace : List Moment) → Joint (machine (S.started kind) S.after) start trace
-        → LongJoint (machine (S.started kind) S.after) start (map as_long trace) }
-    ensures joint { (kind : ℕ) (start : World) (trace : List Moment) → LongJoint (machine (S.started kind) S.after) start (map as_long trace)
-        → Joint (machine (S.started kind) S.after) start trace }
+    ensures long { (kind : ℕ) (start : World) (trace : List Moment) → Joint (machine (S.started kind) S.after S.greeting) start trace
+        → LongJoint (machine (S.started kind) S.after S.greeting) start (map as_long trace) }
+    ensures joint { (kind : ℕ) (start : World) (trace : List Moment) → LongJoint (machine (S.started kind) S.after S.greeting) start (map as_long trace)
+        → Joint (machine (S.started kind) S.after S.greeting) start trace }
 {}
 
 /// The messages of a log's snapshot make this log from an empty one. So a journal that begins with a snapshot has the same log as one with all messages.

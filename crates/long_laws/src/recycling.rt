@@ -2,9 +2,10 @@
 
 ghost use Rattle.std.specs.Prelude.{◌≡◌, ◌⊎◌, ℕ, ◌<◌, ◌*◌, false, map, Some, None, List, Ok, IsErr, length, ◌==◌, ◌&&◌, true};
 ghost use Rattle.seq_arith.specs.Damage.{flipped};
-ghost use Rattle.seq_arith.specs.MessageGrammar.{reading as message_reading};
+ghost use Rattle.seq_arith.specs.MessageGrammar.{reading_by as message_reading};
+ghost use Rattle.seq_arith.specs.declared.kinds.Grammar.{Grammar};
 ghost use Rattle.seq_arith.specs.MarkGrammar.{reading as mark_reading};
-ghost use Rattle.seq_arith.specs.TwinGrammar.{reading as twin_reading};
+ghost use Rattle.seq_arith.specs.TwinGrammar.{reading_by as twin_reading};
 ghost use Rattle.seq_arith.specs.Message.Body.{StaleMsg};
 ghost use Rattle.ft_model.specs.Keys.{AreDistinct};
 ghost use Rattle.ft_model.specs.Log.{Log, Entry, entry_of};
@@ -24,9 +25,9 @@ pub fn forgets_are_spelled_apart()
 
 /// Bytes that are a message about forgetting are no other message: none between server and logger, none about marks, and no datagram between two loggers.
 pub fn forgets_have_one_reading()
-    ensures message { (bytes : List ℕ) (message : ForgetMessage) → reading bytes ≡ Ok message → IsErr (message_reading bytes) }
+    ensures message { (grammar : Grammar) (bytes : List ℕ) (message : ForgetMessage) → reading bytes ≡ Ok message → IsErr (message_reading grammar bytes) }
     ensures mark { (bytes : List ℕ) (message : ForgetMessage) → reading bytes ≡ Ok message → IsErr (mark_reading bytes) }
-    ensures twin { (bytes : List ℕ) (message : ForgetMessage) → reading bytes ≡ Ok message → IsErr (twin_reading bytes) }
+    ensures twin { (grammar : Grammar) (bytes : List ℕ) (message : ForgetMessage) → reading bytes ≡ Ok message → IsErr (twin_reading grammar bytes) }
 {}
 
 /// A message about forgetting has 30 bytes. So one that lost bytes at its end is refused, and so is one with further bytes after it.

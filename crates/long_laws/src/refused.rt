@@ -20,7 +20,8 @@ pub fn entries_that_are_not_done_are_not_recycled()
 
 /// Nothing is recycled of a key whose connection is live or pending at the server: the log has applied the Done, and the server doesn't know it yet.
 pub fn connections_of_the_server_are_not_recycled()
-    ensures { (key : Key) (w : World) (node : Node) (place : Place) → w.node ≡ Some node → place_at key (places_at node.stage) ≡ Some place → (IsEnded place → ⊥)
+    ensures { (key : Key) (w : World) (node : Node) (place : Place) → w.node ≡ Some node → place_at key (places_at node.stage) ≡ Some place
+        → (IsEnded place → ⊥)
         → MayRecycle key w → ⊥ }
 {}
 

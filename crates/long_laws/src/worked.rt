@@ -17,8 +17,8 @@ pub fn worked_first_life_is_joint()
 {}
 
 /// The whole run up to the second connection is a long trace: the entry is recycled, the second client arrives at the same address and port and sends its SYN,
-/// and once the server has forgotten the key this SYN opens a connection with other initial sequence numbers. At its end the second client is opening, the first
-/// one is gone with the reads that its entry had, and the log has only the second client's entry.
+/// and once the server has forgotten the key this SYN opens a connection with other initial sequence numbers. At its end the second client is opening, the
+/// first one is gone with the reads that its entry had, and the log has only the second client's entry.
 pub fn worked_address_is_used_again()
     ensures joint { LongJoint echo run.start run.trace }
     ensures clients { (long_after run.start run.trace).now.clients ≡ run.second_opening ∷ [] }
@@ -34,8 +34,8 @@ pub fn worked_silent_client_is_let_go()
     ensures past { (long_after run.start run.silent_trace).past ≡ run.first_gone ∷ [] }
 {}
 
-/// What the log does with a Forget in this run. A Forget of the first connection is answered by Forgotten and leaves the log as the step `Recycles` does. Before
-/// the entry is done it changes nothing and gets no answer; a late one doesn't touch the second client's entry, and gets Forgotten again.
+/// What the log does with a Forget in this run. A Forget of the first connection is answered by Forgotten and leaves the log as the step `Recycles` does.
+/// Before the entry is done it changes nothing and gets no answer; a late one doesn't touch the second client's entry, and gets Forgotten again.
 pub fn worked_forgets_recycle_once()
     ensures recycles { after_forget run.moment_29.world.log run.first_forget ≡ run.moment_30.world.now.log }
     ensures answer { answer_to_forget run.moment_29.world.log run.first_forget ≡ Some (About_forgetting run.first_forgotten) }
@@ -45,8 +45,8 @@ pub fn worked_forgets_recycle_once()
     ensures late_answer { answer_to_forget run.moment_36.world.now.log run.first_forget ≡ Some (About_forgetting run.first_forgotten) }
 {}
 
-/// What the premise is needed for. If the Data with the first client's FIN weren't lost at the recycling and came at the end of this run, the log would take it for
-/// one of the second connection: its entry would have a FIN, and its client has sent only its SYN.
+/// What the premise is needed for. If the Data with the first client's FIN weren't lost at the recycling and came at the end of this run, the log would take
+/// it for one of the second connection: its entry would have a FIN, and its client has sent only its SYN.
 pub fn worked_late_data_would_count()
     ensures was_sent { packet_at run.moment_29.world.packets 10 ≡ Some (To_logger run.late_data) }
     ensures counts { (log_after run.moment_36.world.now.log run.late_data).entries ≡ run.spoilt_entry ∷ [] }

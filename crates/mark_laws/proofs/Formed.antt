@@ -63,7 +63,7 @@ abbrev TurnFormed : World → Node → List Packet → Type 0
 TurnFormed start later sent = NodeFormed start later × AllByRecursion (PacketFormed start) sent
 
 with_stage_formed : (start : World) (node later : Node) (stage : Stage) → NodeFormed start node → StageFormed start stage → later ≡ record node { stage = stage } → NodeFormed start later
-with_stage_formed start node later stage n s e = subst (NodeFormed start) (sym e) (record { server = n.server; boot = n.boot; stage = s })
+with_stage_formed start node later stage n s e = subst (NodeFormed start) (sym e) (record { server = n.server; profile = n.profile; boot = n.boot; stage = s })
 
 module _ {State : Type 0} (service : Machine State) (start u : World) (node : Node) (writes : WritesBytes service) (s : StartFormed start) (k : Knows start u) (up : u.node ≡ Some node) where
   tells : AllByRecursion (EntryTells start) u.log.entries
@@ -81,7 +81,7 @@ module _ {State : Type 0} (service : Machine State) (start u : World) (node : No
       let n : NodeFormed start node = k.formed.node node up in
       let all = nothing_missing u.log.entries count now are e in
       let points : AllByRecursion (λ x. PlaceSound start u.log (Lives (point_of service node.profile x))) u.log.entries =
-      all_both (λ x. PlaceFits (script_of start) (isn_of start) u.log (Lives (point_of service node.profile x))) (EntryFormed start) _ u.log.entries (λ x f h. (f, point_formed service node.profile start x h))
+      all_both (λ x. PlaceFits (script_of start) (isn_of start) u.log (Lives (point_of service node.profile x))) (EntryFormed start) _ u.log.entries (λ x f h. (f, point_formed service node.profile start x n.profile h))
       (points_fit service node.profile (script_of start) (isn_of start) u.log s.short k.truth.0.1.distinct k.truth.1.entries) k.formed.entries in
       let went = all_go_on (Revives service node) (PlaceSound start u.log) (PlaceSound start u.log) (PacketFormed start)
       (revived_formed service start u.log node writes s k.truth.1.entries n.server n.boot) (all_restored service node.profile now) t.0 sent
@@ -94,7 +94,7 @@ module _ {State : Type 0} (service : Machine State) (start u : World) (node : No
   turned_formed sent later (as_without input brought t) =
       let n : NodeFormed start node = k.formed.node node up in
       let went = turn_formed service start u node input sent later.stage writes s k up brought (stage_went service node later input sent t) in
-      (record { server = t.server ∙ n.server; boot = subst IsBoot (sym t.boot) n.boot; stage = went.0 }, went.1)
+      (record { server = t.server ∙ n.server; profile = t.profile ∙ n.profile; boot = subst IsBoot (sym t.boot) n.boot; stage = went.0 }, went.1)
   turned_formed sent later (unseen none same) = (subst (NodeFormed start) (sym same) (k.formed.node node up), subst (AllByRecursion (PacketFormed start)) (sym none) tt)
   turned_formed sent later (asks_mark stage restarts none same) =
       (with_stage_formed start node later stage (k.formed.node node up) (no_places start stage restarts) same, subst (AllByRecursion (PacketFormed start)) (sym none) tt)
@@ -171,6 +171,7 @@ pub next_formed_world : (start : World) (w : MarkedWorld) (log : MarkedLog) (boo
     → AnswersFormed start new → ((n : MarkedNode) → node ≡ Some n → NodeFormed start n.plain) → WorldFormed start (seen (record w { log = log; boot = boot; node = node; parcels = w.parcels ++ new }))
 next_formed_world start w log boot node new f l a n = record {
   server = f.server;
+  profile = f.profile;
   boot = l.boot;
   few = l.few;
   clients = f.clients;

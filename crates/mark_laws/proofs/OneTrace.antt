@@ -89,7 +89,7 @@ played by schedule trace fits l = (l.joint, l.allowed, subst (AllByRecursion Fit
 
 same_start : (schedule other : Schedule) → IsSameHeader schedule other → marked_start schedule ≡ marked_start other
 same_start schedule other h =
-    λ i. marked_start (record { service = h.service i; server = h.server i; profile = h.profile i; twin = h.twin i; marks = h.marks i; clients = h.clients i; events = schedule.events })
+    λ i. marked_start (record { service = h.service i; server = h.server i; profile = h.profile i; twin = h.twin i; marks = h.marks i; lasting = h.lasting i; clients = h.clients i; events = schedule.events })
 
 -- the server marks after as many reads as its schedule says
 pub legal_told : {State : Type 0} (by : ℕ → ℕ → Marker State) (every often : ℕ) (schedule other : Schedule) (trace also : List MarkedMoment) → FitsSchedule schedule → FitsSchedule other

@@ -5,6 +5,7 @@ use Rattle.seq_arith.specs.PacketGrammar as segments
 use Rattle.seq_arith.specs.Damage.{flipped}
 use Rattle.seq_arith.specs.declared.BadPacket.{BadPacket}
 use Rattle.ft_io.specs.declared.Key.{Key}
+use Rattle.tcp_rules.specs.Profile.{grammar_of}
 use Rattle.ft_model.specs.Client.{Client, Move}
 use Rattle.ft_model.specs.Client.Move.{Syn, Text, Fin as Fin_move, Acknowledge, Rst}
 use Rattle.ft_model.specs.Client.{move_asked}
@@ -72,10 +73,10 @@ module _ {State : Type 0} (by : Marker State) where
   changed_once : (parcel : Parcel) (bytes : List ℕ) (before w x : MarkedWorld) (s t : List Parcel) → ComesAs by parcel bytes before s w → ComesAs by parcel bytes before t x → w ≡ x
   changed_once (Usual (To_server segment)) bytes before w x s t p q = server_once (Plain_comes (segment_or_noise (segments.reading bytes))) before w x s t p q
   changed_once (Usual (To_client segment)) bytes before w x s t p q = client_reads_once (destination_of segment) (segments.reading bytes) before w x s t p q
-  changed_once (Usual (To_logger message)) bytes before w x s t p q = reads_once (said_by bytes) before w x s t p q
-  changed_once (Usual (From_logger message)) bytes before w x s t p q = server_once (input_of (said_by bytes)) before w x s t p q
-  changed_once (Mark_sent message) bytes before w x s t p q = reads_once (said_by bytes) before w x s t p q
-  changed_once (Mark_answered message) bytes before w x s t p q = server_once (input_of (said_by bytes)) before w x s t p q
+  changed_once (Usual (To_logger message)) bytes before w x s t p q = reads_once (said_by (grammar_of before.profile) bytes) before w x s t p q
+  changed_once (Usual (From_logger message)) bytes before w x s t p q = server_once (input_of (said_by (grammar_of before.profile) bytes)) before w x s t p q
+  changed_once (Mark_sent message) bytes before w x s t p q = reads_once (said_by (grammar_of before.profile) bytes) before w x s t p q
+  changed_once (Mark_answered message) bytes before w x s t p q = server_once (input_of (said_by (grammar_of before.profile) bytes)) before w x s t p q
 
   by_script : (event : Event) (number : ℕ) (move : Move) (before w x : MarkedWorld) (s t : List Parcel) → move_asked event ≡ Some (number, move)
       → (p : Elsewhere (λ v. Happens by.service v event) before s w) → (q : Elsewhere (λ v. Happens by.service v event) before t x)
@@ -98,7 +99,7 @@ module _ {State : Type 0} (by : Marker State) where
       comes_once q.0 before w x s t (subst (λ parcel. ParcelComes by parcel before s w) same p.2) q.2
   marked_once (Flip number bit) before w x s t p q a b =
       let same : p.0 ≡ q.0 = some_is p.0 q.0 (sym p.1 ∙ q.1) in
-      changed_once q.0 (flipped bit (bytes_of q.0)) before w x s t (subst (λ parcel. ComesAs by parcel (flipped bit (bytes_of parcel)) before s w) same p.2.comes) q.2.comes
+      changed_once q.0 (flipped bit (bytes_of (grammar_of before.profile) q.0)) before w x s t (subst (λ parcel. ComesAs by parcel (flipped bit (bytes_of (grammar_of before.profile) parcel)) before s w) same p.2.comes) q.2.comes
   marked_once (Begin client window) before w x s t p q a b = by_script (Begin client window) client (Syn None) before w x s t refl p q (p.2.client, p.2.is_there) a b
   marked_once (Send client from len) before w x s t p q a b = by_script (Send client from len) client (Text from len) before w x s t refl p q (p.2.client, p.2.is_there) a b
   marked_once (Fin client) before w x s t p q a b = by_script (Fin client) client Fin_move before w x s t refl p q (p.2.client, p.2.is_there) a b
@@ -130,15 +131,15 @@ module _ {State : Type 0} (by : Marker State) where
   changed_on : (parcel : Parcel) (bytes : List ℕ) (before w : MarkedWorld) (s : List Parcel) → ComesAs by parcel bytes before s w → w.parcels ≡ before.parcels ++ s
   changed_on (Usual (To_server segment)) bytes before w s p = server_on (Plain_comes (segment_or_noise (segments.reading bytes))) before.node before w s p
   changed_on (Usual (To_client segment)) bytes before w s p = ap (λ (v : MarkedWorld). v.parcels) p.3
-  changed_on (Usual (To_logger message)) bytes before w s p = reads_on (said_by bytes) before w s p
-  changed_on (Usual (From_logger message)) bytes before w s p = server_on (input_of (said_by bytes)) before.node before w s p
-  changed_on (Mark_sent message) bytes before w s p = reads_on (said_by bytes) before w s p
-  changed_on (Mark_answered message) bytes before w s p = server_on (input_of (said_by bytes)) before.node before w s p
+  changed_on (Usual (To_logger message)) bytes before w s p = reads_on (said_by (grammar_of before.profile) bytes) before w s p
+  changed_on (Usual (From_logger message)) bytes before w s p = server_on (input_of (said_by (grammar_of before.profile) bytes)) before.node before w s p
+  changed_on (Mark_sent message) bytes before w s p = reads_on (said_by (grammar_of before.profile) bytes) before w s p
+  changed_on (Mark_answered message) bytes before w s p = server_on (input_of (said_by (grammar_of before.profile) bytes)) before.node before w s p
 
   pub marked_goes_on : (event : Event) (before w : MarkedWorld) (s : List Parcel) → MarkedHappens by before event s w → w.parcels ≡ before.parcels ++ s
   marked_goes_on (Boot boot isn) before w s p = ap (λ (v : MarkedWorld). v.parcels) p.3
   marked_goes_on Crash before w s p = ap (λ (v : MarkedWorld). v.parcels) p.2
   marked_goes_on Tick before w s p = server_on (Plain_comes Tick_comes) before.node before w s p.1
   marked_goes_on (Deliver number) before w s p = comes_on p.0 before w s p.2
-  marked_goes_on (Flip number bit) before w s p = changed_on p.0 (flipped bit (bytes_of p.0)) before w s p.2.comes
+  marked_goes_on (Flip number bit) before w s p = changed_on p.0 (flipped bit (bytes_of (grammar_of before.profile) p.0)) before w s p.2.comes
   marked_goes_on event before w s p = ap (λ (v : MarkedWorld). v.parcels) p.3

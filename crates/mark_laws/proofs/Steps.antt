@@ -84,7 +84,7 @@ last_under_way w packet = (suc (length w.packets), get_last w.packets packet)
 
 -- Data without bytes only acknowledges
 abbrev pub no_bytes : Key → (offset units : ℕ) → Part
-no_bytes key offset units = record { key = key; offset = offset; acked = units; fin = false; bytes = [] }
+no_bytes key offset units = record { key = key; offset = offset; acked = units; fin = false; more = false; bytes = [] }
 
 pub only_acknowledges : (key : Key) (offset units : ℕ) (e : Entry) → with_part (no_bytes key offset units) e ≡ acknowledging units e
 only_acknowledges key offset units e =

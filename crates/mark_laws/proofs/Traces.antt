@@ -9,6 +9,7 @@ use Rattle.seq_arith.proofs.MessageSpelling.{message_is_read}
 use Rattle.seq_arith.proofs.Refused.{flipped_packet_is_refused}
 use Rattle.seq_arith.proofs.Spelling.{spelling_is_read}
 use Rattle.server_trait.specs.Service.{Machine, reference}
+use Rattle.tcp_rules.specs.Profile.{grammar_of}
 use Rattle.ft_model.specs.Growth.{IsPrefix, logged_lengths}
 use Rattle.ft_model.specs.Lawful.{hello}
 use Rattle.ft_model.specs.Masked.{IsMasked, Masked, SeesFront, unfailing, is_restarting}
@@ -74,8 +75,8 @@ noise_steps : {State : Type 0} (by : Marker State) (start : World) (before : Mar
 noise_steps by start before input sent after g k noise t =
     server_steps by start before (Plain_comes Noise_comes) sent after g k tt (subst (λ i. ServerMoves by i before sent after) noise t)
 
-unread_steps : {State : Type 0} (by : Marker State) (start : World) (before : MarkedWorld) (bytes : List ℕ) (sent : List Parcel) (after : MarkedWorld) → Kept by start before → said_by bytes ≡ None
-    → LogReads (said_by bytes) before sent after → MarkStep by start before sent after
+unread_steps : {State : Type 0} (by : Marker State) (start : World) (before : MarkedWorld) (bytes : List ℕ) (sent : List Parcel) (after : MarkedWorld) → Kept by start before → said_by (grammar_of before.profile) bytes ≡ None
+    → LogReads (said_by (grammar_of before.profile) bytes) before sent after → MarkStep by start before sent after
 unread_steps by start before bytes sent after k none t =
     let n = subst (λ o. LogReads o before sent after) none t in still_steps by start before sent after k n.0 n.1
 
@@ -89,13 +90,13 @@ flip_steps by start before number bit (Usual (To_client segment)) sent after g k
     elsewhere_steps by start (ClientReads (destination_of segment) (segments.reading (flipped bit (segments.spelling segment)))) before sent after g k
     (λ packets later h. happens_steps by start (seen before) (Flip u.0 bit) packets later g k.sound (To_client segment, u.1, record { wire = t.read; within = t.within; comes = h })) t.comes
 flip_steps by start before number bit (Usual (To_logger message)) sent after g k at t =
-    unread_steps by start before (flipped bit (messages.spelling message)) sent after k (message_noise bit (messages.spelling message) message (message_is_read message t.read.0) t.within) t.comes
+    unread_steps by start before (flipped bit (messages.spelling_by (grammar_of before.profile) message)) sent after k (message_noise (grammar_of before.profile) bit (messages.spelling_by (grammar_of before.profile) message) message (message_is_read message t.read.0) t.within) t.comes
 flip_steps by start before number bit (Usual (From_logger message)) sent after g k at t =
-    noise_steps by start before _ sent after g k (ap input_of (message_noise bit (messages.spelling message) message (message_is_read message t.read.0) t.within)) t.comes
+    noise_steps by start before _ sent after g k (ap input_of (message_noise (grammar_of before.profile) bit (messages.spelling_by (grammar_of before.profile) message) message (message_is_read message t.read.0) t.within)) t.comes
 flip_steps by start before number bit (Mark_sent message) sent after g k at t =
-    unread_steps by start before (flipped bit (marks.spelling message)) sent after k (mark_noise bit (marks.spelling message) message t.read t.within) t.comes
+    unread_steps by start before (flipped bit (marks.spelling message)) sent after k (mark_noise (grammar_of before.profile) bit (marks.spelling message) message t.read t.within) t.comes
 flip_steps by start before number bit (Mark_answered message) sent after g k at t =
-    noise_steps by start before _ sent after g k (ap input_of (mark_noise bit (marks.spelling message) message t.read t.within)) t.comes
+    noise_steps by start before _ sent after g k (ap input_of (mark_noise (grammar_of before.profile) bit (marks.spelling message) message t.read t.within)) t.comes
 
 -- a boot, and a crash
 boot_later : (low high : ℕ) → low < high → (parcel : Parcel) → MarkBoot low parcel → MarkBoot high parcel
@@ -175,9 +176,9 @@ pub start_of_joint : {State : Type 0} (by : Marker State) (first : MarkedWorld) 
 start_of_joint by first [] j = j
 start_of_joint by first (moment ∷ earlier) j = start_of_joint by first earlier j.0
 
-start_kept : {State : Type 0} (by : Marker State) (first : MarkedWorld) → IsMarkedStart first → Kept by (seen first) first
-start_kept by first s = record {
-  sound = record { joint = start_sound by.service (seen first) s.start; telling = λ n e. none_is_some n (sym s.start.node ∙ e); below = start_below (script_of (seen first)) (seen first) s.start; near = start_near (isn_of (seen first)) (seen first) s.start; unfenced = start_unfenced (seen first) s.start; owns = start_owns (seen first) s.start; knows = start_knowing (seen first) s.start; cut = subst AreCut (sym s.start.log) tt };
+start_kept : {State : Type 0} (by : Marker State) (first : MarkedWorld) → HasSmallOutputs by.service → IsMarkedStart first → Kept by (seen first) first
+start_kept by first small s = record {
+  sound = record { joint = start_sound by.service small (seen first) s.start; telling = λ n e. none_is_some n (sym s.start.node ∙ e); below = start_below (script_of (seen first)) (seen first) s.start; near = start_near (isn_of (seen first)) (seen first) s.start; unfenced = start_unfenced (seen first) s.start; owns = start_owns (seen first) s.start; knows = start_knowing (seen first) s.start; cut = subst AreCut (sym s.start.log) tt };
   marks = record {
     under_way = subst (AllByRecursion (HasTrueMark by first.log.log)) (sym s.parcels) tt;
     kept = λ key. subst (λ l. IsTrueOrNone by l.log key (l.marks key)) (sym s.log) (inl refl);
@@ -189,7 +190,7 @@ start_kept by first s = record {
 }
 
 pub kept_after : {State : Type 0} (by : Marker State) (first : MarkedWorld) (trace : List MarkedMoment) → Grounds by (seen first) → MarkedJoint by first trace → Kept by (seen first) (marked_after first trace)
-kept_after by first [] g j = start_kept by first j
+kept_after by first [] g j = start_kept by first g.small j
 kept_after by first (moment ∷ earlier) g j =
     (one_moment by (seen first) (marked_after first earlier) moment.event moment.sent moment.world g (kept_after by first earlier g j.0) j.1).kept
 
@@ -209,6 +210,7 @@ sees_front service start w s =
     (λ c x f. let same : logged_run service (script_of start) w.log c.key ≡ unfailing service w.log c = ap (λ l. reference service l (logged_lengths c.key w.log)) (sym f.0) in
     record {
       accepted = subst (λ r. IsPrefix c.accepted r.output) same x.front;
+      unlogged = x.unlogged;
       ended = λ e. subst (λ r. (r.closed ≡ true) × (c.accepted ≡ r.output)) same (x.ended e);
     }) s.joint.sees s.joint.faithful.clients
 

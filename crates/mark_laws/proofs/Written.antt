@@ -30,7 +30,8 @@ use Rattle.ft_model.specs.Node.{Stage, booted}
 use Rattle.ft_model.specs.Node.Stage.{Asking, Fetching, Serving, Fenced}
 use Rattle.ft_model.specs.Node.Input.{Packet_comes, Message_comes, Noise_comes, Tick_comes}
 use Rattle.ft_model.specs.Readable.{FitsKey}
-use Rattle.ft_model.specs.Wire.{HasWire}
+use Rattle.tcp_rules.specs.Profile.{grammar_of}
+use Rattle.ft_model.specs.Wire.{HasWireBy}
 use Rattle.ft_model.specs.World.{World, ClientHears, ClientReads, Happens}
 use Rattle.ft_model.specs.declared.event.Event.{Event}
 use Rattle.ft_model.specs.declared.event.Event.TheVariants.{Boot, Crash, Tick, Deliver, Flip}
@@ -338,11 +339,11 @@ module _ {State : Type 0} (by : Marker State) (start : World) (writes : WritesBy
       elsewhere_wired (ClientReads (destination_of segment) (segments.reading (flipped bit (segments.spelling segment)))) sent after
       (λ packets h. event_wired (Flip u.0 bit) sent after k' packets (To_client segment, u.1, record { wire = t.read; within = t.within; comes = h })) t.comes
   flip_wired number bit (Usual (To_logger message)) sent after at k' t =
-      unread_wired _ sent after (message_noise bit (messages.spelling message) message (message_is_read message t.read.0) t.within) t.comes
+      unread_wired _ sent after (message_noise (grammar_of before.profile) bit (messages.spelling_by (grammar_of before.profile) message) message (message_is_read message t.read.0) t.within) t.comes
   flip_wired number bit (Usual (From_logger message)) sent after at k' t =
-      noise_wired _ sent after (ap input_of (message_noise bit (messages.spelling message) message (message_is_read message t.read.0) t.within)) k' t.comes
-  flip_wired number bit (Mark_sent message) sent after at k' t = unread_wired _ sent after (mark_noise bit (marks.spelling message) message t.read t.within) t.comes
-  flip_wired number bit (Mark_answered message) sent after at k' t = noise_wired _ sent after (ap input_of (mark_noise bit (marks.spelling message) message t.read t.within)) k' t.comes
+      noise_wired _ sent after (ap input_of (message_noise (grammar_of before.profile) bit (messages.spelling_by (grammar_of before.profile) message) message (message_is_read message t.read.0) t.within)) k' t.comes
+  flip_wired number bit (Mark_sent message) sent after at k' t = unread_wired _ sent after (mark_noise (grammar_of before.profile) bit (marks.spelling message) message t.read t.within) t.comes
+  flip_wired number bit (Mark_answered message) sent after at k' t = noise_wired _ sent after (ap input_of (mark_noise (grammar_of before.profile) bit (marks.spelling message) message t.read t.within)) k' t.comes
 
   boot_wired : (boot isn : ℕ) (sent : List Parcel) (after : MarkedWorld) → MarkedHappens by before (Boot boot isn) sent after → Wired by start after
   boot_wired boot isn sent after t =
@@ -354,7 +355,7 @@ module _ {State : Type 0} (by : Marker State) (start : World) (writes : WritesBy
       subst (Wired by start) (sym is)
       (record {
         formed = next_formed_world start before before.log boot (Some node) (map Usual packets) x.formed (log_of start (seen before) x.formed) ((up, tt), tt)
-            (λ n e. subst (λ (y : MarkedNode). NodeFormed start y.plain) (some_is node n e) (record { server = x.formed.server; boot = up; stage = tt }));
+            (λ n e. subst (λ (y : MarkedNode). NodeFormed start y.plain) (some_is node n e) (record { server = x.formed.server; profile = x.formed.profile; boot = up; stage = tt }));
         about = all_append (ParcelFormed by.every) before.parcels (map Usual packets) x.about (usual_formed by.every packets);
         kept = x.kept;
         outstanding = λ n e. subst (λ (y : MarkedNode). (key : Key) → AllCount by.every (y.marking key)) (some_is node n e) (λ key. tt);
@@ -452,7 +453,7 @@ module _ {State : Type 0} (by : Marker State) (start : World) (w : MarkedWorld) 
   spellable boot (AskMsg key) b f told = ask_spellable boot key b f
   spellable boot (HeldMsg key m) b f told = let h = held_bounded key m f.1 told in held_spellable boot key m b f.0 h.0 h.1
 
-  all_read : (parcels : List Parcel) → AllByRecursion HasWire (usual parcels) → AllByRecursion (ParcelFormed by.every) parcels → AllByRecursion (HasTrueMark by w.log.log) parcels → AllByRecursion CanBeRead parcels
+  all_read : (parcels : List Parcel) → AllByRecursion (HasWireBy (grammar_of start.profile)) (usual parcels) → AllByRecursion (ParcelFormed by.every) parcels → AllByRecursion (HasTrueMark by w.log.log) parcels → AllByRecursion (CanBeRead (grammar_of start.profile)) parcels
   all_read [] wires formed told = tt
   all_read (Usual packet ∷ parcels) wires formed told = (wires.0, all_read parcels wires.1 formed.1 told.1)
   all_read (Mark_sent message ∷ parcels) wires formed told =
@@ -460,14 +461,14 @@ module _ {State : Type 0} (by : Marker State) (start : World) (w : MarkedWorld) 
   all_read (Mark_answered message ∷ parcels) wires formed told =
       (mark_is_read message (spellable message.boot message.body formed.0.0 formed.0.1 told.0), all_read parcels wires formed.1 told.1)
 
-  parcels_read : AllByRecursion CanBeRead w.parcels
+  parcels_read : AllByRecursion (CanBeRead (grammar_of start.profile)) w.parcels
   parcels_read =
       all_read w.parcels
-      (all_both (PacketFormed start) (PacketBacked by.service (script_of start) w.log.log) HasWire (usual w.parcels)
+      (all_both (PacketFormed start) (PacketBacked by.service (script_of start) w.log.log) (HasWireBy (grammar_of start.profile)) (usual w.parcels)
       (λ packet h b. packet_wire start s.server packet h (packet_acked by.service (script_of start) (seen w) k.sound.joint.author packet b)) x.formed.packets k.sound.joint.backed.packets)
       x.about k.marks.under_way
 
 pub all_written : {State : Type 0} (by : Marker State) (first : MarkedWorld) (trace : List MarkedMoment) → WritesBytes by.service → (0 < by.every → ReadsBack by.service by.writing) → Grounds by (seen first)
-    → MarkedJoint by first trace → AllByRecursion CanBeRead (marked_after first trace).parcels
+    → MarkedJoint by first trace → AllByRecursion (CanBeRead (grammar_of first.profile)) (marked_after first trace).parcels
 all_written by first trace writes back g j =
     parcels_read by (seen first) (marked_after first trace) (start_formed (seen first) g.starts) (kept_after by first trace g j) (wired_after by first trace writes g j) back

@@ -3,6 +3,8 @@ use Rattle.std.specs.Prelude.{◌≡◌, ℕ, ◌*◌, length, nat_le, Option, S
 use Rattle.tcp_rules.specs.Profiles.{profile_of}
 use Rattle.server_trait.specs.Service.{Machine}
 use Rattle.server_trait.specs.Saved.{writing}
+use Rattle.seq_arith.specs.declared.kinds.Grammar.{Grammar}
+use Rattle.tcp_rules.specs.Profile.{grammar_of}
 use Rattle.ft_model.specs.Legal.{refusal, IsScripted}
 use Rattle.ft_model.specs.Schedule.{kind_of, clients_of}
 use Rattle.ft_model.specs.declared.event.Event.{Event}
@@ -33,14 +35,14 @@ marked_events_of [] = []
 marked_events_of (moment ∷ earlier) = marked_events_of earlier ++ moment.event ∷ []
 
 -- why a bit of a parcel can't be changed: the parcel doesn't exist, or has no such bit
-abbrev pub refusal_of_marked_flip : Option Parcel → ℕ → Option EventWhy
-refusal_of_marked_flip None bit = Some why.Packet
-refusal_of_marked_flip (Some parcel) bit = if nat_le (8 * length (bytes_of parcel)) bit then Some why.Bit else None
+abbrev pub refusal_of_marked_flip : Grammar → Option Parcel → ℕ → Option EventWhy
+refusal_of_marked_flip grammar None bit = Some why.Packet
+refusal_of_marked_flip grammar (Some parcel) bit = if nat_le (8 * length (bytes_of grammar parcel)) bit then Some why.Bit else None
 
 -- Why an event may not happen: the first test that holds. An event that names no packet is tested as without marks
 abbrev pub marked_refusal : MarkedWorld → Event → Option EventWhy
 marked_refusal w (Deliver number) = if is_some (parcel_at w.parcels number) then None else Some why.Packet
-marked_refusal w (Flip number bit) = refusal_of_marked_flip (parcel_at w.parcels number) bit
+marked_refusal w (Flip number bit) = refusal_of_marked_flip (grammar_of w.profile) (parcel_at w.parcels number) bit
 marked_refusal w event = refusal (seen w) event
 
 -- an allowed event, played by scripted clients

@@ -1,6 +1,7 @@
 -- The log with marks: the log with all its bytes and lengths, and for each entry at most one mark, from which a restart may begin. Nothing is dropped here. A
 -- store may drop what is below a mark, since no answer reports it any more.
-use Rattle.std.specs.Prelude.{ℕ, ◌==◌, Bool, true, false, ◌&&◌, not, nat_lt, nat_le, max, sum, Option, Some, None, option_map, List, [], take, length, if◌then◌else◌}
+use Rattle.std.specs.Prelude.{ℕ, ◌==◌, Bool, true, false, ◌&&◌, not, nat_lt, nat_le, max, sum, Option, Some, None, option_map, List, [], take, length}
+use Rattle.std.specs.Prelude.{if◌then◌else◌}
 use Rattle.std.specs.Option.{option_map_or}
 use Rattle.std.specs.List.{list_any}
 use Rattle.ft_io.specs.declared.Key.{Key}

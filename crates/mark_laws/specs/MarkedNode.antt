@@ -1,5 +1,6 @@
 -- One turn of a server that marks: its turn without marks, and the marks that are sent in it.
-use Rattle.std.specs.Prelude.{◌≡◌, ℕ, ◌+◌, Bool, true, false, ◌==◌, nat_lt, filter, map, Option, Some, None, MatchOption, List, [], ◌∷◌, ◌++◌, length, if◌then◌else◌}
+use Rattle.std.specs.Prelude.{◌≡◌, ℕ, ◌+◌, Bool, true, false, ◌==◌, nat_lt, filter, map, Option, Some, None, MatchOption, List, [], ◌∷◌, ◌++◌, length}
+use Rattle.std.specs.Prelude.{if◌then◌else◌}
 use Rattle.std.specs.Bool.{MatchBool}
 use Rattle.std.specs.List.{flat_map}
 use Rattle.std.specs.Option.{option_to_list}
@@ -84,7 +85,8 @@ is_done (To_logger message) = says_done message.body
 is_done _ = false
 
 -- one place in a turn: as without marks, with the marks of what it becomes, which are sent before its Done
-pub record GoesMarked (Goes : Place → List Place → List Packet → Type 0) (marks : Place → List Outgoing) (place : Place) (now : List Place) (sent : List Outgoing) : Type 0 where
+pub record GoesMarked (Goes : Place → List Place → List Packet → Type 0) (marks : Place
+    → List Outgoing) (place : Place) (now : List Place) (sent : List Outgoing) : Type 0 where
   pub packets : List Packet
   pub goes : Goes place now packets
   pub sent_are : sent ≡ with_marks (length (filter is_done packets)) (flat_map marks now) packets
@@ -111,13 +113,15 @@ marking_fetched (HeldMsg key m) marking = with_marking key (record { last = m.re
 marking_fetched _ marking = marking
 
 -- the next question is asked at once. When nothing is missing any more, the entries that aren't done become live, each with a mark if one is due
-abbrev pub Continues : {State : Type 0} → Marker State → MarkedNode → (count : ℕ) → FetchedSoFar → (Key → Marking) → Option AnyMessage → List Outgoing → MarkedNode → Type 0
+abbrev pub Continues : {State : Type 0} → Marker State → MarkedNode → (count : ℕ) → FetchedSoFar → (Key → Marking) → Option AnyMessage → List Outgoing
+    → MarkedNode → Type 0
 Continues by node count now marking (Some question) sent after =
     (sent ≡ outgoing question ∷ [])
     × (after ≡ record node { plain = record node.plain { stage = Fetching count now.entries }; awaits_mark = now.awaits_mark; marking = marking })
 Continues by node count now marking None sent after =
     (places : List Place)
-    × AllGoMarked (GoesMarked (Revives by.service node.plain) (marks_at by node.plain.boot false marking)) (all_restored by.service node.plain.profile now.entries) places sent
+    × AllGoMarked (GoesMarked (Revives by.service node.plain) (marks_at by node.plain.boot false marking))
+    (all_restored by.service node.plain.profile now.entries) places sent
     × (after ≡ record node {
       plain = record node.plain { stage = Serving (restored_count now.entries) places };
       awaits_mark = false;
@@ -134,12 +138,14 @@ is_tick_input Tick_comes = true
 is_tick_input _ = false
 
 -- a turn of a server that serves: as without marks, and with the marks of each connection that the input concerns
-pub record ServesMarked {State : Type 0} (by : Marker State) (node : MarkedNode) (input : Input) (opened : ℕ) (before after : List Place) (marking : Key → Marking) (sent : List Outgoing) : Type 0 where
+pub record ServesMarked {State : Type 0} (by : Marker State) (node : MarkedNode) (input : Input) (opened : ℕ) (before after : List Place) (marking : Key
+    → Marking) (sent : List Outgoing) : Type 0 where
   pub went : List Place
   pub by_places : List Outgoing
   pub all_go : AllGoMarked
       (GoesMarked (PlaceTurn by.service node.plain input)
-      (λ place. if concerns node.plain input (key_of place) then marks_at by node.plain.boot (is_tick_input input) node.marking place else [])) before went by_places
+      (λ place. if concerns node.plain input (key_of place) then marks_at by node.plain.boot (is_tick_input input) node.marking place
+      else [])) before went by_places
   pub places : after ≡ went ++ newcomers node.plain input opened before
   pub marking_is : marking
       ≡ (λ key. if concerns node.plain input key then marking_then by (place_at key went) (node.marking key) else node.marking key)
@@ -156,7 +162,8 @@ PlainTurn by before (Serving opened places) input sent after =
     (later : List Place) × (marking : Key → Marking) × ServesMarked by before input opened places later marking sent
     × (after ≡ record (with_stage (Serving (opened + length (newcomers before.plain input opened places)) later) before) { marking = marking })
 PlainTurn by before stage input sent after =
-    (next : Stage) × (packets : List Packet) × StageTurn by.service before.plain stage input next packets × (sent ≡ map Plain packets) × (after ≡ with_stage next before)
+    (next : Stage) × (packets : List Packet) × StageTurn by.service before.plain stage input next packets × (sent ≡ map Plain packets)
+    × (after ≡ with_stage next before)
 
 -- .. unless the input fences the server
 abbrev pub UnlessFenced : {State : Type 0} → Marker State → MarkedNode → Input → Option ℕ → List Outgoing → MarkedNode → Type 0
@@ -190,6 +197,7 @@ InputTurn by bytes lengths before (Plain_comes input) sent after = UnlessFenced 
 InputTurn by bytes lengths before (Mark_comes message) sent after = MarkTurn by bytes lengths before before.plain.stage message sent after
 
 -- One turn of an incarnation that marks. A fenced incarnation has no further turn
-pub record LawfulMarkedTurn {State : Type 0} (by : Marker State) (bytes lengths : List ℕ) (before : MarkedNode) (input : MarkedInput) (sent : List Outgoing) (after : MarkedNode) : Type 0 where
+pub record LawfulMarkedTurn {State : Type 0} (by : Marker State) (bytes lengths : List ℕ) (before : MarkedNode) (input : MarkedInput) (sent : List Outgoing)
+    (after : MarkedNode) : Type 0 where
   pub live : is_fenced before.plain.stage ≡ false
   pub turn : InputTurn by bytes lengths before input sent after

@@ -1,8 +1,10 @@
 -- The world with marks: clients and network as without them, a log with marks, and a server that marks.
-use Rattle.std.specs.Prelude.{◌≡◌, ℕ, zero, suc, ◌<◌, ◌*◌, length, map, Result, Ok, Err, Option, Some, None, option_map, is_some, true, List, [], ◌∷◌, ◌++◌, slice_get}
+use Rattle.std.specs.Prelude.{◌≡◌, ℕ, zero, suc, ◌<◌, ◌*◌, length, map, Result, Ok, Err, Option, Some, None, option_map, is_some, true, List, [], ◌∷◌}
+use Rattle.std.specs.Prelude.{◌++◌, slice_get}
 use Rattle.std.specs.Option.{option_to_list, option_map_or}
 use Rattle.ft_io.specs.declared.Addr.{Addr}
-use Rattle.tcp_rules.specs.Profile.{Profile}
+use Rattle.tcp_rules.specs.Profile.{Profile, grammar_of}
+use Rattle.seq_arith.specs.declared.kinds.Grammar.{Grammar}
 use Rattle.seq_arith.specs.Damage.{flipped}
 use Rattle.seq_arith.specs.Mark.{MarkBody, MarkMessage}
 use Rattle.seq_arith.specs.Mark.MarkBody.{HeldMsg}
@@ -16,7 +18,7 @@ use Rattle.ft_model.specs.Client.{Client}
 use Rattle.ft_model.specs.Log.{Log, entry_of}
 use Rattle.ft_model.specs.Network.{Packet, destination_of}
 use Rattle.ft_model.specs.Network.Packet.{To_server, To_client, To_logger, From_logger}
-use Rattle.ft_model.specs.Wire.{wire_of, HasWire}
+use Rattle.ft_model.specs.Wire.{wire_by, HasWireBy}
 use Rattle.ft_model.specs.Node.Input.{Packet_comes, Message_comes, Noise_comes, Tick_comes}
 use Rattle.ft_model.specs.Node.{booted}
 use Rattle.ft_model.specs.Lawful.{hello}
@@ -106,7 +108,8 @@ lengths_told log (Plain_comes input) = []
 abbrev pub ServerTurn : {State : Type 0} → Marker State → MarkedInput → Option MarkedNode → MarkedWorld → List Parcel → MarkedWorld → Type 0
 ServerTurn by input None before sent after = (sent ≡ []) × (after ≡ record before { parcels = before.parcels ++ sent })
 ServerTurn by input (Some node) before sent after =
-    (later : MarkedNode) × (out : List Outgoing) × LawfulMarkedTurn by (bytes_told before.log.log input) (lengths_told before.log.log input) node input out later
+    (later : MarkedNode) × (out : List Outgoing)
+    × LawfulMarkedTurn by (bytes_told before.log.log input) (lengths_told before.log.log input) node input out later
     × (sent ≡ map parcel_of out) × (after ≡ record before { node = Some later; parcels = before.parcels ++ sent })
 
 abbrev pub ServerMoves : {State : Type 0} → Marker State → MarkedInput → MarkedWorld → List Parcel → MarkedWorld → Type 0
@@ -130,18 +133,18 @@ ParcelComes by (Usual (From_logger message)) before sent after = ServerMoves by 
 ParcelComes by (Mark_sent message) before sent after = LogHears (About_mark message) before sent after
 ParcelComes by (Mark_answered message) before sent after = ServerMoves by (Mark_comes message) before sent after
 
--- Bytes with a changed bit
+-- Bytes with a changed bit. How messages are written depends on the profile; those about marks have one grammar
 
-abbrev pub bytes_of : Parcel → List ℕ
-bytes_of (Usual packet) = (wire_of packet).bytes
-bytes_of (Mark_sent message) = marks.spelling message
-bytes_of (Mark_answered message) = marks.spelling message
+abbrev pub bytes_of : Grammar → Parcel → List ℕ
+bytes_of grammar (Usual packet) = (wire_by grammar packet).bytes
+bytes_of grammar (Mark_sent message) = marks.spelling message
+bytes_of grammar (Mark_answered message) = marks.spelling message
 
 -- a parcel can be written as bytes, and a message about marks is read back as it was sent
-abbrev pub CanBeRead : Parcel → Type 0
-CanBeRead (Usual packet) = HasWire packet
-CanBeRead (Mark_sent message) = marks.reading (marks.spelling message) ≡ Ok message
-CanBeRead (Mark_answered message) = marks.reading (marks.spelling message) ≡ Ok message
+abbrev pub CanBeRead : Grammar → Parcel → Type 0
+CanBeRead grammar (Usual packet) = HasWireBy grammar packet
+CanBeRead grammar (Mark_sent message) = marks.reading (marks.spelling message) ≡ Ok message
+CanBeRead grammar (Mark_answered message) = marks.reading (marks.spelling message) ≡ Ok message
 
 -- what bytes say to the logger or to the server: a message, one about marks, or nothing
 abbrev pub either_said : Result Message BadMsg → Result MarkMessage BadMark → Option AnyMessage
@@ -149,8 +152,8 @@ either_said (Ok message) _ = Some (Of_log message)
 either_said (Err why) (Ok message) = Some (About_mark message)
 either_said (Err why) (Err other) = None
 
-abbrev pub said_by : List ℕ → Option AnyMessage
-said_by bytes = either_said (messages.reading bytes) (marks.reading bytes)
+abbrev pub said_by : Grammar → List ℕ → Option AnyMessage
+said_by grammar bytes = either_said (messages.reading_by grammar bytes) (marks.reading bytes)
 
 abbrev pub input_of : Option AnyMessage → MarkedInput
 input_of (Some (Of_log message)) = Plain_comes (Message_comes message)
@@ -165,16 +168,17 @@ LogReads None before sent after = (sent ≡ []) × (after ≡ record before { pa
 abbrev pub ComesAs : {State : Type 0} → Marker State → Parcel → List ℕ → MarkedWorld → List Parcel → MarkedWorld → Type 0
 ComesAs by (Usual (To_server segment)) bytes before sent after = ServerMoves by (Plain_comes (segment_or_noise (segments.reading bytes))) before sent after
 ComesAs by (Usual (To_client segment)) bytes before sent after = Elsewhere (ClientReads (destination_of segment) (segments.reading bytes)) before sent after
-ComesAs by (Usual (To_logger message)) bytes before sent after = LogReads (said_by bytes) before sent after
-ComesAs by (Usual (From_logger message)) bytes before sent after = ServerMoves by (input_of (said_by bytes)) before sent after
-ComesAs by (Mark_sent message) bytes before sent after = LogReads (said_by bytes) before sent after
-ComesAs by (Mark_answered message) bytes before sent after = ServerMoves by (input_of (said_by bytes)) before sent after
+ComesAs by (Usual (To_logger message)) bytes before sent after = LogReads (said_by (grammar_of before.profile) bytes) before sent after
+ComesAs by (Usual (From_logger message)) bytes before sent after = ServerMoves by (input_of (said_by (grammar_of before.profile) bytes)) before sent after
+ComesAs by (Mark_sent message) bytes before sent after = LogReads (said_by (grammar_of before.profile) bytes) before sent after
+ComesAs by (Mark_answered message) bytes before sent after = ServerMoves by (input_of (said_by (grammar_of before.profile) bytes)) before sent after
 
 -- a parcel arrives with one of its bits changed
-pub record FlippedTo {State : Type 0} (by : Marker State) (parcel : Parcel) (bit : ℕ) (before : MarkedWorld) (sent : List Parcel) (after : MarkedWorld) : Type 0 where
-  pub read : CanBeRead parcel
-  pub within : bit < 8 * length (bytes_of parcel)
-  pub comes : ComesAs by parcel (flipped bit (bytes_of parcel)) before sent after
+pub record FlippedTo {State : Type 0} (by : Marker State) (parcel : Parcel) (bit : ℕ) (before : MarkedWorld) (sent : List Parcel)
+    (after : MarkedWorld) : Type 0 where
+  pub read : CanBeRead (grammar_of before.profile) parcel
+  pub within : bit < 8 * length (bytes_of (grammar_of before.profile) parcel)
+  pub comes : ComesAs by parcel (flipped bit (bytes_of (grammar_of before.profile) parcel)) before sent after
 
 -- What may happen: what may happen without marks, but by a server and a log with marks
 abbrev pub MarkedHappens : {State : Type 0} → Marker State → MarkedWorld → Event → List Parcel → MarkedWorld → Type 0

@@ -1,5 +1,6 @@
 -- The law of marks: when a node sends a mark of a connection, until when it repeats that mark, and at which place of a turn it sends it.
-use Rattle.std.specs.Prelude.{◌≡◌, ℕ, ◌+◌, ◌-◌, Bool, ◌&&◌, false, nat_lt, nat_le, Option, Some, None, is_none, List, [], ◌∷◌, ◌++◌, map, length, take, drop, if◌then◌else◌}
+use Rattle.std.specs.Prelude.{◌≡◌, ℕ, ◌+◌, ◌-◌, Bool, ◌&&◌, false, nat_lt, nat_le, Option, Some, None, is_none, List, [], ◌∷◌, ◌++◌, map, length}
+use Rattle.std.specs.Prelude.{take, drop, if◌then◌else◌}
 use Rattle.std.specs.Option.{option_map_or}
 use Rattle.std.specs.List.{AllByRecursion}
 use Rattle.ft_io.specs.declared.Addr.{Addr}
@@ -68,14 +69,16 @@ without_marks (Plain packet ∷ sent) = packet ∷ without_marks sent
 without_marks (Mark_to_logger message ∷ sent) = without_marks sent
 
 -- A turn of a connection with marks: its turn without marks, and the marks, which are sent after its Reads and before its Done
-pub record MarkingTurn {State : Type 0} (service : Machine State) (writing : Writing State) (every : ℕ) (server : Addr) (boot : ℕ) (news : News) (before after : Point) (m n : Marking) (sent : List Outgoing) : Type 0 where
+pub record MarkingTurn {State : Type 0} (service : Machine State) (writing : Writing State) (every : ℕ) (server : Addr) (boot : ℕ) (news : News)
+    (before after : Point) (m n : Marking) (sent : List Outgoing) : Type 0 where
   pub packets : List Packet
   pub turn : ConnectionTurn service server boot news before after packets
   pub marking : n ≡ with_new service writing every after m
   pub sent_are : sent ≡ with_marks (length (dones news before after)) (marks_out boot after (marks_sent service writing every news m after)) packets
 
 -- the turn on an answer to a mark: the point stays as it is, and the next mark may be due
-pub record MarkedTurn {State : Type 0} (service : Machine State) (writing : Writing State) (every : ℕ) (boot reads : ℕ) (p : Point) (m n : Marking) (sent : List Outgoing) : Type 0 where
+pub record MarkedTurn {State : Type 0} (service : Machine State) (writing : Writing State) (every : ℕ) (boot reads : ℕ) (p : Point) (m n : Marking)
+    (sent : List Outgoing) : Type 0 where
   pub marking : n ≡ with_new service writing every p (marking_answered reads m)
   pub sent_are : sent ≡ marks_out boot p (new_marks service writing every (marking_answered reads m) p)
 
@@ -99,6 +102,7 @@ abbrev pub AreTrue : {State : Type 0} → Machine State → Writing State → En
 AreTrue service writing e marks = AllByRecursion (IsRunOf service writing e) marks
 
 -- the marks sent in a turn, and the one outstanding after it, are true
-pub record TellsTruth {State : Type 0} (service : Machine State) (writing : Writing State) (every : ℕ) (news : News) (m : Marking) (p : Point) (e : Entry) : Type 0 where
+pub record TellsTruth {State : Type 0} (service : Machine State) (writing : Writing State) (every : ℕ) (news : News) (m : Marking) (p : Point)
+    (e : Entry) : Type 0 where
   pub sent : AreTrue service writing e (marks_sent service writing every news m p)
   pub outstanding : AreTrue service writing e (outstanding_in (with_new service writing every p m))

@@ -1,6 +1,7 @@
 -- The law of a restart that begins at marks. The server asks for the mark of an entry directly after the entry, and continues from there as if all that is
 -- below the mark had been fetched. The law has these bytes and lengths as a witness; the server never has them.
-use Rattle.std.specs.Prelude.{◌≡◌, ◌⊎◌, ℕ, ◌==◌, Bool, false, ◌&&◌, ◌||◌, not, nat_le, is_some, Option, Some, None, MatchOption, option_map, List, [], ◌∷◌, if◌then◌else◌}
+use Rattle.std.specs.Prelude.{◌≡◌, ◌⊎◌, ℕ, ◌==◌, Bool, false, ◌&&◌, ◌||◌, not, nat_le, is_some, Option, Some, None, MatchOption, option_map, List, []}
+use Rattle.std.specs.Prelude.{◌∷◌, if◌then◌else◌}
 use Rattle.ft_io.specs.Key.{key_eq}
 use Rattle.seq_arith.specs.Mark.{Mark, MarkBody, MarkMessage}
 use Rattle.seq_arith.specs.Mark.MarkBody.{AskMsg, HeldMsg}

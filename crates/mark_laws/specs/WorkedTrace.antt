@@ -23,7 +23,8 @@ use Rattle.ft_model.specs.declared.event.Event.TheVariants.{Boot, Crash, Deliver
 use Rattle.ft_model.specs.declared.schedule.Schedule.{Schedule}
 use Rattle.ft_model.specs.declared.schedule.Script.TheVariants.{Bytes}
 use Rattle.ft_model.specs.declared.schedule.ServiceKind.TheVariants.{Echo}
-use Rattle.ft_model.specs.WorkedRuns.Common.{server, key, echo, hello_text, client_segment, from_client, to_client, to_log, from_log, part_with, head_with, fetched_with, congestion_with}
+use Rattle.ft_model.specs.WorkedRuns.Common.{server, key, echo, hello_text, client_segment, from_client, to_client, to_log, from_log, part_with}
+use Rattle.ft_model.specs.WorkedRuns.Common.{head_with, fetched_with, congestion_with}
 use Rattle.ft_model.specs.WorkedRuns.FirstPath as path
 use Rattle.mark_laws.specs.MarkedLog.{MarkedLog, no_mark}
 use Rattle.mark_laws.specs.MarkedNode.{Marker, MarkedNode, booted_to_mark, unmarked, marking_then, marking_fetched}
@@ -88,7 +89,8 @@ abbrev pub marked_node : MarkedNode
 marked_node = record {
   plain = path.node_live acked_point;
   awaits_mark = false;
-  marking = λ k. if concerns (path.node_live path.released_point) ack_comes k then marking_then marker (place_at k (Lives acked_point ∷ [])) unmarked else unmarked;
+  marking = λ k. if concerns (path.node_live path.released_point) ack_comes k then marking_then marker (place_at k (Lives acked_point ∷ [])) unmarked
+      else unmarked;
 }
 
 abbrev pub mark_out : List Parcel
@@ -178,6 +180,7 @@ schedule = record {
   profile = Plain;
   twin = false;
   marks = Some 1;
+  lasting = None;
   clients = record { key = key; isn = 1000; script = Bytes hello_text } ∷ [];
   events = Boot 1 5000 ∷ Deliver 1 ∷ Deliver 2 ∷ Begin 1 65535 ∷ Deliver 3 ∷ Deliver 4 ∷ Deliver 5 ∷ Deliver 6 ∷ Ack 1 65535 ∷ Deliver 7 ∷ Send 1 0 5 ∷ Deliver 8
       ∷ Deliver 10 ∷ Deliver 12 ∷ Deliver 11 ∷ Deliver 14 ∷ Deliver 15 ∷ Ack 1 65535 ∷ Deliver 16 ∷ Deliver 18 ∷ Crash ∷ Boot 2 900000 ∷ Deliver 20 ∷ Deliver 21

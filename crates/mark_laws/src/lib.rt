@@ -1,6 +1,6 @@
-//! Marks: the log with marks, traces with marks and their reports, as definitions, and laws on them. They say when a mark is true, that it stays true while the log
-//! grows, and what a restart that begins at one may assume. In every trace of a server that makes marks all marks are true, and the trace without its marks is
-//! masked; all that is sent in it can be written as bytes. Nothing here runs; each function is a theorem.
+//! Marks: the log with marks, traces with marks and their reports, as definitions, and laws on them. They say when a mark is true, that it stays true while
+//! the log grows, and what a restart that begins at one may assume. In every trace of a server that makes marks all marks are true, and the trace without its
+//! marks is masked; all that is sent in it can be written as bytes. Nothing here runs; each function is a theorem.
 #![tactic(auto)]
 
 ghost use Rattle.std.specs.Prelude.{◌≡◌, ℕ, Bool, true, false, ◌≤◌, List, [], ◌∷◌, Some, None, IfSome, length, sum, slice_get, ◌<◌, codes};
@@ -41,6 +41,7 @@ ghost use Rattle.mark_laws.specs.Marking.{Marking, MarkingTurn, Outgoing, with_n
 ghost use Rattle.mark_laws.specs.MarkedNode.{GoesMarked, MarkedNode, ServesMarked, marks_at};
 ghost use Rattle.mark_laws.specs.MarkedLegal.{markers, marked_start, IsMarkedLegalFor, MarkedLegal};
 ghost use Rattle.mark_laws.specs.MarkedOutcome.{IsMarkedWhole, IsMarkedRefused, IsMarkedPastPackets};
+ghost use Rattle.tcp_rules.specs.Profile.{grammar_of};
 ghost use Rattle.mark_laws.specs.MarkedWorld.{MarkedWorld, MarkedMoment, MarkedJoint, seen, usual, parcel_at, marked_after, plain_trace, CanBeRead};
 ghost use Rattle.mark_laws.specs.MarkedWorld.Parcel.{Mark_answered};
 ghost use Rattle.mark_laws.specs.Premises.{IsSoundMark};
@@ -58,13 +59,13 @@ pub mod marking;
 
 /// If the service hasn't closed after some reads, no closing read is among them: a closing read closes it, and it stays closed.
 pub fn running_services_read_on<S: Service>()
-    ensures { (fresh : S) (bytes lengths : List ℕ) → (reference (machine fresh S.after) bytes lengths).closed ≡ false → has_closing lengths ≡ false }
+    ensures { (fresh : S) (bytes lengths : List ℕ) → (reference (machine fresh S.after S.greeting) bytes lengths).closed ≡ false → has_closing lengths ≡ false }
 {}
 
 /// What a mark says stays true while the log grows.
 pub fn marks_stay_true<S: Service>()
     ensures { (kind : ℕ) (writing : Writing S) (before after : Entry) (mark : Mark) → EntryGrows before after
-        → IsRunOf (machine (S.started kind) S.after) writing before mark → IsRunOf (machine (S.started kind) S.after) writing after mark }
+        → IsRunOf (machine (S.started kind) S.after S.greeting) writing before mark → IsRunOf (machine (S.started kind) S.after S.greeting) writing after mark }
 {}
 
 /// The mark of a quiet point is true of the log's entry. The premises: point and entry have bytes of one client, the entry's reads are a prefix of the
@@ -72,24 +73,24 @@ pub fn marks_stay_true<S: Service>()
 pub fn quiet_points_mark_the_log<S: Service>()
     ensures { (kind : ℕ) (writing : Writing S) (script : List ℕ) (p : Point) (e : Entry) → IsPrefix p.taken script → sum p.lengths ≤ length p.taken
         → IsPrefix e.bytes script → sum e.lengths ≤ length e.bytes → IsPrefix e.lengths p.lengths → p.reads_answered ≤ length e.lengths
-        → IsQuiet (machine (S.started kind) S.after) p
-        → IsRunOf (machine (S.started kind) S.after) writing e (mark_of (machine (S.started kind) S.after) writing p) }
+        → IsQuiet (machine (S.started kind) S.after S.greeting) p
+        → IsRunOf (machine (S.started kind) S.after S.greeting) writing e (mark_of (machine (S.started kind) S.after S.greeting) writing p) }
 {}
 
 /// The state that is read back from a true mark is the service's state after the reads below the mark.
 pub fn true_marks_are_read_back<S: Service>()
-    ensures { (kind : ℕ) (writing : Writing S) (e : Entry) (mark : Mark) → ReadsBack (machine (S.started kind) S.after) writing → AreBytes e.bytes
-        → IsRunOf (machine (S.started kind) S.after) writing e mark
-        → IsBelow (machine (S.started kind) S.after) writing mark (bytes_below mark e) (lengths_below mark e) }
+    ensures { (kind : ℕ) (writing : Writing S) (e : Entry) (mark : Mark) → ReadsBack (machine (S.started kind) S.after S.greeting) writing → AreBytes e.bytes
+        → IsRunOf (machine (S.started kind) S.after S.greeting) writing e mark
+        → IsBelow (machine (S.started kind) S.after S.greeting) writing mark (bytes_below mark e) (lengths_below mark e) }
 {}
 
 /// If a restart has fetched prefixes of the entries of a log whose marks are true, each answer of that log to a question leads it to prefixes of them again.
 /// What is below a mark is then the beginning of its entry.
 pub fn answers_fetch_the_log<S: Service>()
     ensures { (kind : ℕ) (writing : Writing S) (l : MarkedLog) (marks : Bool) (boot count : ℕ) (asked answer : AnyMessage) (before : FetchedSoFar)
-        → ReadsBack (machine (S.started kind) S.after) writing → HasTrueMarks (machine (S.started kind) S.after) writing l
+        → ReadsBack (machine (S.started kind) S.after S.greeting) writing → HasTrueMarks (machine (S.started kind) S.after S.greeting) writing l
         → AreFetched l.log.entries before.entries → IsQuestion l asked → answer_of l asked ≡ Some answer
-        → (after : FetchedSoFar) × Leads (machine (S.started kind) S.after) writing marks boot count answer before after
+        → (after : FetchedSoFar) × Leads (machine (S.started kind) S.after S.greeting) writing marks boot count answer before after
         × AreFetched l.log.entries after.entries }
 {}
 
@@ -97,7 +98,8 @@ pub fn answers_fetch_the_log<S: Service>()
 pub fn restarts_end_at_the_points<S: Service>()
     ensures { (kind : ℕ) (profile : Profile) (entries : List Entry) (fetched : List Fetched) → AreFetched entries fetched
         → wanted (length entries) fetched ≡ None → (i : ℕ) (e : Entry) → slice_get entries i ≡ Some e → e.done ≡ false
-        → slice_get (all_restored (machine (S.started kind) S.after) profile fetched) i ≡ Some (Lives (point_of (machine (S.started kind) S.after) profile e)) }
+        → slice_get (all_restored (machine (S.started kind) S.after S.greeting) profile fetched) i
+        ≡ Some (Lives (point_of (machine (S.started kind) S.after S.greeting) profile e)) }
 {}
 
 /// A mark of two reads is kept. A mark of fewer reads and one whose length isn't the sum of its reads get the same answer, and change nothing. A mark of
@@ -147,26 +149,26 @@ pub fn worked_marks_that_do_not_fit()
 /// A turn of a server that serves and marks, without its marks, is a turn of a server that serves.
 pub fn serving_turns_without_marks_are_lawful<S: Saved>()
     ensures { (kind every opened : ℕ) (node : MarkedNode) (input : Input) (before after : List Place) (marking : Key → Marking) (sent : List Outgoing)
-        → ServesMarked (markers (machines S.started S.after) S.form S.state_of every kind) node input opened before after marking sent
-        → ServingTurn (machine (S.started kind) S.after) node.plain input opened before after (without_marks sent) }
+        → ServesMarked (markers (machines S.started S.after S.greeting) S.form S.state_of every kind) node input opened before after marking sent
+        → ServingTurn (machine (S.started kind) S.after S.greeting) node.plain input opened before after (without_marks sent) }
 {}
 
 /// A live connection takes its turn by the law of marks: its marks are those of the law, and only its Done is sent after them.
 pub fn live_connections_follow_the_law_of_marks<S: Saved>()
     ensures { (kind every : ℕ) (node : MarkedNode) (news : News) (p : Point) (now : List Place) (sent : List Outgoing)
-        → GoesMarked (λ place. LivesOn (machine (S.started kind) S.after) node.plain news p)
-        (marks_at (markers (machines S.started S.after) S.form S.state_of every kind) node.plain.boot (is_tick news) node.marking) (Lives p) now sent
+        → GoesMarked (λ place. LivesOn (machine (S.started kind) S.after S.greeting) node.plain news p)
+        (marks_at (markers (machines S.started S.after S.greeting) S.form S.state_of every kind) node.plain.boot (is_tick news) node.marking) (Lives p) now sent
         → (q : Point) × (now ≡ Lives q ∷ [])
-        × MarkingTurn (machine (S.started kind) S.after) (writing S.form (S.state_of kind)) every node.plain.server node.plain.boot news p q
-        (node.marking q.key) (with_new (machine (S.started kind) S.after) (writing S.form (S.state_of kind)) every q (node.marking q.key)) sent }
+        × MarkingTurn (machine (S.started kind) S.after S.greeting) (writing S.form (S.state_of kind)) every node.plain.server node.plain.boot news p q
+        (node.marking q.key) (with_new (machine (S.started kind) S.after S.greeting) (writing S.form (S.state_of kind)) every q (node.marking q.key)) sent }
 {}
 
 /// In every trace with marks each mark is true of its entry in the log: the marks that were sent to the log, those that the log has, those in its answers,
 /// and those that a server has outstanding.
 pub fn marks_are_true<S: Saved>()
     ensures { (kind every : ℕ) (start : MarkedWorld) (trace : List MarkedMoment)
-        → MarkedJoint (markers (machines S.started S.after) S.form S.state_of every kind) start trace
-        → MarksAreTrue (markers (machines S.started S.after) S.form S.state_of every kind) (marked_after start trace) }
+        → MarkedJoint (markers (machines S.started S.after S.greeting) S.form S.state_of every kind) start trace
+        → MarksAreTrue (markers (machines S.started S.after S.greeting) S.form S.state_of every kind) (marked_after start trace) }
 {
     marks_stay_true::<S>();
     marks_that_go_out_are_true::<S>();
@@ -176,8 +178,8 @@ pub fn marks_are_true<S: Saved>()
 /// the whole entry, whether or not it began at a mark. The log is that without the marks, with all bytes and lengths.
 pub fn marked_traces_are_masked<S: Saved>()
     ensures { (kind every : ℕ) (start : MarkedWorld) (trace : List MarkedMoment)
-        → MarkedJoint (markers (machines S.started S.after) S.form S.state_of every kind) start trace
-        → Masked (machine (S.started kind) S.after) (seen start) (plain_trace trace) }
+        → MarkedJoint (markers (machines S.started S.after S.greeting) S.form S.state_of every kind) start trace
+        → Masked (machine (S.started kind) S.after S.greeting) (seen start) (plain_trace trace) }
 {
     marks_stay_true::<S>();
     marks_that_go_out_are_true::<S>();
@@ -187,7 +189,7 @@ pub fn marked_traces_are_masked<S: Saved>()
 /// that of the closing read. So the server that never crashed, with which `marked_traces_are_masked` compares the trace, reads only bytes that its client sent.
 pub fn marked_traces_cut_the_bytes<S: Saved>()
     ensures { (kind every : ℕ) (start : MarkedWorld) (trace : List MarkedMoment)
-        → MarkedJoint (markers (machines S.started S.after) S.form S.state_of every kind) start trace
+        → MarkedJoint (markers (machines S.started S.after S.greeting) S.form S.state_of every kind) start trace
         → AllByRecursion (λ e. CanCut e.bytes e.lengths) (marked_after start trace).log.log.entries }
 {
     marks_stay_true::<S>();
@@ -197,7 +199,7 @@ pub fn marked_traces_cut_the_bytes<S: Saved>()
 /// No false reset: of all RSTs that were sent so far in a trace with marks, none was sent to a client whose entry is now in the log and not done.
 pub fn marked_traces_reset_no_logged_connection<S: Saved>()
     ensures { (kind every : ℕ) (start : MarkedWorld) (trace : List MarkedMoment)
-        → MarkedJoint (markers (machines S.started S.after) S.form S.state_of every kind) start trace
+        → MarkedJoint (markers (machines S.started S.after S.greeting) S.form S.state_of every kind) start trace
         → AllByRecursion (ResetsNoLogged (marked_after start trace).log.log) (usual (marked_after start trace).parcels) }
 {
     marks_stay_true::<S>();
@@ -207,10 +209,10 @@ pub fn marked_traces_reset_no_logged_connection<S: Saved>()
 /// No server of a trace with marks is ever fenced, and nothing that may arrive next fences it.
 pub fn marked_traces_fence_no_server<S: Saved>()
     ensures stage { (kind every : ℕ) (start : MarkedWorld) (trace : List MarkedMoment)
-        → MarkedJoint (markers (machines S.started S.after) S.form S.state_of every kind) start trace
+        → MarkedJoint (markers (machines S.started S.after S.greeting) S.form S.state_of every kind) start trace
         → IfSome (marked_after start trace).node (λ node. is_fenced node.plain.stage ≡ false) }
     ensures input { (kind every : ℕ) (start : MarkedWorld) (trace : List MarkedMoment) (node : MarkedNode) (input : Input)
-        → MarkedJoint (markers (machines S.started S.after) S.form S.state_of every kind) start trace
+        → MarkedJoint (markers (machines S.started S.after S.greeting) S.form S.state_of every kind) start trace
         → (marked_after start trace).node ≡ Some node → MayCome (seen (marked_after start trace)) input → fence node.plain input ≡ None }
 {
     marks_stay_true::<S>();
@@ -220,8 +222,8 @@ pub fn marked_traces_fence_no_server<S: Saved>()
 /// A legal trace of a schedule with marks is masked.
 pub fn marked_schedules_are_masked<S: Saved>()
     ensures { (every : ℕ) (schedule : Schedule) (events : List Event) (trace : List MarkedMoment)
-        → IsMarkedLegalFor (markers (machines S.started S.after) S.form S.state_of every) schedule events trace
-        → Masked (machines S.started S.after (kind_of schedule.service)) (start_of schedule) (plain_trace trace) }
+        → IsMarkedLegalFor (markers (machines S.started S.after S.greeting) S.form S.state_of every) schedule events trace
+        → Masked (machines S.started S.after S.greeting (kind_of schedule.service)) (start_of schedule) (plain_trace trace) }
 {
     marked_traces_are_masked::<S>();
 }
@@ -231,26 +233,27 @@ pub fn marked_schedules_are_masked<S: Saved>()
 /// fetched is sound.
 pub fn marked_premises_hold<S: Saved>()
     ensures near { (every : ℕ) (schedule : Schedule) (events : List Event) (trace : List MarkedMoment) (node : MarkedNode) (input : Input)
-        → IsMarkedLegalFor (markers (machines S.started S.after) S.form S.state_of every) schedule events trace
+        → IsMarkedLegalFor (markers (machines S.started S.after S.greeting) S.form S.state_of every) schedule events trace
         → (marked_after (marked_start schedule) trace).node ≡ Some node → MayCome (seen (marked_after (marked_start schedule) trace)) input
         → IsNearInput node.plain.server input node.plain.stage }
     ensures sound { (every : ℕ) (schedule : Schedule) (events : List Event) (trace : List MarkedMoment) (node : MarkedNode) (input : Input)
-        → IsMarkedLegalFor (markers (machines S.started S.after) S.form S.state_of every) schedule events trace
+        → IsMarkedLegalFor (markers (machines S.started S.after S.greeting) S.form S.state_of every) schedule events trace
         → (marked_after (marked_start schedule) trace).node ≡ Some node → MayCome (seen (marked_after (marked_start schedule) trace)) input
-        → IsSoundInput (machines S.started S.after (kind_of schedule.service)) node.plain input node.plain.stage }
+        → IsSoundInput (machines S.started S.after S.greeting (kind_of schedule.service)) node.plain input node.plain.stage }
     ensures fronts { (every : ℕ) (schedule : Schedule) (events : List Event) (trace : List MarkedMoment) (node : MarkedNode) (input : Input)
-        → IsMarkedLegalFor (markers (machines S.started S.after) S.form S.state_of every) schedule events trace
+        → IsMarkedLegalFor (markers (machines S.started S.after S.greeting) S.form S.state_of every) schedule events trace
         → (marked_after (marked_start schedule) trace).node ≡ Some node → MayCome (seen (marked_after (marked_start schedule) trace)) input
-        → HasSoundFronts (machines S.started S.after (kind_of schedule.service)) node.plain input node.plain.stage }
+        → HasSoundFronts (machines S.started S.after S.greeting (kind_of schedule.service)) node.plain input node.plain.stage }
     ensures unfenced { (every : ℕ) (schedule : Schedule) (events : List Event) (trace : List MarkedMoment) (node : MarkedNode) (input : Input)
-        → IsMarkedLegalFor (markers (machines S.started S.after) S.form S.state_of every) schedule events trace
+        → IsMarkedLegalFor (markers (machines S.started S.after S.greeting) S.form S.state_of every) schedule events trace
         → (marked_after (marked_start schedule) trace).node ≡ Some node → MayCome (seen (marked_after (marked_start schedule) trace)) input
         → fence node.plain input ≡ None }
     ensures marks { S.is_savable ≡ true → (every number : ℕ) (schedule : Schedule) (events : List Event) (trace : List MarkedMoment) (node : MarkedNode)
-        (message : MarkMessage) → IsMarkedLegalFor (markers (machines S.started S.after) S.form S.state_of every) schedule events trace
+        (message : MarkMessage) → IsMarkedLegalFor (markers (machines S.started S.after S.greeting) S.form S.state_of every) schedule events trace
         → (marked_after (marked_start schedule) trace).node ≡ Some node
         → parcel_at (marked_after (marked_start schedule) trace).parcels number ≡ Some (Mark_answered message)
-        → IsSoundMark (markers (machines S.started S.after) S.form S.state_of every (kind_of schedule.service)) (marked_after (marked_start schedule) trace).log.log
+        → IsSoundMark (markers (machines S.started S.after S.greeting) S.form S.state_of every (kind_of schedule.service))
+        (marked_after (marked_start schedule) trace).log.log
         node message node.plain.stage }
 {
     marks_stay_true::<S>();
@@ -261,15 +264,19 @@ pub fn marked_premises_hold<S: Saved>()
 /// A schedule with marks has only one outcome: no two of the three hold of it, and the event that is refused or exceeds the limit is determined, and so is the
 /// cause.
 pub fn marked_schedules_have_one_outcome<S: Saved>()
-    ensures whole_or_refused { (every : ℕ) (schedule : Schedule) → IsMarkedWhole (markers (machines S.started S.after) S.form S.state_of every) schedule
-        → IsMarkedRefused (markers (machines S.started S.after) S.form S.state_of every) schedule → ⊥ }
-    ensures whole_or_past { (every : ℕ) (schedule : Schedule) → IsMarkedWhole (markers (machines S.started S.after) S.form S.state_of every) schedule
-        → IsMarkedPastPackets (markers (machines S.started S.after) S.form S.state_of every) schedule → ⊥ }
-    ensures refused_or_past { (every : ℕ) (schedule : Schedule) → IsMarkedRefused (markers (machines S.started S.after) S.form S.state_of every) schedule
-        → IsMarkedPastPackets (markers (machines S.started S.after) S.form S.state_of every) schedule → ⊥ }
-    ensures refused_once { (every : ℕ) (schedule : Schedule) (a b : IsMarkedRefused (markers (machines S.started S.after) S.form S.state_of every) schedule)
+    ensures whole_or_refused { (every : ℕ) (schedule : Schedule)
+        → IsMarkedWhole (markers (machines S.started S.after S.greeting) S.form S.state_of every) schedule
+        → IsMarkedRefused (markers (machines S.started S.after S.greeting) S.form S.state_of every) schedule → ⊥ }
+    ensures whole_or_past { (every : ℕ) (schedule : Schedule) → IsMarkedWhole (markers (machines S.started S.after S.greeting) S.form S.state_of every) schedule
+        → IsMarkedPastPackets (markers (machines S.started S.after S.greeting) S.form S.state_of every) schedule → ⊥ }
+    ensures refused_or_past { (every : ℕ) (schedule : Schedule)
+        → IsMarkedRefused (markers (machines S.started S.after S.greeting) S.form S.state_of every) schedule
+        → IsMarkedPastPackets (markers (machines S.started S.after S.greeting) S.form S.state_of every) schedule → ⊥ }
+    ensures refused_once { (every : ℕ) (schedule : Schedule)
+        (a b : IsMarkedRefused (markers (machines S.started S.after S.greeting) S.form S.state_of every) schedule)
         → (a.played ≡ b.played) × (a.event ≡ b.event) × (a.why ≡ b.why) }
-    ensures past_once { (every : ℕ) (schedule : Schedule) (a b : IsMarkedPastPackets (markers (machines S.started S.after) S.form S.state_of every) schedule)
+    ensures past_once { (every : ℕ) (schedule : Schedule)
+        (a b : IsMarkedPastPackets (markers (machines S.started S.after S.greeting) S.form S.state_of every) schedule)
         → (a.played ≡ b.played) × (a.event ≡ b.event) }
 {}
 
@@ -277,8 +284,8 @@ pub fn marked_schedules_have_one_outcome<S: Saved>()
 /// marks are made.
 pub fn legal_marked_traces_are_determined<S: Saved>()
     ensures { (every : ℕ) (schedule : Schedule) (trace other : List MarkedMoment)
-        → MarkedLegal (markers (machines S.started S.after) S.form S.state_of every) schedule trace
-        → MarkedLegal (markers (machines S.started S.after) S.form S.state_of every) schedule other → trace ≡ other }
+        → MarkedLegal (markers (machines S.started S.after S.greeting) S.form S.state_of every) schedule trace
+        → MarkedLegal (markers (machines S.started S.after S.greeting) S.form S.state_of every) schedule other → trace ≡ other }
 {}
 
 /// A worked run: an echo service with a mark after every read crashes once its mark is kept, and the next incarnation begins at the mark. It asks for one
@@ -300,8 +307,8 @@ pub fn wrong_marks_are_refused()
 /// marks has a savable service.
 pub fn marked_parcels_are_written<S: Saved>()
     ensures { (kind every : ℕ) (start : MarkedWorld) (trace : List MarkedMoment) → (0 < every → S.is_savable ≡ true)
-        → MarkedJoint (markers (machines S.started S.after) S.form S.state_of every kind) start trace
-        → AllByRecursion CanBeRead (marked_after start trace).parcels }
+        → MarkedJoint (markers (machines S.started S.after S.greeting) S.form S.state_of every kind) start trace
+        → AllByRecursion (CanBeRead (grammar_of start.profile)) (marked_after start trace).parcels }
 {
     marks_stay_true::<S>();
     marks_that_go_out_are_true::<S>();
@@ -318,7 +325,7 @@ pub fn worked_restart_is_reported()
 pub fn marked_reports_tell_their_traces<S: Saved>()
     ensures { (every often : ℕ) (schedule other : Schedule) (trace also : List MarkedMoment) → FitsSchedule schedule → FitsSchedule other
         → schedule.marks ≡ Some every → other.marks ≡ Some often
-        → MarkedLegal (markers (machines S.started S.after) S.form S.state_of every) schedule trace
-        → MarkedLegal (markers (machines S.started S.after) S.form S.state_of often) other also
+        → MarkedLegal (markers (machines S.started S.after S.greeting) S.form S.state_of every) schedule trace
+        → MarkedLegal (markers (machines S.started S.after S.greeting) S.form S.state_of often) other also
         → marked_report schedule trace ≡ marked_report other also → (schedule ≡ other) × (trace ≡ also) }
 {}

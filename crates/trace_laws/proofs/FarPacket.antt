@@ -16,7 +16,7 @@ use Rattle.trace_laws.specs.FarPacket as row
 use Rattle.trace_laws.proofs.Near.{packets_near}
 
 pub small : HasSmallOutputs echo
-small state chunk h = omega (arith, h)
+small = (omega arith, λ state chunk h. omega (arith, h))
 
 pub not_near : AreNear (path.node_live path.open_point).server row.far (path.node_live path.open_point).stage → ⊥
 unfolding offset_of

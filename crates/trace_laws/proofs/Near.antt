@@ -256,7 +256,7 @@ KeptNear service start w = masked.JointInvariant service start w × SendsNear (i
 pub near_after : {State : Type 0} (service : Machine State) → HasSmallOutputs service → (start : World) (trace : List Moment) → Joint service start trace → KeptNear service start (world_after start trace)
 near_after service small start trace j =
     let s : IsStart start = start_is service start trace j in
-    holds_after service (KeptNear service start) start (λ x. (masked.start_sound service start x, start_near (isn_of start) start x))
+    holds_after service (KeptNear service start) start (λ x. (masked.start_sound service small start x, start_near (isn_of start) start x))
     (λ before sent after o h. (masked.sound_goes_on service small start before sent after s o.0 h, near_goes_on service start before sent after o.0 o.1 h)) trace j
 
 -- .. to each live connection

@@ -14,7 +14,8 @@ use Rattle.seq_arith.specs.declared.kinds.BadMsg.{BadMsg}
 use Rattle.ft_model.specs.Log.{Log, log_after, answer_to}
 use Rattle.ft_model.specs.Network.{Packet, packet_at, destination_of}
 use Rattle.ft_model.specs.Network.Packet.{To_server, To_client, To_logger, From_logger}
-use Rattle.ft_model.specs.Wire.{wire_of}
+use Rattle.tcp_rules.specs.Profile.{grammar_of}
+use Rattle.ft_model.specs.Wire.{wire_by}
 use Rattle.ft_model.specs.World.{World, Happens, Delivered, DeliveredAs, Flipped, ClientReads, LogReads, Moves}
 use Rattle.ft_model.specs.declared.event.Event.{Event}
 use Rattle.ft_model.specs.declared.event.Event.TheVariants as events
@@ -85,13 +86,13 @@ delivers_as : {State : Type 0} (service : Machine State) (before after : World) 
     → DeliveredAs service before packet bytes sent after → DeliveredAs service (beside before others) packet bytes sent (beside after (others ++ sent))
 delivers_as service before after (To_server segment) bytes sent others d = (d.0, ap (λ w. beside w (others ++ sent)) d.1)
 delivers_as service before after (To_client segment) bytes sent others d = reads_client (destination_of segment) (segments.reading bytes) before after sent others d
-delivers_as service before after (To_logger message) bytes sent others d = reads_log (messages.reading bytes) before after sent others d
+delivers_as service before after (To_logger message) bytes sent others d = reads_log (messages.reading_by (grammar_of before.profile) bytes) before after sent others d
 delivers_as service before after (From_logger message) bytes sent others d = (d.0, ap (λ w. beside w (others ++ sent)) d.1)
 
 flips : {State : Type 0} (service : Machine State) (before after : World) (packet : Packet) (bit : ℕ) (sent others : List Packet) → Flipped service before packet bit sent after
     → Flipped service (beside before others) packet bit sent (beside after (others ++ sent))
 flips service before after packet bit sent others f =
-    record { wire = f.wire; within = f.within; comes = delivers_as service before after packet (flipped bit (wire_of packet).bytes) sent others f.comes }
+    record { wire = f.wire; within = f.within; comes = delivers_as service before after packet (flipped bit (wire_by (grammar_of before.profile) packet).bytes) sent others f.comes }
 
 moves : (before after : World) (number : ℕ) (sent others : List Packet) → Moves before number sent after → Moves (beside before others) number sent (beside after (others ++ sent))
 moves before after number sent others m =

@@ -38,7 +38,7 @@ Kept service start w = masked.JointInvariant service start w × FinsBelow (scrip
 pub kept_after : {State : Type 0} (service : Machine State) → HasSmallOutputs service → (start : World) (trace : List Moment) → Joint service start trace → Kept service start (world_after start trace)
 kept_after service small start trace j =
     let s : IsStart start = start_is service start trace j in
-    holds_after service (Kept service start) start (λ x. (masked.start_sound service start x, start_below (script_of start) start x))
+    holds_after service (Kept service start) start (λ x. (masked.start_sound service small start x, start_below (script_of start) start x))
     (λ before sent after o h. (
       masked.sound_goes_on service small start before sent after s o.0 h,
       below_goes_on service (script_of start) (isn_of start) before sent after (short_scripts start s) o.0.asked o.0.faithful o.1 h,

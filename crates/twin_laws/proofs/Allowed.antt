@@ -4,10 +4,11 @@ use Rattle.std.proofs.lemmas.Bool.Decides.{nat_tests}
 use Rattle.ft_io.proofs.Choices.{holds_either_way}
 use Rattle.seq_arith.specs.Message.{Message, is_answer}
 use Rattle.server_trait.specs.Service.{Machine}
+use Rattle.tcp_rules.specs.Profile.{grammar_of}
 use Rattle.ft_model.specs.Legal.{refusal_of_flip, IsAllowed, AllAllowed}
 use Rattle.ft_model.specs.Network.{Packet}
 use Rattle.ft_model.specs.Network.Packet.{To_server, To_client, To_logger, From_logger}
-use Rattle.ft_model.specs.Wire.{wire_of}
+use Rattle.ft_model.specs.Wire.{wire_by}
 use Rattle.ft_model.specs.World.{World, Moment, Happens, Joint, world_after}
 use Rattle.ft_model.specs.declared.event.Event.{Event}
 use Rattle.ft_model.specs.declared.event.Event.TheVariants.{Boot, Crash, Tick, Deliver, Flip, Begin, Send, Fin, Ack, Reset}
@@ -33,10 +34,10 @@ module _ {State : Type 0} (service : Machine State) where
   flip_allowed : (w : World) (n bit : ℕ) (sent : List Packet) (after : World) → Happens service w (Flip n bit) sent after
       → IsAllowed w (record { event = Flip n bit; sent = sent; world = after })
   flip_allowed w n bit sent after h =
-      let inside : bit < 8 * length (wire_of h.0).bytes = h.2.within in
-      let has : nat_le (8 * length (wire_of h.0).bytes) bit ≡ false = grind (arith, nat_tests) in
+      let inside : bit < 8 * length (wire_by (grammar_of w.profile) h.0).bytes = h.2.within in
+      let has : nat_le (8 * length (wire_by (grammar_of w.profile) h.0).bytes) bit ≡ false = grind (arith, nat_tests) in
       record {
-        allowed = ap (λ o. refusal_of_flip o bit) h.1 ∙ ap (λ b. cond b (Some why.Bit) None) has;
+        allowed = ap (λ o. refusal_of_flip (grammar_of w.profile) o bit) h.1 ∙ ap (λ b. cond b (Some why.Bit) None) has;
         scripted = quiet_event w (Flip n bit) sent after refl;
       }
 

@@ -5,6 +5,7 @@ use Rattle.std.specs.Option.{option_to_list}
 use Rattle.seq_arith.specs.Message.{Message, is_answer}
 use Rattle.server_trait.specs.Service.{Machine}
 use Rattle.ft_io.proofs.Choices.{holds_if, if_false, if_true}
+use Rattle.tcp_rules.specs.Profile.{grammar_of}
 use Rattle.ft_model.specs.Log.{empty_log, log_after, answer_to}
 use Rattle.ft_model.specs.Network.{Packet, packet_at, destination_of}
 use Rattle.ft_model.specs.Network.Packet.{To_server, To_client, To_logger, From_logger}
@@ -33,7 +34,7 @@ use Rattle.twin_laws.proofs.Noise.{flipped_is_noise, asked_nothing}
 use Rattle.seq_arith.specs.TwinGrammar as twins
 use Rattle.seq_arith.specs.MessageGrammar as messages
 use Rattle.seq_arith.specs.Damage.{flipped}
-use Rattle.ft_model.specs.Wire.{CanBeTold}
+use Rattle.ft_model.specs.Wire.{CanBeToldBy}
 use Rattle.ft_model.proofs.Happened.{nothing_read, message_bit_changed}
 
 -- what goes between the loggers is true of them
@@ -423,7 +424,7 @@ parcel_flat : {State : Type 0} (service : Machine State) (first before after : T
     → Flattens service first after (delivered_flat before n (Some x) (moment_of (Usual (Deliver n)) sent after) f)
 parcel_flat service first before after n (Outside (To_logger m)) sent f at s t h =
     asks service first before before.pair.head_stopped before.pair.tail_stopped before.pair.head before.pair.tail before.pair.from_head before.pair.from_tail before.pair.answers before.pair.given
-    n (request_of m) sent after f s (named_at f.packets before.parcels f.numbers n (To_logger m) s.named at) h
+    n (request_of (grammar_of before.profile) m) sent after f s (named_at f.packets before.parcels f.numbers n (To_logger m) s.named at) h
 parcel_flat service first before after n (Outside (To_server segment)) sent f at s t h =
     comes service first before after n (To_server segment) sent f (λ w ps out u d. server_elsewhere service (Packet_comes segment) w ps out u d) at s h
 parcel_flat service first before after n (Outside (To_client segment)) sent f at s t h =
@@ -495,14 +496,14 @@ tail_noise_left service first w name f s =
 
 -- .. and a flip of a message to a logger that is alone stays, as noise
 noise_stays : {State : Type 0} (service : Machine State) (first w : TwinWorld) (now : Pair) (name : TwinEvent) (q bit : ℕ) (m : Message) (f : Flat) → Flattens service first w f
-    → packet_at f.packets q ≡ Some (To_logger m) → CanBeTold m → bit < 8 * length (messages.spelling m) → serving now ≡ serving w.pair → now.head.taken ≡ w.pair.head.taken → now.tail.applied ≡ w.pair.tail.applied → PairInvariant now
+    → packet_at f.packets q ≡ Some (To_logger m) → CanBeToldBy (grammar_of w.profile) m → bit < 8 * length (messages.spelling_by (grammar_of w.profile) m) → serving now ≡ serving w.pair → now.head.taken ≡ w.pair.head.taken → now.tail.applied ≡ w.pair.tail.applied → PairInvariant now
     → Flattens service first (with_pair w now []) (kept_as (Flip q bit) (moment_of name [] (with_pair w now [])) f)
 noise_stays service first w now name q bit m f s at wire within same taken applied stands =
     let before : World = seen w f.packets in
-    let nothing_comes : LogReads (messages.reading (flipped bit (messages.spelling m))) before [] (record before { packets = before.packets ++ [] }) =
-    nothing_read (messages.reading (flipped bit (messages.spelling m))) before (message_bit_changed bit m wire within) in
-    let comes_now : LogReads (messages.reading (flipped bit (messages.spelling m))) before [] (seen (with_pair w now []) (f.packets ++ [])) =
-    subst (λ l. LogReads (messages.reading (flipped bit (messages.spelling m))) before [] (record (seen w (f.packets ++ [])) { log = l })) (sym same) nothing_comes in
+    let nothing_comes : LogReads (messages.reading_by (grammar_of w.profile) (flipped bit (messages.spelling_by (grammar_of w.profile) m))) before [] (record before { packets = before.packets ++ [] }) =
+    nothing_read (messages.reading_by (grammar_of w.profile) (flipped bit (messages.spelling_by (grammar_of w.profile) m))) before (message_bit_changed (grammar_of w.profile) bit m wire within) in
+    let comes_now : LogReads (messages.reading_by (grammar_of w.profile) (flipped bit (messages.spelling_by (grammar_of w.profile) m))) before [] (seen (with_pair w now []) (f.packets ++ [])) =
+    subst (λ l. LogReads (messages.reading_by (grammar_of w.profile) (flipped bit (messages.spelling_by (grammar_of w.profile) m))) before [] (record (seen w (f.packets ++ [])) { log = l })) (sym same) nothing_comes in
     stay service first w (with_pair w now []) name (Flip q bit) [] f s
     (To_logger m, at, record { wire = wire; within = within; comes = comes_now }) stands refl taken
     (subst (AllByRecursion (IsTrueOf now)) (sym (append-nil w.parcels)) (old_parcels w.pair now w.parcels (λ b t. true_with w.pair now b taken applied t) s.parcels))
@@ -510,7 +511,7 @@ noise_stays service first w now name q bit m f s at wire within same taken appli
 flip_logger : {State : Type 0} (service : Machine State) (first before : TwinWorld) (hs ts : Bool) (head : Head) (tail : Tail) (fh ft : List Between) (answers : List Message) (given : List Request)
     → let p : Pair = pair_of hs ts head tail fh ft answers given in let w : TwinWorld = record before { pair = p } in
     (n bit : ℕ) (m : Message) (c : Comes) (sent : List Parcel) (after : TwinWorld) (f : Flat) → Flattens service first w f → packet_at f.packets (new_number f n) ≡ Some (To_logger m)
-    → CanBeTold m → bit < 8 * length (messages.spelling m) → c ≡ Is_noise → LoggerHas hs c w sent after
+    → CanBeToldBy (grammar_of before.profile) m → bit < 8 * length (messages.spelling_by (grammar_of before.profile) m) → c ≡ Is_noise → LoggerHas hs c w sent after
     → Flattens service first after (kept_alone w (Flip (new_number f n) bit) (moment_of (Usual (Flip n bit)) sent after) (left_out (moment_of (Usual (Flip n bit)) sent after) f) f)
 flip_logger service first before true true head tail fh ft answers given n bit m c sent after f s at wire within noise d = absurd (true≢false s.pair.one)
 flip_logger service first before true false head tail fh ft answers given n bit m c sent after f s at wire within noise d =
@@ -558,8 +559,8 @@ parcel_flipped : {State : Type 0} (service : Machine State) (first before after 
     → Flattens service first after (flipped_flat before n bit (Some x) (moment_of (Usual (Flip n bit)) sent after) f)
 parcel_flipped service first before after n bit (Outside (To_logger m)) sent f at s h =
     flip_logger service first before before.pair.head_stopped before.pair.tail_stopped before.pair.head before.pair.tail before.pair.from_head before.pair.from_tail before.pair.answers before.pair.given
-    n bit m (asked (flipped bit (messages.spelling m)) (messages.reading (flipped bit (messages.spelling m)))) sent after f s (named_at f.packets before.parcels f.numbers n (To_logger m) s.named at) h.0 h.1
-    (asked_nothing (flipped bit (messages.spelling m)) (messages.reading (flipped bit (messages.spelling m))) (message_bit_changed bit m h.0 h.1)) h.2
+    n bit m (asked (flipped bit (messages.spelling_by (grammar_of before.profile) m)) (messages.reading_by (grammar_of before.profile) (flipped bit (messages.spelling_by (grammar_of before.profile) m)))) sent after f s (named_at f.packets before.parcels f.numbers n (To_logger m) s.named at) h.0 h.1
+    (asked_nothing (flipped bit (messages.spelling_by (grammar_of before.profile) m)) (messages.reading_by (grammar_of before.profile) (flipped bit (messages.spelling_by (grammar_of before.profile) m))) (message_bit_changed (grammar_of before.profile) bit m h.0 h.1)) h.2
 parcel_flipped service first before after n bit (Outside (To_server segment)) sent f at s h =
     flips service first before after n bit (To_server segment) sent f (λ w ps out u d. flip_elsewhere_server service segment bit w ps out u d) at s h
 parcel_flipped service first before after n bit (Outside (To_client segment)) sent f at s h =
@@ -567,11 +568,11 @@ parcel_flipped service first before after n bit (Outside (To_client segment)) se
 parcel_flipped service first before after n bit (Outside (From_logger m)) sent f at s h =
     flips service first before after n bit (From_logger m) sent f (λ w ps out u d. flip_elsewhere_message service m bit w ps out u d) at s h
 parcel_flipped service first before after n bit (Inside (Forward k m)) sent f at s h =
-    tail_flip service first before after (Usual (Flip n bit)) (from_other_logger (twins.reading (flipped bit (bytes_of (Forward k m))))) sent f
-    (flipped_is_noise bit (bytes_of (Forward k m)) (datagram_of (Forward k m)) h.0 h.1) s h.2
+    tail_flip service first before after (Usual (Flip n bit)) (from_other_logger (grammar_of before.profile) (twins.reading_by (grammar_of before.profile) (flipped bit (bytes_of (Forward k m))))) sent f
+    (flipped_is_noise (grammar_of before.profile) bit (bytes_of (Forward k m)) (datagram_of (Forward k m)) h.0 h.1) s h.2
 parcel_flipped service first before after n bit (Inside (Got k)) sent f at s h =
-    head_flip service first before after (Usual (Flip n bit)) (from_other_logger (twins.reading (flipped bit (bytes_of (Got k))))) sent f
-    (flipped_is_noise bit (bytes_of (Got k)) (datagram_of (Got k)) h.0 h.1) s h.2
+    head_flip service first before after (Usual (Flip n bit)) (from_other_logger (grammar_of before.profile) (twins.reading_by (grammar_of before.profile) (flipped bit (bytes_of (Got k))))) sent f
+    (flipped_is_noise (grammar_of before.profile) bit (bytes_of (Got k)) (datagram_of (Got k)) h.0 h.1) s h.2
 
 true_parcel : (w : TwinWorld) (n : ℕ) (x : Parcel) → parcel_at w.parcels n ≡ Some x → AllByRecursion (IsTrueOf w.pair) w.parcels → IsTrueOf w.pair x
 true_parcel w zero x e a = absurd_none x e

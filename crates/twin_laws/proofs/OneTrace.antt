@@ -89,7 +89,7 @@ played : {State : Type 0} (service : ℕ → Machine State) (schedule : Schedule
 played service schedule trace fits l = (l.joint, l.allowed, subst (AllByRecursion FitsEvent) (sym l.events_are) fits.events)
 
 same_start : (schedule other : Schedule) → IsSameHeader schedule other → twin_start schedule ≡ twin_start other
-same_start schedule other h = λ i. twin_start (record { service = h.service i; server = h.server i; profile = h.profile i; twin = h.twin i; marks = h.marks i; clients = h.clients i; events = schedule.events })
+same_start schedule other h = λ i. twin_start (record { service = h.service i; server = h.server i; profile = h.profile i; twin = h.twin i; marks = h.marks i; lasting = h.lasting i; clients = h.clients i; events = schedule.events })
 
 pub legal_told : {State : Type 0} (service : ℕ → Machine State) (schedule other : Schedule) (trace also : List TwinMoment) → FitsSchedule schedule → FitsSchedule other
     → TwinLegal service schedule trace → TwinLegal service other also → twin_report schedule trace ≡ twin_report other also → (schedule ≡ other) × (trace ≡ also)

@@ -4,6 +4,7 @@ use Rattle.seq_arith.specs.Damage.{flipped}
 use Rattle.seq_arith.specs.TwinGrammar as twins
 use Rattle.server_trait.specs.Service.{Machine}
 use Rattle.std.proofs.lemmas.List.{append_cancel_left}
+use Rattle.tcp_rules.specs.Profile.{grammar_of}
 use Rattle.ft_model.specs.Legal.{IsScripted}
 use Rattle.ft_model.specs.Network.{Packet}
 use Rattle.ft_model.specs.Network.Packet.{To_server, To_client, To_logger, From_logger}
@@ -71,7 +72,7 @@ module _ {State : Type 0} (service : Machine State) where
       (quiet_event (record before { packets = packet ∷ [] }) (Flip 1 bit) qs (record x { packets = packet ∷ qs }) refl)
 
   parcel_once : (parcel : Parcel) (before w x : TwinWorld) (s t : List Parcel) → ParcelComes service parcel before s w → ParcelComes service parcel before t x → w ≡ x
-  parcel_once (Outside (To_logger message)) before w x s t p q = logger_once before.pair.head_stopped (Asks (request_of message)) before w x s t p q
+  parcel_once (Outside (To_logger message)) before w x s t p q = logger_once before.pair.head_stopped (Asks (request_of (grammar_of before.profile) message)) before w x s t p q
   parcel_once (Outside (To_server segment)) before w x s t p q =
       let alone : List Packet = To_server segment ∷ [] in
       elsewhere_once (λ v. Delivered service v (To_server segment)) alone before w x s t
@@ -107,8 +108,8 @@ module _ {State : Type 0} (service : Machine State) where
       elsewhere_once (λ v. Flipped service v (From_logger message) bit) alone before w x s t
       (λ ps qs a b c d. changed_once (From_logger message) bit (seen before []) (seen w ps) (seen x qs) ps qs
       (flip_elsewhere_message service message bit (seen before []) alone ps (seen w ps) c) (flip_elsewhere_message service message bit (seen before []) alone qs (seen x qs) d)) p q
-  flip_once (Inside (Forward number request)) bit before w x s t p q = tail_once (from_other_logger (twins.reading (flipped bit (bytes_of (Forward number request))))) before w x s t p.2 q.2
-  flip_once (Inside (Got number)) bit before w x s t p q = head_once (from_other_logger (twins.reading (flipped bit (bytes_of (Got number))))) before w x s t p.2 q.2
+  flip_once (Inside (Forward number request)) bit before w x s t p q = tail_once (from_other_logger (grammar_of before.profile) (twins.reading_by (grammar_of before.profile) (flipped bit (bytes_of (Forward number request))))) before w x s t p.2 q.2
+  flip_once (Inside (Got number)) bit before w x s t p q = head_once (from_other_logger (grammar_of before.profile) (twins.reading_by (grammar_of before.profile) (flipped bit (bytes_of (Got number))))) before w x s t p.2 q.2
 
   -- a script says what is sent outside
   scripted_as : (event : Event) (before w : TwinWorld) (s : List Parcel) (ps : List Packet) → s ≡ map Outside ps → IsScripted (seen before []) event (outside s) (seen w [])
@@ -165,7 +166,7 @@ module _ {State : Type 0} (service : Machine State) where
   logger_on false comes before w s p = ap (λ v. v.parcels) p.1
 
   parcel_on : (parcel : Parcel) (before w : TwinWorld) (s : List Parcel) → ParcelComes service parcel before s w → w.parcels ≡ before.parcels ++ s
-  parcel_on (Outside (To_logger message)) before w s p = logger_on before.pair.head_stopped (Asks (request_of message)) before w s p
+  parcel_on (Outside (To_logger message)) before w s p = logger_on before.pair.head_stopped (Asks (request_of (grammar_of before.profile) message)) before w s p
   parcel_on (Outside (To_server segment)) before w s p = p.4
   parcel_on (Outside (To_client segment)) before w s p = p.4
   parcel_on (Outside (From_logger message)) before w s p = p.4

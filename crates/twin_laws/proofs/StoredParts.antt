@@ -2,6 +2,7 @@
 use Rattle.std.proofs.Common.{◌≡◌, ℕ, ◌+◌, ◌-◌, ◌<◌, ◌≤◌, ◌==◌, ◌&&◌, Bool, true, false, refl, sym, ap, ◌∙◌, List, [], ◌∷◌, ◌++◌, map, length, drop, append-nil, arith, length-append, nat_lt, nat_le, if◌then◌else◌}
 use Rattle.std.proofs.lemmas.Bool.{and_parts, ltb-true}
 use Rattle.std.proofs.lemmas.List.{length-drop, length-map, drop-map, drop-drop, drop-append-le, map-append}
+use Rattle.seq_arith.specs.declared.kinds.Grammar.{Grammar}
 use Rattle.seq_arith.specs.Message.{is_answer}
 use Rattle.ft_model.specs.Log.{Log, log_after, answer_to}
 use Rattle.twin_laws.specs.declared.part.Part.TheVariants as parts
@@ -33,91 +34,91 @@ count_confirmed taken c few = omega (arith, count_waiting taken c, few)
 abbrev kept_does_with : Kept → List (Side × List ℕ) → KeptDoes
 kept_does_with next sent = record { next = next; sent = sent }
 
-all_sent : (h : Head) → h.confirmed ≤ length h.taken → sends_kept (kept_head h) ≡ in_bytes kept_head (sends_waiting h)
-all_sent h few =
-    ap (λ n. kept_does_with (kept_head h) (forwards_sent n (bytes_in (drop h.confirmed h.taken)))) (count_confirmed h.taken h.confirmed few)
-    ∙ ap (kept_does_with (kept_head h)) (forwards_are h.confirmed (drop h.confirmed h.taken))
+all_sent : (grammar : Grammar) (h : Head) → h.confirmed ≤ length h.taken → sends_kept (kept_head grammar h) ≡ in_bytes (kept_head grammar) (sends_waiting h)
+all_sent grammar h few =
+    ap (λ n. kept_does_with (kept_head grammar h) (forwards_sent n (bytes_in (drop h.confirmed h.taken)))) (count_confirmed h.taken h.confirmed few)
+    ∙ ap (kept_does_with (kept_head grammar h)) (forwards_are h.confirmed (drop h.confirmed h.taken))
 
-abbrev kept_with : Log → ℕ → List (List ℕ) → Bool → Kept
-kept_with log number waiting alone = record { part = parts.Head; alone = alone; log = log; number = number; waiting = waiting }
+abbrev kept_with : Grammar → Log → ℕ → List (List ℕ) → Bool → Kept
+kept_with grammar log number waiting alone = record { grammar = grammar; part = parts.Head; alone = alone; log = log; number = number; waiting = waiting }
 
-one_more : (r : Request) (h : Head) → h.confirmed ≤ length h.taken → keeps_too r (kept_head h) ≡ kept_head (with_taken r h)
-one_more r h few =
+one_more : (grammar : Grammar) (r : Request) (h : Head) → h.confirmed ≤ length h.taken → keeps_too r (kept_head grammar h) ≡ kept_head grammar (with_taken r h)
+one_more grammar r h few =
     let number : length h.taken + 1 ≡ length (h.taken ++ r ∷ []) = sym (length-append h.taken (r ∷ []))
     in let rest : bytes_in (drop h.confirmed h.taken) ++ r.bytes ∷ [] ≡ bytes_in (drop h.confirmed (h.taken ++ r ∷ [])) =
     sym (map-append (λ x. x.bytes) (drop h.confirmed h.taken) (r ∷ [])) ∙ ap bytes_in (sym (drop-append-le h.confirmed h.taken (r ∷ []) few))
-    in ap (λ n. kept_with (log_after h.log r.message) n (bytes_in (drop h.confirmed h.taken) ++ r.bytes ∷ []) h.alone) number
-    ∙ ap (λ w. kept_with (log_after h.log r.message) (length (h.taken ++ r ∷ [])) w h.alone) rest
+    in ap (λ n. kept_with grammar (log_after h.log r.message) n (bytes_in (drop h.confirmed h.taken) ++ r.bytes ∷ []) h.alone) number
+    ∙ ap (λ w. kept_with grammar (log_after h.log r.message) (length (h.taken ++ r ∷ [])) w h.alone) rest
 
-by_room : (room : Bool) (r : Request) (h : Head) → h.confirmed ≤ length h.taken
-    → sends_kept (if room then keeps_too r (kept_head h) else kept_head h) ≡ in_bytes kept_head (sends_waiting (if room then with_taken r h else h))
-by_room true r h few =
-    ap sends_kept (one_more r h few) ∙ all_sent (with_taken r h) (omega (arith, few, length-append h.taken (r ∷ [])))
-by_room false r h few = all_sent h few
+by_room : (grammar : Grammar) (room : Bool) (r : Request) (h : Head) → h.confirmed ≤ length h.taken
+    → sends_kept (if room then keeps_too r (kept_head grammar h) else kept_head grammar h) ≡ in_bytes (kept_head grammar) (sends_waiting (if room then with_taken r h else h))
+by_room grammar true r h few =
+    ap sends_kept (one_more grammar r h few) ∙ all_sent grammar (with_taken r h) (omega (arith, few, length-append h.taken (r ∷ [])))
+by_room grammar false r h few = all_sent grammar h few
 
-asks : (answer : Bool) (r : Request) (h : Head) → h.confirmed ≤ length h.taken
-    → (if answer then sends_nothing (kept_head h) else sends_kept (keeps_request r (kept_head h)))
-    ≡ in_bytes kept_head (if answer then nothing h else sends_waiting (head_takes r h))
-asks true r h few = refl
-asks false r h few =
-    ap (λ n. sends_kept (if may_take n (length h.taken) then keeps_too r (kept_head h) else kept_head h)) (count_waiting h.taken h.confirmed)
-    ∙ by_room (may_take (length h.taken - h.confirmed) (length h.taken)) r h few
+asks : (grammar : Grammar) (answer : Bool) (r : Request) (h : Head) → h.confirmed ≤ length h.taken
+    → (if answer then sends_nothing (kept_head grammar h) else sends_kept (keeps_request r (kept_head grammar h)))
+    ≡ in_bytes (kept_head grammar) (if answer then nothing h else sends_waiting (head_takes r h))
+asks grammar true r h few = refl
+asks grammar false r h few =
+    ap (λ n. sends_kept (if may_take n (length h.taken) then keeps_too r (kept_head grammar h) else kept_head grammar h)) (count_waiting h.taken h.confirmed)
+    ∙ by_room grammar (may_take (length h.taken - h.confirmed) (length h.taken)) r h few
 
-by_number : (number : ℕ) (b : Bool) (h : Head) → (nat_lt h.confirmed number && nat_le number (length h.taken)) ≡ b
-    → sends_nothing (if b then record (kept_head h) { waiting = drop (number - h.confirmed) (bytes_in (drop h.confirmed h.taken)) } else kept_head h)
-    ≡ in_bytes kept_head (nothing (if b then record h { confirmed = number } else h))
-by_number number false h e = refl
-by_number number true h e =
+by_number : (grammar : Grammar) (number : ℕ) (b : Bool) (h : Head) → (nat_lt h.confirmed number && nat_le number (length h.taken)) ≡ b
+    → sends_nothing (if b then record (kept_head grammar h) { waiting = drop (number - h.confirmed) (bytes_in (drop h.confirmed h.taken)) } else kept_head grammar h)
+    ≡ in_bytes (kept_head grammar) (nothing (if b then record h { confirmed = number } else h))
+by_number grammar number false h e = refl
+by_number grammar number true h e =
     let later : h.confirmed < number = ltb-true h.confirmed number (and_parts (nat_lt h.confirmed number) (nat_le number (length h.taken)) e).0
     in let same : h.confirmed + (number - h.confirmed) ≡ number = omega (arith, later)
-    in ap (λ w. sends_nothing (kept_with h.log (length h.taken) w h.alone))
+    in ap (λ w. sends_nothing (kept_with grammar h.log (length h.taken) w h.alone))
     (drop-map (λ r. r.bytes) (number - h.confirmed) (drop h.confirmed h.taken)
     ∙ ap bytes_in (drop-drop (number - h.confirmed) h.confirmed h.taken ∙ ap (λ n. drop n h.taken) same))
 
-gots : (number : ℕ) (h : Head) → h.confirmed ≤ length h.taken → sends_nothing (kept_confirmed number (kept_head h)) ≡ in_bytes kept_head (nothing (confirmed_to number h))
-gots number h few =
-    ap (λ c. sends_nothing (if nat_lt c number && nat_le number (length h.taken) then record (kept_head h) { waiting = drop (number - c) (bytes_in (drop h.confirmed h.taken)) } else kept_head h))
+gots : (grammar : Grammar) (number : ℕ) (h : Head) → h.confirmed ≤ length h.taken → sends_nothing (kept_confirmed number (kept_head grammar h)) ≡ in_bytes (kept_head grammar) (nothing (confirmed_to number h))
+gots grammar number h few =
+    ap (λ c. sends_nothing (if nat_lt c number && nat_le number (length h.taken) then record (kept_head grammar h) { waiting = drop (number - c) (bytes_in (drop h.confirmed h.taken)) } else kept_head grammar h))
     (count_confirmed h.taken h.confirmed few)
-    ∙ by_number number (nat_lt h.confirmed number && nat_le number (length h.taken)) h refl
+    ∙ by_number grammar number (nat_lt h.confirmed number && nat_le number (length h.taken)) h refl
 
-head_keeps : (comes : Comes) (alone : Bool) (log : Log) (taken : List Request) (c : ℕ) → c ≤ length taken
-    → does_of comes (kept_head (head_of alone log taken c)) ≡ in_bytes kept_head (head_does comes (head_of alone log taken c))
-head_keeps (Asks r) true log taken c few =
-    ap (kept_does_with (kept_head (head_of true (log_after log r.message) taken c))) (sym (append-nil (answers_sent (answer_to log r.message))))
-head_keeps (Asks r) false log taken c few = asks (is_answer r.message.body) r (head_of false log taken c) few
-head_keeps (Tells (Got number)) true log taken c few = refl
-head_keeps (Tells (Got number)) false log taken c few = gots number (head_of false log taken c) few
-head_keeps (Tells (Forward number r)) true log taken c few = refl
-head_keeps (Tells (Forward number r)) false log taken c few = refl
-head_keeps Is_noise true log taken c few = refl
-head_keeps Is_noise false log taken c few = refl
+head_keeps : (grammar : Grammar) (comes : Comes) (alone : Bool) (log : Log) (taken : List Request) (c : ℕ) → c ≤ length taken
+    → does_of comes (kept_head grammar (head_of alone log taken c)) ≡ in_bytes (kept_head grammar) (head_does comes (head_of alone log taken c))
+head_keeps grammar (Asks r) true log taken c few =
+    ap (kept_does_with (kept_head grammar (head_of true (log_after log r.message) taken c))) (sym (append-nil (answers_sent grammar (answer_to log r.message))))
+head_keeps grammar (Asks r) false log taken c few = asks grammar (is_answer r.message.body) r (head_of false log taken c) few
+head_keeps grammar (Tells (Got number)) true log taken c few = refl
+head_keeps grammar (Tells (Got number)) false log taken c few = gots grammar number (head_of false log taken c) few
+head_keeps grammar (Tells (Forward number r)) true log taken c few = refl
+head_keeps grammar (Tells (Forward number r)) false log taken c few = refl
+head_keeps grammar Is_noise true log taken c few = refl
+head_keeps grammar Is_noise false log taken c few = refl
 
 abbrev tail_of : Bool → Log → ℕ → Tail
 tail_of alone log applied = record { log = log; applied = applied; alone = alone }
 
-forwards_told : (next had : Bool) (r : Request) (log : Log) (n : ℕ) → let t : Tail = tail_of false log n in
-    (if next then applies_kept r.message (kept_tail t) else (if had then kept_does_with (kept_tail t) (sent_to_other (Got n ∷ [])) else sends_nothing (kept_tail t)))
-    ≡ in_bytes kept_tail (if next then applies_next r t else (if had then confirms_again t else nothing t))
-forwards_told true had r log n = refl
-forwards_told false true r log n = refl
-forwards_told false false r log n = refl
+forwards_told : (grammar : Grammar) (next had : Bool) (r : Request) (log : Log) (n : ℕ) → let t : Tail = tail_of false log n in
+    (if next then applies_kept r.message (kept_tail grammar t) else (if had then kept_does_with (kept_tail grammar t) (sent_to_other (Got n ∷ [])) else sends_nothing (kept_tail grammar t)))
+    ≡ in_bytes (kept_tail grammar) (if next then applies_next r t else (if had then confirms_again t else nothing t))
+forwards_told grammar true had r log n = refl
+forwards_told grammar false true r log n = refl
+forwards_told grammar false false r log n = refl
 
-tail_keeps : (comes : Comes) (alone : Bool) (log : Log) (n : ℕ)
-    → does_of comes (kept_tail (tail_of alone log n)) ≡ in_bytes kept_tail (tail_does comes (tail_of alone log n))
-tail_keeps (Asks r) true log n = ap (kept_does_with (kept_tail (tail_of true (log_after log r.message) n))) (sym (append-nil (answers_sent (answer_to log r.message))))
-tail_keeps (Asks r) false log n = refl
-tail_keeps (Tells (Got number)) true log n = refl
-tail_keeps (Tells (Got number)) false log n = refl
-tail_keeps (Tells (Forward number r)) true log n = refl
-tail_keeps (Tells (Forward number r)) false log n = forwards_told (number == n + 1) (nat_le number n) r log n
-tail_keeps Is_noise true log n = refl
-tail_keeps Is_noise false log n = refl
+tail_keeps : (grammar : Grammar) (comes : Comes) (alone : Bool) (log : Log) (n : ℕ)
+    → does_of comes (kept_tail grammar (tail_of alone log n)) ≡ in_bytes (kept_tail grammar) (tail_does comes (tail_of alone log n))
+tail_keeps grammar (Asks r) true log n = ap (kept_does_with (kept_tail grammar (tail_of true (log_after log r.message) n))) (sym (append-nil (answers_sent grammar (answer_to log r.message))))
+tail_keeps grammar (Asks r) false log n = refl
+tail_keeps grammar (Tells (Got number)) true log n = refl
+tail_keeps grammar (Tells (Got number)) false log n = refl
+tail_keeps grammar (Tells (Forward number r)) true log n = refl
+tail_keeps grammar (Tells (Forward number r)) false log n = forwards_told grammar (number == n + 1) (nat_le number n) r log n
+tail_keeps grammar Is_noise true log n = refl
+tail_keeps grammar Is_noise false log n = refl
 
-pub head_does_so : (side : Side) (bytes : List ℕ) (h : Head) → h.confirmed ≤ length h.taken
-    → kept_does side bytes (kept_head h) ≡ in_bytes kept_head (head_does (comes_from side bytes) h)
+pub head_does_so : (grammar : Grammar) (side : Side) (bytes : List ℕ) (h : Head) → h.confirmed ≤ length h.taken
+    → kept_does side bytes (kept_head grammar h) ≡ in_bytes (kept_head grammar) (head_does (comes_from grammar side bytes) h)
 unfolding kept_does
-head_does_so side bytes h few = head_keeps (comes_from side bytes) h.alone h.log h.taken h.confirmed few
+head_does_so grammar side bytes h few = head_keeps grammar (comes_from grammar side bytes) h.alone h.log h.taken h.confirmed few
 
-pub tail_does_so : (side : Side) (bytes : List ℕ) (t : Tail) → kept_does side bytes (kept_tail t) ≡ in_bytes kept_tail (tail_does (comes_from side bytes) t)
+pub tail_does_so : (grammar : Grammar) (side : Side) (bytes : List ℕ) (t : Tail) → kept_does side bytes (kept_tail grammar t) ≡ in_bytes (kept_tail grammar) (tail_does (comes_from grammar side bytes) t)
 unfolding kept_does
-tail_does_so side bytes t = tail_keeps (comes_from side bytes) t.alone t.log t.applied
+tail_does_so grammar side bytes t = tail_keeps grammar (comes_from grammar side bytes) t.alone t.log t.applied

@@ -1,6 +1,7 @@
 -- The worked run is joint, and flat it is the boot and the delivery of its Hello.
 use Rattle.std.proofs.Common.{◌≡◌, refl, arith, [], ◌∷◌}
 use Rattle.server_trait.specs.Service.{Machine}
+use Rattle.seq_arith.specs.declared.kinds.Grammar.TheVariants as grammars
 use Rattle.ft_model.specs.Log.{log_after, answer_to}
 use Rattle.ft_model.specs.Network.Packet.{To_logger}
 use Rattle.ft_model.specs.declared.event.Event.TheVariants.{Boot, Deliver}
@@ -26,7 +27,7 @@ takes service = (Outside (To_logger hello), refl, (refl, refl))
 
 applies : {State : Type 0} (service : Machine State) → TwinHappens service taken_world (Usual (Deliver 2)) third_sent applied_world
 unfolding answer_to log_after
-applies service = (Inside (Forward 1 (request_of hello)), refl, (refl, refl))
+applies service = (Inside (Forward 1 (request_of grammars.Plain hello)), refl, (refl, refl))
 
 pub joint : {State : Type 0} (service : Machine State) → TwinJoint service at_first worked
 joint service = (((starts, boots service), takes service), applies service)

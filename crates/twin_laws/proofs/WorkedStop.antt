@@ -17,7 +17,7 @@ use Rattle.ft_model.specs.WorkedRuns.FirstPath as path
 use Rattle.ft_model.specs.declared.event.Event.TheVariants as events
 use Rattle.ft_model.proofs.AllowedMoments.{starts_with_hello}
 use Rattle.ft_model.proofs.AskedMoves.{quiet_event, scripted}
-use Rattle.ft_model.proofs.FirstPath.{turn_3, turn_5, turn_7}
+use Rattle.ft_model.proofs.FirstPath.{quiet, turn_3, turn_5, turn_7}
 use Rattle.ft_model.proofs.Lists.{some_is}
 use Rattle.ft_model.proofs.Turns.{laws, alone, segment_in}
 use Rattle.twin_laws.specs.declared.part.Part.{Part}
@@ -38,27 +38,27 @@ Happens service before moment = TwinHappens service before moment.event moment.s
 starts : IsTwinStart (twin_start run.schedule)
 starts = record { start = starts_with_hello; pair = refl; parcels = refl }
 
-happens_1 : {State : Type 0} (service : Machine State) → Happens service (twin_start run.schedule) run.moment_1
+happens_1 : {State : Type 0} (service : Machine State) → Happens (quiet service) (twin_start run.schedule) run.moment_1
 unfolding laws IsLe
 happens_1 service = (path.packet_1 ∷ [], refl, (refl, (le_by_compare 1 1 tt, le_by_compare 2 (2 ^ 64) tt), refl, refl), refl, refl)
 
-happens_2 : {State : Type 0} (service : Machine State) → Happens service run.moment_1.world run.moment_2
+happens_2 : {State : Type 0} (service : Machine State) → Happens (quiet service) run.moment_1.world run.moment_2
 unfolding laws
 happens_2 service = (Outside path.packet_1, refl, (refl, refl))
 
-happens_3 : {State : Type 0} (service : Machine State) → Happens service run.moment_2.world run.moment_3
+happens_3 : {State : Type 0} (service : Machine State) → Happens (quiet service) run.moment_2.world run.moment_3
 unfolding laws
 happens_3 service = (Inside (Forward 1 run.hello), refl, (refl, refl))
 
-happens_4 : {State : Type 0} (service : Machine State) → Happens service run.moment_3.world run.moment_4
+happens_4 : {State : Type 0} (service : Machine State) → Happens (quiet service) run.moment_3.world run.moment_4
 unfolding laws
 happens_4 service = (Outside path.packet_2, refl, ([], refl, ((path.node_at (Serving 0 []), refl, turn_3 service), refl), refl, refl))
 
-happens_5 : {State : Type 0} (service : Machine State) → Happens service run.moment_4.world run.moment_5
+happens_5 : {State : Type 0} (service : Machine State) → Happens (quiet service) run.moment_4.world run.moment_5
 unfolding laws
 happens_5 service = (Inside (Got 1), refl, (refl, refl))
 
-happens_6 : {State : Type 0} (service : Machine State) → Happens service run.moment_5.world run.moment_6
+happens_6 : {State : Type 0} (service : Machine State) → Happens (quiet service) run.moment_5.world run.moment_6
 unfolding laws
 happens_6 service = (
   path.packet_3 ∷ [],
@@ -68,20 +68,20 @@ happens_6 service = (
   refl,
 )
 
-happens_7 : {State : Type 0} (service : Machine State) → Happens service run.moment_6.world run.moment_7
+happens_7 : {State : Type 0} (service : Machine State) → Happens (quiet service) run.moment_6.world run.moment_7
 unfolding laws
 happens_7 service = (Outside path.packet_3, refl, (path.packet_4 ∷ [], refl, ((path.node_at (Serving 1 (Opens numbers ∷ [])), refl, turn_5 service), refl), refl, refl))
 
-happens_8 : {State : Type 0} (service : Machine State) → Happens service run.moment_7.world run.moment_8
+happens_8 : {State : Type 0} (service : Machine State) → Happens (quiet service) run.moment_7.world run.moment_8
 unfolding laws
 happens_8 service = (Outside path.packet_4, refl, (refl, refl))
 
-happens_9 : {State : Type 0} (service : Machine State) → Happens service run.moment_8.world run.moment_9
+happens_9 : {State : Type 0} (service : Machine State) → Happens (quiet service) run.moment_8.world run.moment_9
 unfolding laws
 happens_9 service = (refl, refl, refl, refl)
 
 -- the server asks again
-ticks : {State : Type 0} (service : Machine State) → LawfulTurn service (path.node_at (Serving 1 (Opens numbers ∷ []))) Tick_comes (path.packet_4 ∷ []) (path.node_at (Serving 1 (Opens numbers ∷ [])))
+ticks : {State : Type 0} (service : Machine State) → LawfulTurn (quiet service) (path.node_at (Serving 1 (Opens numbers ∷ []))) Tick_comes (path.packet_4 ∷ []) (path.node_at (Serving 1 (Opens numbers ∷ [])))
 unfolding laws
 ticks service = record {
   server = refl;
@@ -95,26 +95,26 @@ ticks service = record {
     record {
       went = Opens numbers ∷ [];
       by_places = [];
-      all_go = alone (PlaceTurn service (path.node_at (Serving 1 (Opens numbers ∷ []))) Tick_comes) (Opens numbers) (Opens numbers ∷ []) [] (refl, refl);
+      all_go = alone (PlaceTurn (quiet service) (path.node_at (Serving 1 (Opens numbers ∷ []))) Tick_comes) (Opens numbers) (Opens numbers ∷ []) [] (refl, refl);
       places = refl;
       packets = refl;
     },
   );
 }
 
-happens_10 : {State : Type 0} (service : Machine State) → Happens service run.moment_9.world run.moment_10
+happens_10 : {State : Type 0} (service : Machine State) → Happens (quiet service) run.moment_9.world run.moment_10
 unfolding laws
 happens_10 service = (path.packet_4 ∷ [], refl, (refl, ((path.node_at (Serving 1 (Opens numbers ∷ [])), refl, ticks service), refl)), refl, refl)
 
-happens_11 : {State : Type 0} (service : Machine State) → Happens service run.moment_10.world run.moment_11
+happens_11 : {State : Type 0} (service : Machine State) → Happens (quiet service) run.moment_10.world run.moment_11
 unfolding laws
 happens_11 service = (Outside path.packet_4, refl, (refl, refl))
 
-happens_12 : {State : Type 0} (service : Machine State) → Happens service run.moment_11.world run.moment_12
+happens_12 : {State : Type 0} (service : Machine State) → Happens (quiet service) run.moment_11.world run.moment_12
 unfolding laws
 happens_12 service = (Outside path.packet_5, refl, (path.packet_6 ∷ [], refl, ((path.node_live path.begun_point, refl, turn_7 service), refl), refl, refl))
 
-joint : {State : Type 0} (service : Machine State) → TwinJoint service (twin_start run.schedule) run.trace
+joint : {State : Type 0} (service : Machine State) → TwinJoint (quiet service) (twin_start run.schedule) run.trace
 joint service =
     ((((((((((((starts, happens_1 service), happens_2 service), happens_3 service), happens_4 service), happens_5 service), happens_6 service), happens_7 service), happens_8 service), happens_9 service), happens_10 service), happens_11 service), happens_12 service)
 
@@ -129,7 +129,7 @@ allowed : AllTwinAllowed (twin_start run.schedule) run.trace
 allowed =
     ((((((((((((tt, still (twin_start run.schedule) run.moment_1 refl refl), still run.moment_1.world run.moment_2 refl refl), still run.moment_2.world run.moment_3 refl refl), still run.moment_3.world run.moment_4 refl refl), still run.moment_4.world run.moment_5 refl refl), begins), still run.moment_6.world run.moment_7 refl refl), still run.moment_7.world run.moment_8 refl refl), still run.moment_8.world run.moment_9 refl refl), still run.moment_9.world run.moment_10 refl refl), still run.moment_10.world run.moment_11 refl refl), still run.moment_11.world run.moment_12 refl refl)
 
-pub is_legal : {State : Type 0} (service : ℕ → Machine State) → TwinLegal service run.schedule run.trace
+pub is_legal : {State : Type 0} (service : ℕ → Machine State) → TwinLegal (λ kind. quiet (service kind)) run.schedule run.trace
 is_legal service = record { joint = joint (service (kind_of run.schedule.service)); events_are = refl; allowed = allowed }
 
 -- the flat trace

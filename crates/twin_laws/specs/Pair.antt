@@ -47,13 +47,23 @@ abbrev pub head_has : Comes → Pair → Pair
 head_has comes p =
     if p.head_stopped then p
     else (let d = head_does comes p.head in
-    record p { head = d.next; from_head = p.from_head ++ d.to_other; answers = p.answers ++ d.to_server; given = if p.tail_stopped then p.given ++ asked_in comes else p.given })
+    record p {
+      head = d.next;
+      from_head = p.from_head ++ d.to_other;
+      answers = p.answers ++ d.to_server;
+      given = if p.tail_stopped then p.given ++ asked_in comes else p.given;
+    })
 
 abbrev pub tail_has : Comes → Pair → Pair
 tail_has comes p =
     if p.tail_stopped then p
     else (let d = tail_does comes p.tail in
-    record p { tail = d.next; from_tail = p.from_tail ++ d.to_other; answers = p.answers ++ d.to_server; given = if p.head_stopped then p.given ++ asked_in comes else p.given })
+    record p {
+      tail = d.next;
+      from_tail = p.from_tail ++ d.to_other;
+      answers = p.answers ++ d.to_server;
+      given = if p.head_stopped then p.given ++ asked_in comes else p.given;
+    })
 
 -- one of them stops, and the other learns that it serves alone
 abbrev pub stopped_by : Part → Pair → Pair

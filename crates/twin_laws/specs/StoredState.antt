@@ -2,6 +2,7 @@
 -- and the bytes of the unconfirmed ones. A tail stores how many it applied.
 use Rattle.std.specs.Prelude.{ℕ, Bool, true, false, ◌+◌, ◌-◌, ◌==◌, ◌&&◌, nat_lt, nat_le, map, Option, List, [], ◌∷◌, ◌++◌, length, drop, if◌then◌else◌}
 use Rattle.std.specs.Option.{option_to_list}
+use Rattle.seq_arith.specs.declared.kinds.Grammar.{Grammar}
 use Rattle.seq_arith.specs.Message.{Message, is_answer}
 use Rattle.seq_arith.specs.MessageGrammar as messages
 use Rattle.seq_arith.specs.TwinDatagram.{TwinDatagram as datagrams}
@@ -16,31 +17,39 @@ use Rattle.twin_laws.specs.Twin.Between.{Forward, Got}
 use Rattle.twin_laws.specs.Twin.Comes.{Asks, Tells}
 
 pub record Kept : Type 0 where
+  pub grammar : Grammar  -- of the server's messages and the answers. It never changes
   pub part : Part
   pub alone : Bool
   pub log : Log
   pub number : ℕ  -- a head: how many requests it took; a tail: how many it applied
   pub waiting : List (List ℕ)  -- a head's unconfirmed requests, in order; none for a tail
 
-abbrev pub new_kept : Part → Kept
-new_kept part = record { part = part; alone = false; log = empty_log; number = 0; waiting = [] }
+abbrev pub new_kept : Grammar → Part → Kept
+new_kept grammar part = record { grammar = grammar; part = part; alone = false; log = empty_log; number = 0; waiting = [] }
 
 -- it serves alone from now on
 abbrev pub left_alone : Kept → Kept
 left_alone kept = record kept { alone = true }
 
 -- what is stored of a head, and of a tail
-abbrev pub kept_head : Head → Kept
-kept_head head =
-    record { part = parts.Head; alone = head.alone; log = head.log; number = length head.taken; waiting = map (λ r. r.bytes) (drop head.confirmed head.taken) }
+abbrev pub kept_head : Grammar → Head → Kept
+kept_head grammar head =
+    record {
+      grammar = grammar;
+      part = parts.Head;
+      alone = head.alone;
+      log = head.log;
+      number = length head.taken;
+      waiting = map (λ r. r.bytes) (drop head.confirmed head.taken);
+    }
 
-abbrev pub kept_tail : Tail → Kept
-kept_tail tail = record { part = parts.Tail; alone = tail.alone; log = tail.log; number = tail.applied; waiting = [] }
+abbrev pub kept_tail : Grammar → Tail → Kept
+kept_tail grammar tail = record { grammar = grammar; part = parts.Tail; alone = tail.alone; log = tail.log; number = tail.applied; waiting = [] }
 
 -- what arrives as bytes from a side
-abbrev pub comes_from : Side → List ℕ → Comes
-comes_from sides.Server bytes = asked bytes (messages.reading bytes)
-comes_from sides.Other bytes = from_other_logger (twins.reading bytes)
+abbrev pub comes_from : Grammar → Side → List ℕ → Comes
+comes_from grammar sides.Server bytes = asked bytes (messages.reading_by grammar bytes)
+comes_from grammar sides.Other bytes = from_other_logger grammar (twins.reading_by grammar bytes)
 
 -- the next state, and the datagrams that are sent, in order, each with its addressee
 pub record KeptDoes : Type 0 where
@@ -50,15 +59,15 @@ pub record KeptDoes : Type 0 where
 abbrev pub sends_nothing : Kept → KeptDoes
 sends_nothing kept = record { next = kept; sent = [] }
 
-abbrev pub answers_sent : Option Message → List (Side × List ℕ)
-answers_sent answer = map (λ m. (sides.Server, messages.spelling m)) (option_to_list answer)
+abbrev pub answers_sent : Grammar → Option Message → List (Side × List ℕ)
+answers_sent grammar answer = map (λ m. (sides.Server, messages.spelling_by grammar m)) (option_to_list answer)
 
 abbrev pub sent_to_other : List Between → List (Side × List ℕ)
 sent_to_other betweens = map (λ b. (sides.Other, bytes_of b)) betweens
 
 -- the log takes a message, and its answer is sent
 abbrev pub serves_alone : Message → Kept → KeptDoes
-serves_alone message kept = record { next = record kept { log = log_after kept.log message }; sent = answers_sent (answer_to kept.log message) }
+serves_alone message kept = record { next = record kept { log = log_after kept.log message }; sent = answers_sent kept.grammar (answer_to kept.log message) }
 
 -- Forwards of these messages, the first with the number after `n`
 abbrev pub forwards_sent : ℕ → List (List ℕ) → List (Side × List ℕ)
@@ -93,7 +102,7 @@ kept_confirmed number kept =
 abbrev pub applies_kept : Message → Kept → KeptDoes
 applies_kept message kept = record {
   next = record kept { log = log_after kept.log message; number = kept.number + 1 };
-  sent = answers_sent (answer_to kept.log message) ++ sent_to_other (Got (kept.number + 1) ∷ []);
+  sent = answers_sent kept.grammar (answer_to kept.log message) ++ sent_to_other (Got (kept.number + 1) ∷ []);
 }
 
 abbrev pub kept_tail_told : ℕ → Message → Kept → KeptDoes
@@ -123,8 +132,9 @@ abbrev pub does_of : Comes → Kept → KeptDoes
 does_of comes kept = if kept.alone then kept_alone_does comes kept else paired_does kept.part comes kept
 
 unfoldable pub kept_does : Side → List ℕ → Kept → KeptDoes
-kept_does side bytes kept = does_of (comes_from side bytes) kept
+kept_does side bytes kept = does_of (comes_from kept.grammar side bytes) kept
 
 -- what a logger does by its definition, in the same terms
 abbrev pub in_bytes : {State : Type 0} → (State → Kept) → Does State → KeptDoes
-in_bytes keep d = record { next = keep d.next; sent = map (λ m. (sides.Server, messages.spelling m)) d.to_server ++ sent_to_other d.to_other }
+in_bytes keep d =
+    record { next = keep d.next; sent = map (λ m. (sides.Server, messages.spelling_by (keep d.next).grammar m)) d.to_server ++ sent_to_other d.to_other }

@@ -2,6 +2,7 @@
 -- forwards them. The tail applies them in that order and answers. One of them may stop, and the other then serves alone.
 use Rattle.std.specs.Prelude.{ℕ, Bool, false, ◌+◌, ◌-◌, ◌^◌, ◌==◌, ◌&&◌, nat_lt, nat_le, Result, Ok, Err, List, [], ◌∷◌, ◌++◌, length, drop, if◌then◌else◌}
 use Rattle.std.specs.Option.{option_to_list}
+use Rattle.seq_arith.specs.declared.kinds.Grammar.{Grammar}
 use Rattle.seq_arith.specs.declared.kinds.BadMsg.{BadMsg}
 use Rattle.seq_arith.specs.declared.twin.BadTwin.{BadTwin}
 use Rattle.seq_arith.specs.Message.{Message, is_answer}
@@ -132,10 +133,10 @@ abbrev pub forwarded_as : ℕ → Comes → Comes
 forwarded_as number (Asks request) = Tells (Forward number request)
 forwarded_as number _ = Is_noise
 
-abbrev pub from_other_logger : Result TwinDatagram BadTwin → Comes
-from_other_logger (Ok (datagrams.Forward number bytes)) = forwarded_as number (asked bytes (messages.reading bytes))
-from_other_logger (Ok (datagrams.Got number)) = Tells (Got number)
-from_other_logger _ = Is_noise
+abbrev pub from_other_logger : Grammar → Result TwinDatagram BadTwin → Comes
+from_other_logger grammar (Ok (datagrams.Forward number bytes)) = forwarded_as number (asked bytes (messages.reading_by grammar bytes))
+from_other_logger grammar (Ok (datagrams.Got number)) = Tells (Got number)
+from_other_logger grammar _ = Is_noise
 
 -- the datagram that is sent, and its bytes. A forwarded message has the bytes in which it arrived
 abbrev pub datagram_of : Between → TwinDatagram

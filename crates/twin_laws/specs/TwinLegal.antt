@@ -1,11 +1,13 @@
 -- A legal trace of a schedule with two loggers. It is like one with a single log, except that one of the two may stop, once, and that the datagrams between
 -- them count among the packets.
 use Rattle.std.specs.Prelude.{◌≡◌, ℕ, ◌*◌, ◌==◌, ◌&&◌, ◌||◌, not, Bool, length, nat_le, Option, Some, None, is_some, List, [], ◌∷◌, ◌++◌, if◌then◌else◌}
+use Rattle.seq_arith.specs.declared.kinds.Grammar.{Grammar}
+use Rattle.tcp_rules.specs.Profile.{grammar_of}
 use Rattle.tcp_rules.specs.Profiles.{profile_of}
 use Rattle.server_trait.specs.Service.{Machine}
 use Rattle.ft_model.specs.Legal.{refusal, IsScripted}
 use Rattle.ft_model.specs.Schedule.{kind_of, clients_of}
-use Rattle.ft_model.specs.Wire.{wire_of}
+use Rattle.ft_model.specs.Wire.{wire_by}
 use Rattle.ft_model.specs.declared.event.Event.{Event}
 use Rattle.ft_model.specs.declared.event.Event.TheVariants as events
 use Rattle.ft_model.specs.declared.event.EventWhy.{EventWhy}
@@ -48,14 +50,14 @@ abbrev pub twin_events_of : List TwinMoment → List Event
 twin_events_of [] = []
 twin_events_of (moment ∷ earlier) = twin_events_of earlier ++ event_of moment.event ∷ []
 
-abbrev pub bytes_of_parcel : Parcel → List ℕ
-bytes_of_parcel (Outside packet) = (wire_of packet).bytes
-bytes_of_parcel (Inside between) = bytes_of between
+abbrev pub bytes_of_parcel : Grammar → Parcel → List ℕ
+bytes_of_parcel grammar (Outside packet) = (wire_by grammar packet).bytes
+bytes_of_parcel grammar (Inside between) = bytes_of between
 
 -- why a bit of a packet can't be changed: the packet doesn't exist, or has no such bit
-abbrev pub refusal_of_twin_flip : Option Parcel → ℕ → Option EventWhy
-refusal_of_twin_flip None bit = Some why.Packet
-refusal_of_twin_flip (Some parcel) bit = if nat_le (8 * length (bytes_of_parcel parcel)) bit then Some why.Bit else None
+abbrev pub refusal_of_twin_flip : Grammar → Option Parcel → ℕ → Option EventWhy
+refusal_of_twin_flip grammar None bit = Some why.Packet
+refusal_of_twin_flip grammar (Some parcel) bit = if nat_le (8 * length (bytes_of_parcel grammar parcel)) bit then Some why.Bit else None
 
 -- there is a logger with this number, and both still run
 abbrev pub may_stop : Pair → ℕ → Bool
@@ -64,7 +66,7 @@ may_stop pair part = (part == 1 || part == 2) && not (pair.head_stopped || pair.
 -- Why an event may not happen: the first test that holds. An event that names no packet and stops no logger is tested as with a single log
 abbrev pub twin_refusal : TwinWorld → Event → Option EventWhy
 twin_refusal w (events.Deliver number) = if is_some (parcel_at w.parcels number) then None else Some why.Packet
-twin_refusal w (events.Flip number bit) = refusal_of_twin_flip (parcel_at w.parcels number) bit
+twin_refusal w (events.Flip number bit) = refusal_of_twin_flip (grammar_of w.profile) (parcel_at w.parcels number) bit
 twin_refusal w (events.Stop part) = if may_stop w.pair part then None else Some why.Stop
 twin_refusal w (events.Boot boot isn) = refusal (seen w []) (events.Boot boot isn)
 twin_refusal w events.Crash = refusal (seen w []) events.Crash

@@ -1,8 +1,10 @@
 -- The world with two loggers: clients, network and server as in the world with one, and a head and a tail in place of its log. Each event that isn't a
 -- logger's turn happens as in that world.
-use Rattle.std.specs.Prelude.{◌≡◌, ℕ, zero, suc, ◌<◌, ◌*◌, Bool, true, false, length, map, Ok, Option, Some, None, List, [], ◌∷◌, ◌++◌, slice_get, if◌then◌else◌}
+use Rattle.std.specs.Prelude.{◌≡◌, ℕ, zero, suc, ◌<◌, ◌*◌, Bool, true, false, length, map, Ok, Option, Some, None, List, [], ◌∷◌, ◌++◌, slice_get}
+use Rattle.std.specs.Prelude.{if◌then◌else◌}
 use Rattle.ft_io.specs.declared.Addr.{Addr}
-use Rattle.tcp_rules.specs.Profile.{Profile}
+use Rattle.seq_arith.specs.declared.kinds.Grammar.{Grammar}
+use Rattle.tcp_rules.specs.Profile.{Profile, grammar_of}
 use Rattle.seq_arith.specs.Damage.{flipped}
 use Rattle.seq_arith.specs.Message.{Message}
 use Rattle.seq_arith.specs.MessageGrammar as messages
@@ -13,7 +15,7 @@ use Rattle.ft_model.specs.Log.{Log}
 use Rattle.ft_model.specs.Network.{Packet}
 use Rattle.ft_model.specs.Network.Packet.{To_logger, From_logger}
 use Rattle.ft_model.specs.Node.{Node}
-use Rattle.ft_model.specs.Wire.{CanBeTold}
+use Rattle.ft_model.specs.Wire.{CanBeToldBy}
 use Rattle.ft_model.specs.World.{World, Delivered, Flipped, Happens, IsStart}
 use Rattle.ft_model.specs.declared.event.Event.{Event}
 use Rattle.ft_model.specs.declared.event.Event.TheVariants.{Deliver, Flip}
@@ -80,32 +82,35 @@ abbrev pub LoggerHas : Bool → Comes → TwinWorld → List Parcel → TwinWorl
 LoggerHas true comes before sent after = TailHas comes before sent after
 LoggerHas false comes before sent after = HeadHas comes before sent after
 
--- a message of the server arrives in its spelling
-abbrev pub request_of : Message → Request
-request_of message = record { bytes = messages.spelling message; message = message }
+-- a message of the server arrives in its spelling, in the profile's grammar
+abbrev pub request_of : Grammar → Message → Request
+request_of grammar message = record { bytes = messages.spelling_by grammar message; message = message }
 
 -- a parcel reaches its addressee
 abbrev pub ParcelComes : {State : Type 0} → Machine State → Parcel → TwinWorld → List Parcel → TwinWorld → Type 0
-ParcelComes service (Outside (To_logger message)) before sent after = LoggerHas before.pair.head_stopped (Asks (request_of message)) before sent after
+ParcelComes service (Outside (To_logger message)) before sent after =
+    LoggerHas before.pair.head_stopped (Asks (request_of (grammar_of before.profile) message)) before sent after
 ParcelComes service (Outside packet) before sent after = Elsewhere (λ w. Delivered service w packet) before sent after
 ParcelComes service (Inside (Forward number request)) before sent after = TailHas (Tells (Forward number request)) before sent after
 ParcelComes service (Inside (Got number)) before sent after = HeadHas (Tells (Got number)) before sent after
 
 -- a datagram between the loggers can be read back as it was sent
-abbrev pub CanBeSent : Between → Type 0
-CanBeSent between = twins.reading (bytes_of between) ≡ Ok (datagram_of between)
+abbrev pub CanBeSent : Grammar → Between → Type 0
+CanBeSent grammar between = twins.reading_by grammar (bytes_of between) ≡ Ok (datagram_of between)
 
 -- a datagram between the loggers arrives with one of its bits changed
 abbrev pub ChangedFor : Between → ℕ → (Comes → TwinWorld → List Parcel → TwinWorld → Type 0) → TwinWorld → List Parcel → TwinWorld → Type 0
 ChangedFor between bit Has before sent after =
-    CanBeSent between × (bit < 8 * length (bytes_of between)) × Has (from_other_logger (twins.reading (flipped bit (bytes_of between)))) before sent after
+    CanBeSent (grammar_of before.profile) between × (bit < 8 * length (bytes_of between))
+    × Has (from_other_logger (grammar_of before.profile) (twins.reading_by (grammar_of before.profile) (flipped bit (bytes_of between)))) before sent after
 
 -- a parcel reaches its addressee with one bit changed
 abbrev pub ParcelFlipped : {State : Type 0} → Machine State → Parcel → ℕ → TwinWorld → List Parcel → TwinWorld → Type 0
 ParcelFlipped service (Outside (To_logger message)) bit before sent after =
-    CanBeTold message × (bit < 8 * length (messages.spelling message))
+    CanBeToldBy (grammar_of before.profile) message × (bit < 8 * length (messages.spelling_by (grammar_of before.profile) message))
     × LoggerHas before.pair.head_stopped
-    (asked (flipped bit (messages.spelling message)) (messages.reading (flipped bit (messages.spelling message)))) before sent after
+    (asked (flipped bit (messages.spelling_by (grammar_of before.profile) message))
+    (messages.reading_by (grammar_of before.profile) (flipped bit (messages.spelling_by (grammar_of before.profile) message)))) before sent after
 ParcelFlipped service (Outside packet) bit before sent after = Elsewhere (λ w. Flipped service w packet bit) before sent after
 ParcelFlipped service (Inside (Forward number request)) bit before sent after = ChangedFor (Forward number request) bit TailHas before sent after
 ParcelFlipped service (Inside (Got number)) bit before sent after = ChangedFor (Got number) bit HeadHas before sent after
@@ -138,4 +143,5 @@ pub record IsTwinStart (w : TwinWorld) : Type 0 where
 -- a joint trace with two loggers, newest moment first
 abbrev pub TwinJoint : {State : Type 0} → Machine State → TwinWorld → List TwinMoment → Type 0
 TwinJoint service start [] = IsTwinStart start
-TwinJoint service start (moment ∷ earlier) = TwinJoint service start earlier × TwinHappens service (twin_after start earlier) moment.event moment.sent moment.world
+TwinJoint service start (moment ∷ earlier) = TwinJoint service start earlier
+    × TwinHappens service (twin_after start earlier) moment.event moment.sent moment.world

@@ -2,6 +2,7 @@
 use Rattle.std.specs.Prelude.{Some, None, List, [], ◌∷◌, ◌++◌, map}
 use Rattle.ft_io.specs.declared.Addr.{Addr}
 use Rattle.tcp_rules.specs.Profile.{plain}
+use Rattle.seq_arith.specs.declared.kinds.Grammar.TheVariants as grammars
 use Rattle.seq_arith.specs.Message.{Message}
 use Rattle.seq_arith.specs.Message.Body.{HelloMsg, SummaryMsg}
 use Rattle.ft_model.specs.Network.Packet.{To_logger, From_logger}
@@ -38,10 +39,10 @@ booted_world = record at_first { boot = 1; node = Some (booted server plain 1 50
 
 -- the head takes the Hello and forwards it
 abbrev pub second_sent : List Parcel
-second_sent = Inside (Forward 1 (request_of hello)) ∷ []
+second_sent = Inside (Forward 1 (request_of grammars.Plain hello)) ∷ []
 
 abbrev pub taken_pair : Pair
-taken_pair = head_has (Asks (request_of hello)) new_pair
+taken_pair = head_has (Asks (request_of grammars.Plain hello)) new_pair
 
 abbrev pub taken_world : TwinWorld
 taken_world = record booted_world { pair = taken_pair; parcels = first_sent ++ second_sent }
@@ -52,7 +53,7 @@ third_sent = Outside (From_logger summary) ∷ Inside (Got 1) ∷ []
 
 abbrev pub applied_world : TwinWorld
 applied_world =
-    record taken_world { pair = tail_has (Tells (Forward 1 (request_of hello))) taken_pair; parcels = (first_sent ++ second_sent) ++ third_sent }
+    record taken_world { pair = tail_has (Tells (Forward 1 (request_of grammars.Plain hello))) taken_pair; parcels = (first_sent ++ second_sent) ++ third_sent }
 
 abbrev pub worked : List TwinMoment
 worked =

@@ -1,8 +1,9 @@
--- A worked run in which the tail stops. The head has taken a client's Open and forwarded it, and the tail stops before it applies it. At the next tick the server
--- asks again, and the head, which serves alone, answers: the entry was in its log already.
+-- A worked run in which the tail stops. The head has taken a client's Open and forwarded it, and the tail stops before it applies it. At the next tick the
+-- server asks again, and the head, which serves alone, answers: the entry was in its log already.
 use Rattle.std.specs.Prelude.{Some, None, true, List, [], ◌∷◌, ◌++◌}
 use Rattle.tcp_rules.specs.Profile.{plain}
 use Rattle.tcp_rules.specs.declared.profile.Profile.TheVariants.{Plain}
+use Rattle.seq_arith.specs.declared.kinds.Grammar.TheVariants as grammars
 use Rattle.seq_arith.specs.Message.Body.{HelloMsg, OpenMsg}
 use Rattle.ft_model.specs.Node.{booted}
 use Rattle.ft_model.specs.Node.Place.{Opens}
@@ -31,16 +32,17 @@ schedule = record {
   profile = Plain;
   twin = true;
   marks = None;
+  lasting = None;
   clients = record { key = key; isn = 1000; script = Bytes hello_text } ∷ [];
   events = events.Boot 1 5000 ∷ events.Deliver 1 ∷ events.Deliver 2 ∷ events.Deliver 3 ∷ events.Deliver 4 ∷ events.Begin 1 65535 ∷ events.Deliver 5 ∷ events.Deliver 6
       ∷ events.Stop 2 ∷ events.Tick ∷ events.Deliver 8 ∷ events.Deliver 9 ∷ [];
 }
 
 abbrev pub hello : Request
-hello = request_of (record { boot = 1; body = HelloMsg })
+hello = request_of grammars.Plain (record { boot = 1; body = HelloMsg })
 
 abbrev pub opening : Request
-opening = request_of (record { boot = 1; body = OpenMsg numbers })
+opening = request_of grammars.Plain (record { boot = 1; body = OpenMsg numbers })
 
 -- a moment in which these parcels are sent and the rest of the world is as given
 abbrev pub moment : TwinEvent → List Parcel → TwinWorld → TwinMoment
@@ -48,7 +50,10 @@ moment event sent world = record { event = event; sent = sent; world = record wo
 
 -- the server boots. Its Hello passes the head and the tail, which answers and confirms
 abbrev pub moment_1 : TwinMoment
-moment_1 = moment (Usual (events.Boot 1 5000)) (Outside path.packet_1 ∷ []) (record (twin_start schedule) { boot = 1; node = Some (booted server plain 1 5000) })
+moment_1 = moment (Usual (events.Boot 1 5000)) (Outside path.packet_1 ∷ []) (record (twin_start schedule) {
+  boot = 1;
+  node = Some (booted server plain 1 5000);
+})
 
 abbrev pub moment_2 : TwinMoment
 moment_2 = moment (Usual (events.Deliver 1)) (Inside (Forward 1 hello) ∷ []) (record moment_1.world { pair = head_has (Asks hello) moment_1.world.pair })
@@ -69,7 +74,8 @@ abbrev pub moment_6 : TwinMoment
 moment_6 = moment (Usual (events.Begin 1 65535)) (Outside path.packet_3 ∷ []) (record moment_5.world { clients = path.opening ∷ [] })
 
 abbrev pub moment_7 : TwinMoment
-moment_7 = moment (Usual (events.Deliver 5)) (Outside path.packet_4 ∷ []) (record moment_6.world { node = Some (path.node_at (Serving 1 (Opens numbers ∷ []))) })
+moment_7 = moment (Usual (events.Deliver 5)) (Outside path.packet_4 ∷ [])
+    (record moment_6.world { node = Some (path.node_at (Serving 1 (Opens numbers ∷ []))) })
 
 abbrev pub moment_8 : TwinMoment
 moment_8 = moment (Usual (events.Deliver 6)) (Inside (Forward 2 opening) ∷ []) (record moment_7.world { pair = head_has (Asks opening) moment_7.world.pair })

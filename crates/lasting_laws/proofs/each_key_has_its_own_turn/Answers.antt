@@ -10,4 +10,4 @@ pub returns-clause-one_each : goal.returns-clause-one_each
 returns-clause-one_each g c = λ node input later qs. quarantines_differ node input qs (places_at later)
 
 pub returns-clause-place : goal.returns-clause-place
-returns-clause-place g c = λ kind node input. key_went (machine (g.S.Service.started kind) g.S.Service.after) node input
+returns-clause-place g c = λ kind node input. key_went (machine (g.S.Service.started kind) g.S.Service.after g.S.Service.greeting) node input

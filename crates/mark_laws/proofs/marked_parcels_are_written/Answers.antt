@@ -9,10 +9,10 @@ use Rattle.mark_laws.proofs.marked_parcels_are_written.Goals as goal
 
 pub returns : goal.returns
 returns g c = λ kind every start trace savable joint.
-    let by = markers (machines g.S.Service.started g.S.Service.after) g.S.Saved.form g.S.Saved.state_of every kind in
+    let by = markers (machines g.S.Service.started g.S.Service.after g.S.Service.greeting) g.S.Saved.form g.S.Saved.state_of every kind in
     let written = writing g.S.Saved.form (g.S.Saved.state_of kind) in
     let grounds : Grounds by (seen start) = record {
-      small = g.met.S.Service.is_short;
+      small = (g.met.S.Service.greets_shortly (g.S.Service.started kind), g.met.S.Service.is_short);
       laws = record {
         tells = λ news script m q e. c.marks_that_go_out_are_true.ensures (g.S.Service.started kind) written every news script m q e;
         stays = λ before after m. c.marks_stay_true.ensures kind written before after m;

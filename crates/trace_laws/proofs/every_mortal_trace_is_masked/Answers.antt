@@ -3,4 +3,4 @@ use Rattle.server_trait.specs.Service.{machine}
 use Rattle.trace_laws.proofs.Masks.{all_unseen}
 
 pub returns : goal.returns
-returns g c = λ kind start trace joint. all_unseen (machine (g.S.Service.started kind) g.S.Service.after) g.met.S.Service.is_short start trace joint
+returns g c = λ kind start trace joint. all_unseen (machine (g.S.Service.started kind) g.S.Service.after g.S.Service.greeting) (g.met.S.Service.greets_shortly (g.S.Service.started kind), g.met.S.Service.is_short) start trace joint

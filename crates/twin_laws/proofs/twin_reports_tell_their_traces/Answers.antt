@@ -4,4 +4,4 @@ use Rattle.twin_laws.proofs.twin_reports_tell_their_traces.Goals as goal
 
 pub returns : goal.returns
 returns g c = λ schedule other trace also fits too p q e.
-    legal_told (machines g.S.Service.started g.S.Service.after) schedule other trace also fits too p q e
+    legal_told (machines g.S.Service.started g.S.Service.after g.S.Service.greeting) schedule other trace also fits too p q e

@@ -3,4 +3,4 @@ use Rattle.long_laws.proofs.QuarantineTraces.{follows}
 use Rattle.long_laws.proofs.quarantine.quarantined_traces_are_long_traces.Goals as goal
 
 pub returns : goal.returns
-returns g c = λ kind wait start trace joint. (follows (machine (g.S.Service.started kind) g.S.Service.after) g.met.S.Service.is_short wait start trace joint).steps
+returns g c = λ kind wait start trace joint. (follows (machine (g.S.Service.started kind) g.S.Service.after g.S.Service.greeting) (g.met.S.Service.greets_shortly (g.S.Service.started kind), g.met.S.Service.is_short) wait start trace joint).steps
