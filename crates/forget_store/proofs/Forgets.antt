@@ -1,5 +1,5 @@
 -- The one entry that a Forget names, if it is done, is the one that the definitions take out.
-use Rattle.std.proofs.Common.{◌≡◌, ◌∙◌, ⊎_elim, ◌≤◌, Bool, true, false, not, ◌==◌, ◌&&◌, ◌||◌, cond, refl, sym, ap, ap₂, subst, arith, true≢false, eq-eqb, Option, Some, None, option_map, find, filter, List, [], ◌∷◌, length, map, if◌then◌else◌}
+use Rattle.std.proofs.Common.{◌≡◌, ◌∙◌, ⊎_elim, ◌≤◌, Bool, true, false, not, ◌==◌, ◌&&◌, ◌||◌, refl, sym, ap, ap₂, arith, true≢false, eq-eqb, Option, Some, None, option_map, find, filter, List, [], ◌∷◌, length, map}
 use Rattle.std.proofs.lemmas.Bool.{and_from, or_parts}
 use Rattle.std.specs.List.{list_any}
 use Rattle.std.specs.Option.{option_map_or}
@@ -8,10 +8,10 @@ use Rattle.ft_io.proofs.Choices.{if_true, if_false, same_some}
 use Rattle.seq_arith.specs.Message.{EntryHead}
 use Rattle.ft_model.specs.Keys.{has_key, AreDistinct}
 use Rattle.ft_model.specs.Log.{Log, Entry, entry_of, head_of}
-use Rattle.ft_model.proofs.Lists.{none_is_some, some_is, found_passes, same_key}
+use Rattle.ft_model.proofs.Lists.{none_is_some, some_is, found_passes}
 use Rattle.long_laws.specs.LongTrace.{others}
 use Rattle.long_laws.specs.Forgetting.{Named, is_entry_of, is_recycled, forgotten_in}
-use Rattle.long_laws.proofs.Forgets.{either, RecyclesOne}
+use Rattle.long_laws.proofs.Forgets.{either, RecyclesOne, no_key}
 
 -- the entry whose head was read
 pub record HasHead (h : EntryHead) (o : Option Entry) : Type 0 where
@@ -93,9 +93,6 @@ recycled n log e d found its = ⊎_elim (λ same. absurd (not_whole n e log.entr
 
     on : RecyclesOne n log.entries → record log { entries = filter (λ e. not (key_eq e.key n.key)) log.entries } ≡ forgotten_in n log
     on r = ap (λ (es : List Entry). let l : Log = record { boot = log.boot; entries = es } in l) (left_out (λ e. key_eq e.key n.key) log.entries ∙ sym r.rest)
-
-no_key : (n : Named) (x : Entry) (es : List Entry) → AreDistinct (map (λ e. e.key) (x ∷ es)) → key_eq x.key n.key ≡ true → has_key n.key (map (λ e. e.key) es) ≡ false
-no_key n x es d k = subst (λ z. has_key z (map (λ e. e.key) es) ≡ false) (same_key x.key n.key k) d.0
 
 none_named : (n : Named) (es : List Entry) → has_key n.key (map (λ e. e.key) es) ≡ false → list_any (is_entry_of n) es ≡ false
 none_named n [] none = refl

@@ -4,6 +4,7 @@ use Rattle.seq_arith.specs.Message.{Message}
 use Rattle.seq_arith.specs.Message.Body.{StaleMsg}
 use Rattle.seq_arith.specs.MessageGrammar as messages
 use Rattle.seq_arith.specs.declared.kinds.BadMsg.{BadMsg}
+use Rattle.seq_arith.specs.declared.kinds.Grammar.{Grammar}
 use Rattle.ft_model.specs.Log.{Log, log_after, answer_to}
 use Rattle.long_laws.specs.Forgetting.{ForgetMessage, ForgetAnswer, forgotten_message, after_forget, answer_to_forget}
 use Rattle.long_laws.specs.Forgetting.ForgetAnswer.{About_forgetting, Of_log}
@@ -28,8 +29,9 @@ after_reading (Ok message) _ log = log_after log message
 after_reading (Err _) (Ok message) log = after_forget log message
 after_reading (Err _) (Err _) log = log
 
-abbrev pub after_bytes : List ℕ → Log → Log
-after_bytes bytes log = after_reading (messages.reading bytes) (forgets.reading bytes) log
+-- .. in a grammar
+abbrev pub after_bytes : Grammar → List ℕ → Log → Log
+after_bytes grammar bytes log = after_reading (messages.reading_by grammar bytes) (forgets.reading bytes) log
 
 -- .. and the answer
 abbrev pub answer_to_reading : Result Message BadMsg → Result ForgetMessage BadMsg → Log → Option ForgetAnswer
@@ -37,14 +39,14 @@ answer_to_reading (Ok message) _ log = option_map Of_log (answer_to log message)
 answer_to_reading (Err _) (Ok message) log = answer_to_forget log message
 answer_to_reading (Err _) (Err _) log = None
 
-abbrev pub reply_bytes : Option ForgetAnswer → List ℕ
-reply_bytes (Some (About_forgetting message)) = forgets.spelling message
-reply_bytes (Some (Of_log message)) = messages.spelling message
-reply_bytes None = []
+abbrev pub reply_bytes : Grammar → Option ForgetAnswer → List ℕ
+reply_bytes grammar (Some (About_forgetting message)) = forgets.spelling message
+reply_bytes grammar (Some (Of_log message)) = messages.spelling_by grammar message
+reply_bytes grammar None = []
 
 -- the bytes of the answer to bytes, or none
-abbrev pub answer_to_bytes : List ℕ → Log → List ℕ
-answer_to_bytes bytes log = reply_bytes (answer_to_reading (messages.reading bytes) (forgets.reading bytes) log)
+abbrev pub answer_to_bytes : Grammar → List ℕ → Log → List ℕ
+answer_to_bytes grammar bytes log = reply_bytes grammar (answer_to_reading (messages.reading_by grammar bytes) (forgets.reading bytes) log)
 
 -- a message about forgetting is sent in place of one of the log
 abbrev pub bytes_out : Option (List ℕ) → List ℕ → List ℕ

@@ -1,5 +1,5 @@
-//! A log whose entries may be recycled. A server whose connection is done has been waiting until nothing of it is under way any more. Then it sends Forget, and the
-//! log drops the entry of this connection, so that it has room for another one. Nothing is allocated for that.
+//! A log whose entries may be recycled. A server whose connection is done has been waiting until nothing of it is under way any more. Then it sends Forget,
+//! and the log drops the entry of this connection, so that it has room for another one. Nothing is allocated for that.
 #![tactic(auto)]
 
 pub use forgetting::take_forget;

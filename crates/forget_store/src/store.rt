@@ -4,7 +4,7 @@ ghost use Rattle.std.specs.Prelude.{[], ◌≡◌, ◌≤◌, ◌<◌, Some, OnO
 ghost use Rattle.seq_arith.specs.Message.Body.{StaleMsg};
 ghost use Rattle.long_laws.specs.ForgetGrammar.{IsSpellable, spelling};
 ghost use Rattle.long_laws.specs.Forgetting.{forgotten_message, after_forget, answer_to_forget};
-ghost use Rattle.logger_store.specs.StoreState.{answer_bytes};
+ghost use Rattle.logger_store.specs.StoreState.{answer_bytes_by};
 ghost use Rattle.forget_wire.specs.Value.{named_said, message_of};
 ghost use Rattle.forget_store.specs.Replies.{reply_said, reply_bytes, after_bytes, answer_to_bytes, IsSendable};
 
@@ -13,7 +13,7 @@ use crate::reply::Reply;
 use forget_wire::{ForgetBody, ForgetMsg, LENGTH, Named, read_forget, write_forget};
 use ft_io::NoMemory;
 use logger_store::{LogStore, MsgOut};
-use logger_wire::{Body, Msg, read_msg};
+use logger_wire::{Body, Grammar, Msg, read_msg_by};
 use std::alloc::Global;
 use std::marker::Model;
 
@@ -74,61 +74,62 @@ impl AnswerOut {
     }
 
     /// Replaces the content by Stale, the answer to a message of boot `boot`.
-    #[tactic(auto, unfolding(seq_arith::specs::MessageGrammar::has_length, seq_arith::specs::MessageGrammar::is_sound))]
-    fn put_stale(&mut self, boot: u64, newer: u64)
+    #[tactic(auto, unfolding(seq_arith::specs::MessageGrammar::has_length, seq_arith::specs::MessageGrammar::is_sound_by))]
+    fn put_stale(&mut self, grammar: Grammar, boot: u64, newer: u64)
         requires boot { 1 ≤ boot }
         requires newer { boot < newer }
-        ensures { self.new ≡ answer_bytes (Some (record { boot = boot; body = StaleMsg newer })) }
+        ensures { self.new ≡ answer_bytes_by grammar (Some (record { boot = boot; body = StaleMsg newer })) }
     {
         self.forgotten = None;
         let body = Body::Stale { newer };
-        self.of_log.put(&Msg { boot, body });
+        self.of_log.put_by(grammar, &Msg { boot, body });
     }
 
     /// Replaces the content by an answer to a message about forgetting.
-    fn put(&mut self, reply: Reply)
+    fn put(&mut self, grammar: Grammar, reply: Reply)
         requires { IsSendable reply }
-        ensures { self.new ≡ reply_bytes (Some (reply_said reply)) }
+        ensures { self.new ≡ reply_bytes grammar (Some (reply_said reply)) }
     {
         match reply {
             Reply::Forgotten { boot, named } => self.put_forgotten(boot, named),
-            Reply::Stale { boot, newer } => self.put_stale(boot, newer),
+            Reply::Stale { boot, newer } => self.put_stale(grammar, boot, newer),
         }
     }
 }
 
 /// Takes a message about forgetting, and writes the answer to it, or nothing, into the empty `out`.
-fn hear_forget(log: &mut LogStore, m: &ForgetMsg, out: &mut AnswerOut)
+fn receive_forget(log: &mut LogStore, grammar: Grammar, m: &ForgetMsg, out: &mut AnswerOut)
     requires spellable { IsSpellable (message_of m.now) }
     requires empty { out.old ≡ [] }
     ensures next { log.new ≡ after_forget log.old (message_of m.now) }
-    ensures answer { out.new ≡ reply_bytes (answer_to_forget log.old (message_of m.now)) }
+    ensures answer { out.new ≡ reply_bytes grammar (answer_to_forget log.old (message_of m.now)) }
 {
     if let Some(reply) = take_forget(log, m) {
-        out.put(reply);
+        out.put(grammar, reply);
     }
 }
 
-/// Takes bytes, which may be a message of the log, one about forgetting, or neither, and replaces the content of `out` by the answer, or by nothing. After
+/// Takes bytes, which may be a message of the log in this grammar, one about forgetting, or neither, and replaces the content of `out` by the answer, or by nothing. After
 /// `NoMemory` the log is unchanged, `out` empty.
 pub fn answer(
     log: &mut LogStore,
     alloc: Global,
+    grammar: Grammar,
     bytes: &[u8],
     out: &mut AnswerOut,
 ) -> Result<(), NoMemory>
-    ensures next { OnOk result (log.new ≡ after_bytes bytes.now log.old) }
-    ensures answer { OnOk result (out.new ≡ answer_to_bytes bytes.now log.old) }
+    ensures next { OnOk result (log.new ≡ after_bytes grammar bytes.now log.old) }
+    ensures answer { OnOk result (out.new ≡ answer_to_bytes grammar bytes.now log.old) }
     ensures refused { OnErr result (log.new ≡ log.old) }
     ensures empty { OnErr result (out.new ≡ []) }
 {
     out.forgotten = None;
-    if let Ok(m) = read_msg(bytes) {
-        return log.answer(alloc, &m, &mut out.of_log);
+    if let Ok(m) = read_msg_by(grammar, bytes) {
+        return log.answer_by(alloc, grammar, &m, &mut out.of_log);
     }
     out.of_log.clear();
     if let Ok(m) = read_forget(bytes) {
-        hear_forget(log, &m, out);
+        receive_forget(log, grammar, &m, out);
     }
     Ok(())
 }

@@ -1,5 +1,6 @@
 -- How the bytes of an entry are stored in pages, and its lengths in runs.
-use Rattle.std.specs.Prelude.{zero, suc, ◌≡◌, ◌≤◌, ◌<◌, ◌+◌, ◌-◌, ◌*◌, ◌/◌, ◌%◌, ◌==◌, ℕ, Bool, false, not, List, length, take, drop, slice_get, replicate, ◌++◌, [], ◌∷◌, Option, Some, None, unwrap_or, map, sum, if◌then◌else◌}
+use Rattle.std.specs.Prelude.{zero, suc, ◌≡◌, ◌≤◌, ◌<◌, ◌+◌, ◌-◌, ◌*◌, ◌/◌, ◌%◌, ◌==◌, ℕ, Bool, false, not, List, length, take, drop, slice_get}
+use Rattle.std.specs.Prelude.{replicate, ◌++◌, [], ◌∷◌, Option, Some, None, unwrap_or, map, sum, if◌then◌else◌}
 use Rattle.std.specs.List.{flat_map, list_any}
 use Rattle.std.specs.Option.{option_map_or}
 use Rattle.std.specs.List.{position}

@@ -1,5 +1,5 @@
-//! Wrong results that the contracts of this crate exclude. Each function calls another one of the crate, and promises of its result what a wrong body would make
-//! false. It is proved from the other's contract alone, so it is no longer proved once that contract lets the wrong body pass.
+//! Wrong results that the contracts of this crate exclude. Each function calls another one of the crate, and promises of its result what a wrong body would
+//! make false. It is proved from the other's contract alone, so it is no longer proved once that contract lets the wrong body pass.
 
 ghost use Rattle.std.specs.Prelude.{◌≡◌, ◌≤◌, ◌+◌, ◌*◌, length, OnOk};
 
@@ -19,10 +19,10 @@ fn drops_the_tail_at_a_border(
     pages.add(alloc, bytes)
 }
 
-/// Pages that are discarded aren't stored any more: the clause `dropped` of `Pages::give_up`.
+/// Pages that are discarded aren't stored any more: the clause `dropped` of `Pages::discard`.
 fn keeps_its_pages_zeroed(pages: &mut Pages, count: usize)
     requires { 4096 * count ≤ length pages.old.bytes }
     ensures { count ≤ pages.new.dropped }
 {
-    pages.give_up(count);
+    pages.discard(count);
 }

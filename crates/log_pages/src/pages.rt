@@ -1,7 +1,8 @@
 //! A client's bytes in pages of 4,096.
 
 ghost use Rattle.limits.specs.Limits.{longest_stream};
-ghost use Rattle.std.specs.Prelude.{[], ◌≡◌, ◌≤◌, ◌<◌, ◌+◌, ◌-◌, ◌*◌, ◌/◌, ◌%◌, ◌^◌, ◌++◌, All, option_map, unwrap_or, IfSome, IfNone, IfOk, IsOk, OnOk, OnErr, length, max};
+ghost use Rattle.std.specs.Prelude.{[], ◌≡◌, ◌≤◌, ◌<◌, ◌+◌, ◌-◌, ◌*◌, ◌/◌, ◌%◌, ◌^◌, ◌++◌, All, option_map, unwrap_or, IfSome, IfNone, IfOk, IsOk};
+ghost use Rattle.std.specs.Prelude.{OnOk, OnErr, length, max};
 ghost use Rattle.std.specs.Prelude.{take, drop, slice_index};
 ghost use Rattle.log_pages.specs.Pages.{IsFull, IsLast, kept, page_of, room_after, zeroed};
 
@@ -185,7 +186,7 @@ impl Pages {
 
     /// Discards the first `pages` pages, counting those discarded before: they aren't stored any more. Nothing is allocated.
     #[tactic(auto, using(crate::proofs::GivenUp::zeroed_is))]
-    pub fn give_up(&mut self, pages: usize)
+    pub fn discard(&mut self, pages: usize)
         requires { 4096 * pages ≤ length self.old.bytes }
         ensures bytes { self.new.bytes ≡ zeroed (4096 * pages) self.old.bytes }
         ensures dropped { self.new.dropped ≡ max self.old.dropped pages }

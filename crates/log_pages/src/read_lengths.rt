@@ -121,7 +121,7 @@ impl ReadLengths {
     }
 
     /// Discards the lengths of the first `reads` reads, counting those discarded before. Nothing is allocated.
-    pub fn give_up(&mut self, reads: u32)
+    pub fn discard(&mut self, reads: u32)
         requires there { reads ≤ length self.old }
         requires few { sum self.old ≤ longest_stream }
         requires on { reads_on (take reads self.old) ≡ true }

@@ -7,7 +7,7 @@ use Rattle.ft_io.specs.declared.Key.{Key}
 use Rattle.ft_io.specs.Key.{key_eq}
 use Rattle.seq_arith.specs.Message.{Numbers, Body, Message, is_answer}
 use Rattle.seq_arith.specs.Message.Body.{HelloMsg, SummaryMsg, ListMsg, EntryMsg, BytesMsg, PartMsg, CutsMsg, LensMsg, OpenMsg, OpenedMsg, DataMsg, StableMsg, ReadMsg, ReadsMsg, DoneMsg, EndedMsg, StaleMsg, FullMsg}
-use Rattle.ft_model.specs.Log.{Log, Entry, log_after, answer_to, answer_from, with_body, with_part, with_read, new_entry, with_entry, part_of, lens_of, head_of, kept_of, on_entry, opened_answer, is_hello}
+use Rattle.ft_model.specs.Log.{Log, Entry, log_after, answer_to, answer_from, with_body, with_part, with_read, new_entry, with_entry, part_of, lens_of, head_of, kept_of, on_entry, opened_answer, is_hello, unless_more}
 use Rattle.ft_model.proofs.PlayableLemmas.{same_either_way}
 use Rattle.log_pages.specs.Pages.{changed_at, pages, zeroed, reads_on, took, without}
 use Rattle.logger_store.specs.StoreState.{acknowledging, bytes_of, lengths_of}
@@ -275,7 +275,8 @@ told_alike trims (CutsMsg key first) left log a past =
     past_trim (λ t. t.reads) first (λ e. lens_of e first) (λ t l e b h. lens_alike t l e first b h) key trims left.entries log.entries a.entries past
 told_alike trims (OpenMsg n) left log a past =
     same_found (opened_answer n.key) (λ t l e b. ap (λ x. opened_answer n.key (Some x)) b.same) n.key trims left.entries log.entries a.entries
-told_alike trims (DataMsg part) left log a past = same_found (on_entry (λ e. Some (StableMsg (kept_of e)))) stable_alike part.key trims left.entries log.entries a.entries
+told_alike trims (DataMsg part) left log a past =
+    ap (unless_more part) (same_found (on_entry (λ e. Some (StableMsg (kept_of e)))) stable_alike part.key trims left.entries log.entries a.entries)
 told_alike trims (ReadMsg key index n) left log a past = same_found (on_entry (λ e. Some (ReadsMsg (kept_of e)))) reads_alike key trims left.entries log.entries a.entries
 told_alike trims (DoneMsg key) left log a past =
     same_found (on_entry (λ e. Some (EndedMsg key))) (λ t l e b. refl) key trims left.entries log.entries a.entries

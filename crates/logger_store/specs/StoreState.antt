@@ -1,13 +1,16 @@
 -- The ranges of the store's numbers, and which messages may need memory.
 use Rattle.limits.specs.Limits.{largest_segment, least_segment, longest_stream, most_entries, most_units}
-use Rattle.std.specs.Prelude.{ℕ, Bool, true, false, not, List, [], length, sum, ◌≡◌, ◌==◌, ◌≤◌, ◌+◌, ◌-◌, ◌^◌, ◌&&◌, ◌||◌, nat_le, nat_lt, max, Option, Some, None, option_map, IsOk, ◌⊎◌}
+use Rattle.std.specs.Prelude.{ℕ, Bool, true, false, not, List, [], length, sum, ◌≡◌, ◌==◌, ◌≤◌, ◌+◌, ◌-◌, ◌^◌, ◌&&◌, ◌||◌, nat_le, nat_lt, max}
+use Rattle.std.specs.Prelude.{Option, Some, None, option_map, IsOk, ◌⊎◌}
 use Rattle.std.specs.List.{list_any, list_all}
 use Rattle.std.specs.Option.{option_map_or}
 use Rattle.ft_io.specs.Key.{key_eq}
+use Rattle.seq_arith.specs.declared.kinds.Grammar.{Grammar}
+use Rattle.seq_arith.specs.declared.kinds.Grammar.TheVariants.{Plain, Wide}
 use Rattle.seq_arith.specs.Message as said
 use Rattle.seq_arith.specs.Message.{Message, Body}
 use Rattle.seq_arith.specs.Message.Body.{OpenMsg, DataMsg, ReadMsg}
-use Rattle.seq_arith.specs.MessageGrammar.{spelling, reading, flag}
+use Rattle.seq_arith.specs.MessageGrammar.{spelling_by, reading, reading_by, flag}
 use Rattle.seq_arith.specs.MarkGrammar as marks
 use Rattle.ft_model.specs.Log.{Log, Entry, with_bytes, is_next_read, entry_of}
 use Rattle.log_pages.specs.Pages.{room_after, ends_with}
@@ -26,18 +29,22 @@ pub record AreRead (bytes : ℕ) (lengths : List ℕ) : Type 0 where
   pub count : length lengths ≤ sum lengths + flag (list_any (λ k. k == 0) lengths)
   pub each : list_all (λ n. nat_le n 2048) lengths ≡ true
 
--- the bytes of an answer; none without an answer
+-- the bytes of an answer in a grammar; none without an answer
+abbrev pub answer_bytes_by : Grammar → Option Message → List ℕ
+answer_bytes_by grammar (Some message) = spelling_by grammar message
+answer_bytes_by grammar None = []
+
+-- .. in the plain one
 abbrev pub answer_bytes : Option Message → List ℕ
-answer_bytes (Some message) = spelling message
-answer_bytes None = []
+answer_bytes answer = answer_bytes_by Plain answer
 
 -- no bytes, or those of a message
 abbrev pub IsAnswer : List ℕ → Type 0
 IsAnswer bytes = (bytes ≡ []) ⊎ IsOk (reading bytes)
 
--- .. or those of a message about marks
+-- .. or those of a wide message, or of a message about marks
 abbrev pub IsReply : List ℕ → Type 0
-IsReply bytes = IsAnswer bytes ⊎ IsOk (marks.reading bytes)
+IsReply bytes = IsAnswer bytes ⊎ (IsOk (reading_by Wide bytes) ⊎ IsOk (marks.reading bytes))
 
 -- the entry with at least `units` units of its output acknowledged
 abbrev pub acknowledging : ℕ → Entry → Entry

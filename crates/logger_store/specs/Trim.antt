@@ -1,6 +1,7 @@
 -- A trimmed log store, which has discarded the beginnings of some entries: which bytes and lengths it still reports, and which logs it represents.
 use Rattle.limits.specs.Limits.{most_entries}
-use Rattle.std.specs.Prelude.{◌≡◌, ℕ, ◌≤◌, ◌<◌, ◌==◌, Bool, true, false, ◌&&◌, nat_lt, sum, Option, None, List, [], ◌∷◌, length, take, replicate, slice_get, slice_index_or, slice_set, if◌then◌else◌}
+use Rattle.std.specs.Prelude.{◌≡◌, ℕ, ◌≤◌, ◌<◌, ◌==◌, Bool, true, false, ◌&&◌, nat_lt, sum, Option, None, List, [], ◌∷◌, length, take, replicate}
+use Rattle.std.specs.Prelude.{slice_get, slice_index_or, slice_set, if◌then◌else◌}
 use Rattle.std.specs.Option.{option_map_or}
 use Rattle.std.specs.List.{AllByRecursion}
 use Rattle.ft_io.specs.declared.Key.{Key}

@@ -4,6 +4,7 @@
 
 pub use msg_out::MsgOut;
 pub use store::LogStore;
+pub use stored_entry::StoredEntry;
 pub use trimming::{Trim, TrimStore};
 
 mod excluded;

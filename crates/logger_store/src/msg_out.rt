@@ -1,12 +1,12 @@
 //! Room for one answer: a message of the log, or one about marks.
 
-ghost use Rattle.std.specs.Prelude.{[], ◌≡◌, ◌≤◌, IsOk, length};
-ghost use Rattle.seq_arith.specs.MessageGrammar.{spelling};
+ghost use Rattle.std.specs.Prelude.{[], ◌≡◌, ◌≤◌, IsOk, Ok, length};
+ghost use Rattle.seq_arith.specs.MessageGrammar.{reading, spelling, spelling_by};
 ghost use Rattle.seq_arith.specs.MarkGrammar.{reading as mark_reading};
 ghost use Rattle.logger_store.specs.StoreState.{IsReply};
-ghost use Rattle.logger_wire.specs.Value.{message_of, IsSendable};
+ghost use Rattle.logger_wire.specs.Value.{message_of, IsSendable, IsSendableBy};
 
-use logger_wire::{Msg, write_msg};
+use logger_wire::{Grammar, Msg, write_msg_by};
 use std::marker::Model;
 
 /// The bytes of a message, or none, in room for 2,048 bytes.
@@ -57,16 +57,26 @@ impl MsgOut {
         self.len = 0;
     }
 
-    /// Replaces the content by a message.
-    #[tactic(auto, using(crate::proofs::Answers::message_written))]
+    /// Replaces the content by a message of the plain grammar.
     pub fn put(&mut self, m: &Msg<'_>)
         requires { IsSendable m.now }
-        ensures { self.new ≡ spelling (message_of m.now) }
+        ensures spells { self.new ≡ spelling (message_of m.now) }
+        ensures read { reading self.new ≡ Ok (message_of m.now) }
     {
-        self.len = write_msg(m, &mut self.bytes);
+        self.put_by(Grammar::Plain, m);
+    }
+
+    /// Replaces the content by a message of a grammar.
+    #[tactic(auto, using(crate::proofs::Answers::message_written))]
+    pub fn put_by(&mut self, grammar: Grammar, m: &Msg<'_>)
+        requires { IsSendableBy grammar m.now }
+        ensures { self.new ≡ spelling_by grammar (message_of m.now) }
+    {
+        self.len = write_msg_by(grammar, m, &mut self.bytes);
     }
 
     /// Replaces the content by the bytes of a message about marks.
+    #[tactic(auto, using(crate::proofs::Answers::marked_replies))]
     pub fn put_mark(&mut self, bytes: &[u8])
         requires within { length bytes.now ≤ 2048 }
         requires readable { IsOk (mark_reading bytes.now) }

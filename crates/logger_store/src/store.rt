@@ -11,22 +11,22 @@ ghost use Rattle.std.specs.List.{list_any};
 ghost use Rattle.ft_io.specs.Key.{key_eq};
 ghost use Rattle.seq_arith.specs.Message.Body.{OpenMsg, DataMsg, ReadMsg, DoneMsg};
 ghost use Rattle.logger_wire.specs.Records.{numbers_said, head_said, part_said};
-ghost use Rattle.logger_wire.specs.Value.{body_of, message_of, IsSendable};
+ghost use Rattle.logger_wire.specs.Value.{body_of, message_of, IsSendable, IsSendableBy};
 ghost use Rattle.logger_store.specs.Changes.{body_changes, changes};
 ghost use Rattle.std.specs.Prelude.{sum, take};
 ghost use Rattle.log_pages.specs.Pages.{changed_at, reads_on, took, without, place_of};
-ghost use Rattle.logger_store.specs.StoreState.{adds, answer_bytes, acknowledging, with_boot, wants_memory, bytes_of, lengths_of};
+ghost use Rattle.logger_store.specs.StoreState.{adds, answer_bytes, answer_bytes_by, acknowledging, with_boot, wants_memory, bytes_of, lengths_of};
 
 use crate::msg_out::MsgOut;
 use crate::stored_entry::StoredEntry;
 use crate::telling::{
-    tell_ended, tell_head, tell_lengths, tell_opened, tell_part, tell_reads, tell_stable,
-    tell_stale,
+    answer_count, answer_ended, answer_head, answer_lengths, answer_opened, answer_part,
+    answer_reads, answer_stable, answer_stale,
 };
 use ft_io::{Key, NoMemory};
 use indexmap::IndexMap;
 use limits::ENTRIES;
-use logger_wire::{Body, EntryHead, Msg, Numbers, Part};
+use logger_wire::{Body, EntryHead, Grammar, Msg, Numbers, Part};
 use std::alloc::Global;
 use std::marker::Model;
 
@@ -88,7 +88,8 @@ impl LogStore {
         self.entries.len() as u16
     }
 
-    fn at(&self, i: u16) -> Option<&StoredEntry>
+    /// The entry at place `i`, counted from 0; `None` exactly if there is no such entry.
+    pub fn at(&self, i: u16) -> Option<&StoredEntry>
         ensures { option_copied result ≡ slice_get self.now.entries i }
     {
         let (_key, entry) = self.entries.get_index(usize::from(i))?;
@@ -133,7 +134,8 @@ impl LogStore {
     /// The entry of a key. No other entry has the key, so a change that leaves this entry as it is leaves the log as it is.
     fn only(&self, key: Key) -> Option<&StoredEntry>
         ensures entry { option_copied result ≡ entry_of key self.now }
-        ensures alone { (change : Entry → Entry) → option_map change (entry_of key self.now) ≡ entry_of key self.now → with_entry key change self.now ≡ self.now }
+        ensures alone { (change : Entry → Entry) → option_map change (entry_of key self.now) ≡ entry_of key self.now
+            → with_entry key change self.now ≡ self.now }
     {
         let place = self.entries.get_index_of(&key)?;
         self.at(place as u16)
@@ -216,7 +218,7 @@ impl LogStore {
 
     /// Discards the lengths of the first `reads` reads of the entry at place `i`, and the complete pages of the `bytes` bytes that they took. Nothing is
     /// allocated.
-    pub(crate) fn give_up(&mut self, i: u16, bytes: u32, reads: u32)
+    pub(crate) fn discard(&mut self, i: u16, bytes: u32, reads: u32)
         requires there { reads ≤ length (lengths_of (slice_get self.old.entries i)) }
         requires took { bytes ≡ sum (take reads (lengths_of (slice_get self.old.entries i))) }
         requires on { reads_on (take reads (lengths_of (slice_get self.old.entries i))) ≡ true }
@@ -225,7 +227,7 @@ impl LogStore {
         let Some(entry) = self.entries.get_index_mut(usize::from(i)) else {
             return;
         };
-        entry.give_up(bytes, reads);
+        entry.discard(bytes, reads);
     }
 
     /// Notes that at least `units` units of a connection's output are acknowledged.
@@ -304,8 +306,8 @@ impl LogStore {
 
     /// Whether the body of a message with the log's boot number changes anything.
     #[tactic(auto, using(crate::proofs::Sending::data_ranges))]
-    fn body_changes(&self, m: &Msg<'_>) -> bool
-        requires { IsSendable m.now }
+    fn body_changes(&self, grammar: Grammar, m: &Msg<'_>) -> bool
+        requires { IsSendableBy grammar m.now }
         ensures value { result ≡ body_changes (body_of m.now.body) self.now }
         ensures stays { result ≡ false → with_body (body_of m.now.body) self.now ≡ self.now }
     {
@@ -318,10 +320,20 @@ impl LogStore {
         }
     }
 
-    /// Whether a message changes the log. The log depends on the messages that do, and on no others.
-    #[tactic(auto, unfolding(ft_model::specs::Log::log_after, crate::specs::Changes::changes))]
+    /// Whether a message of the plain grammar changes the log. The log depends on the messages that do, and on no others.
     pub fn changes(&self, m: &Msg<'_>) -> bool
         requires { IsSendable m.now }
+        ensures value { result ≡ changes self.now (message_of m.now) }
+        ensures stays { result ≡ false → log_after self.now (message_of m.now) ≡ self.now }
+        ensures differs { result ≡ true → ¬ (log_after self.now (message_of m.now) ≡ self.now) }
+    {
+        self.changes_by(Grammar::Plain, m)
+    }
+
+    /// Whether a message of a grammar changes the log.
+    #[tactic(auto, unfolding(ft_model::specs::Log::log_after, crate::specs::Changes::changes))]
+    pub fn changes_by(&self, grammar: Grammar, m: &Msg<'_>) -> bool
+        requires { IsSendableBy grammar m.now }
         ensures value { result ≡ changes self.now (message_of m.now) }
         ensures stays { result ≡ false → log_after self.now (message_of m.now) ≡ self.now }
         ensures differs { result ≡ true → ¬ (log_after self.now (message_of m.now) ≡ self.now) }
@@ -332,13 +344,13 @@ impl LogStore {
         if is_hello(&m.body) {
             return self.boot < m.boot;
         }
-        m.boot == self.boot && self.body_changes(m)
+        m.boot == self.boot && self.body_changes(grammar, m)
     }
 
     /// Keeps what a message with the log's boot number says.
     #[tactic(auto, using(crate::proofs::Sending::open_ranges, crate::proofs::Sending::data_ranges, crate::proofs::Sending::data_few, crate::proofs::Sending::read_range))]
-    fn take(&mut self, alloc: Global, m: &Msg<'_>) -> Result<(), NoMemory>
-        requires { IsSendable m.now }
+    fn take(&mut self, alloc: Global, grammar: Grammar, m: &Msg<'_>) -> Result<(), NoMemory>
+        requires { IsSendableBy grammar m.now }
         ensures ok { OnOk result (self.new ≡ with_body (body_of m.now.body) self.old) }
         ensures err { OnErr result (self.new ≡ self.old) }
         ensures memory { adds (body_of m.now.body) self.old ≡ false → IsOk result }
@@ -355,39 +367,57 @@ impl LogStore {
         }
     }
 
-    /// Writes the log's answer to a message with its boot number into the empty `out`, after the log has taken the message.
-    #[tactic(auto, using(crate::proofs::Sending::some_boot, crate::proofs::Sending::list_range), unfolding(seq_arith::specs::MessageGrammar::has_length, seq_arith::specs::MessageGrammar::is_sound))]
-    fn tell(&self, m: &Msg<'_>, out: &mut MsgOut)
-        requires sendable { IsSendable m.now }
+    /// Writes the log's answer to a message with its boot number into the empty `out`, after the log has taken the message. A Data that a later one of its turn
+    /// follows has none.
+    #[tactic(auto, using(crate::proofs::Sending::some_boot, crate::proofs::Sending::list_range), unfolding(seq_arith::specs::MessageGrammar::has_length, seq_arith::specs::MessageGrammar::is_sound_by))]
+    fn write_answer(&self, grammar: Grammar, m: &Msg<'_>, out: &mut MsgOut)
+        requires sendable { IsSendableBy grammar m.now }
         requires empty { out.old ≡ [] }
-        ensures { out.new ≡ answer_bytes (with_boot m.now.boot (answer_from (body_of m.now.body) self.now)) }
+        ensures { out.new ≡ answer_bytes_by grammar (with_boot m.now.boot (answer_from (body_of m.now.body) self.now)) }
     {
+        let boot = m.boot;
         match m.body {
-            Body::Hello => out.put(&Msg {
-                boot: m.boot,
-                body: Body::Summary {
-                    count: self.count(),
-                },
-            }),
-            Body::List { index } => tell_head(self.at(index), m.boot, index, out),
-            Body::Bytes { key, offset } => tell_part(self.find(key), m.boot, offset, out),
-            Body::Cuts { key, first } => tell_lengths(self.find(key), m.boot, first, out),
-            Body::Open(numbers) => tell_opened(self.find(numbers.key), m.boot, numbers.key, out),
-            Body::Data(part) => tell_stable(self.find(part.key), m.boot, out),
-            Body::Read { key, .. } => tell_reads(self.find(key), m.boot, out),
-            Body::Done { key } => tell_ended(self.find(key), m.boot, key, out),
+            Body::Hello => answer_count(grammar, self.count(), boot, out),
+            Body::List { index } => answer_head(grammar, self.at(index), boot, index, out),
+            Body::Bytes { key, offset } => answer_part(grammar, self.find(key), boot, offset, out),
+            Body::Cuts { key, first } => answer_lengths(grammar, self.find(key), boot, first, out),
+            Body::Open(numbers) => {
+                answer_opened(grammar, self.find(numbers.key), boot, numbers.key, out)
+            }
+            Body::Data(part) if part.more => (),
+            Body::Data(part) => answer_stable(grammar, self.find(part.key), boot, out),
+            Body::Read { key, .. } => answer_reads(grammar, self.find(key), boot, out),
+            Body::Done { key } => answer_ended(grammar, self.find(key), boot, key, out),
             _ => (),
         }
     }
 
-    /// Takes a message, and replaces the content of `out` by the answer to it, or by nothing. It allocates only for an entry of a new key, for bytes that
-    /// don't fit the page of the entry's last byte, and for a read whose length differs from the last one. After `NoMemory` the log is unchanged, `out`
-    /// empty.
-    #[tactic(auto, using(crate::proofs::Sending::some_boot), unfolding(ft_model::specs::Log::log_after, ft_model::specs::Log::answer_to, crate::specs::StoreState::wants_memory))]
+    /// Takes a message of the plain grammar, and replaces the content of `out` by the answer to it, or by nothing. It allocates only for an entry of a new key,
+    /// for bytes that don't fit the page of the entry's last byte, and for a read whose length differs from the last one. After `NoMemory` the log is
+    /// unchanged, `out` empty.
     pub fn answer(&mut self, alloc: Global, m: &Msg<'_>, out: &mut MsgOut) -> Result<(), NoMemory>
         requires { IsSendable m.now }
         ensures next { OnOk result (self.new ≡ log_after self.old (message_of m.now)) }
         ensures answer { OnOk result (out.new ≡ answer_bytes (answer_to self.old (message_of m.now))) }
+        ensures refused { OnErr result (self.new ≡ self.old) }
+        ensures empty { OnErr result (out.new ≡ []) }
+        ensures memory { wants_memory self.old (message_of m.now) ≡ false → IsOk result }
+    {
+        self.answer_by(alloc, Grammar::Plain, m, out)
+    }
+
+    /// Takes a message of a grammar, and replaces the content of `out` by the answer to it in that grammar, or by nothing.
+    #[tactic(auto, using(crate::proofs::Sending::some_boot), unfolding(ft_model::specs::Log::log_after, ft_model::specs::Log::answer_to, crate::specs::StoreState::wants_memory))]
+    pub fn answer_by(
+        &mut self,
+        alloc: Global,
+        grammar: Grammar,
+        m: &Msg<'_>,
+        out: &mut MsgOut,
+    ) -> Result<(), NoMemory>
+        requires { IsSendableBy grammar m.now }
+        ensures next { OnOk result (self.new ≡ log_after self.old (message_of m.now)) }
+        ensures answer { OnOk result (out.new ≡ answer_bytes_by grammar (answer_to self.old (message_of m.now))) }
         ensures refused { OnErr result (self.new ≡ self.old) }
         ensures empty { OnErr result (out.new ≡ []) }
         ensures memory { wants_memory self.old (message_of m.now) ≡ false → IsOk result }
@@ -397,17 +427,17 @@ impl LogStore {
             return Ok(());
         }
         if m.boot < self.boot {
-            tell_stale(m.boot, self.boot, out);
+            answer_stale(grammar, m.boot, self.boot, out);
             return Ok(());
         }
         if is_hello(&m.body) {
             self.boot = m.boot;
         } else if m.boot == self.boot {
-            self.take(alloc, m)?;
+            self.take(alloc, grammar, m)?;
         } else {
             return Ok(());
         }
-        self.tell(m, out);
+        self.write_answer(grammar, m, out);
         Ok(())
     }
 }

@@ -1,7 +1,8 @@
 //! What is logged of one connection.
 
 ghost use Rattle.limits.specs.Limits.{largest_segment, least_segment, longest_stream, most_units};
-ghost use Rattle.std.specs.Prelude.{[], take, drop, ◌≡◌, ◌≤◌, ◌<◌, ◌+◌, ◌-◌, ◌^◌, ◌&&◌, min, nat_le, true, false, OnOk, OnErr, IsOk, length, slice_index, sum, IfSome};
+ghost use Rattle.std.specs.Prelude.{[], take, drop, ◌≡◌, ◌≤◌, ◌<◌, ◌+◌, ◌-◌, ◌^◌, ◌&&◌, min, nat_le, true, false, OnOk, OnErr, IsOk, length};
+ghost use Rattle.std.specs.Prelude.{slice_index, sum, IfSome};
 ghost use Rattle.std.specs.List.{list_all};
 ghost use Rattle.ft_model.specs.Log.{new_entry, with_bytes, with_its_fin, with_part, with_read, is_next_read, numbers_of_entry, kept_of, head_of, Entry};
 ghost use Rattle.logger_store.specs.Changes.{part_changes};
@@ -144,7 +145,8 @@ impl StoredEntry {
     /// The length of the read with this index, counted from 0.
     pub fn read_length(&self, index: u32) -> u16
         requires { index < length self.now.lengths }
-        ensures { result ≡ slice_index self.now.lengths index }
+        ensures value { result ≡ slice_index self.now.lengths index }
+        ensures within { result ≤ 2048 }
     {
         self.lengths.at(index as usize)
     }
@@ -267,14 +269,14 @@ impl StoredEntry {
 
     /// Discards the lengths of the first `reads` reads, and the complete pages of the `bytes` bytes that they took. Nothing is allocated.
     #[tactic(auto, using(crate::proofs::Without::kept_without, crate::proofs::Without::below_there))]
-    pub fn give_up(&mut self, bytes: u32, reads: u32)
+    pub fn discard(&mut self, bytes: u32, reads: u32)
         requires there { reads ≤ length self.old.lengths }
         requires took { bytes ≡ sum (take reads self.old.lengths) }
         requires on { reads_on (take reads self.old.lengths) ≡ true }
         ensures { self.new ≡ without bytes reads self.old }
     {
-        self.bytes.give_up(bytes as usize / PAGE);
-        self.lengths.give_up(reads);
+        self.bytes.discard(bytes as usize / PAGE);
+        self.lengths.discard(reads);
     }
 
     /// Notes that at least `units` units of output are acknowledged.

@@ -1,11 +1,12 @@
 //! A log store that can be trimmed. No answer reports what is *trimmed*. Of it, the lengths and the complete pages are *discarded*: they are no longer stored.
 
 ghost use Rattle.limits.specs.Limits.{most_entries, most_units};
-ghost use Rattle.std.specs.Prelude.{[], ◌≡◌, ◌≤◌, ◌<◌, ◌+◌, ◌-◌, ◌^◌, ◌&&◌, ◌==◌, true, false, None, option_map, option_copied, IfSome, OnOk, OnErr, IsOk, length, sum, take, slice_get, slice_index, slice_index_or, slice_set, if◌then◌else◌};
+ghost use Rattle.std.specs.Prelude.{[], ◌≡◌, ◌≤◌, ◌<◌, ◌+◌, ◌-◌, ◌^◌, ◌&&◌, ◌==◌, true, false, None, option_map, option_copied, IfSome, OnOk, OnErr};
+ghost use Rattle.std.specs.Prelude.{IsOk, length, sum, take, slice_get, slice_index, slice_index_or, slice_set, if◌then◌else◌};
 ghost use Rattle.ft_model.specs.Log.{head_of, with_entry, log_after, answer_to};
 ghost use Rattle.logger_wire.specs.Records.{head_said};
-ghost use Rattle.logger_wire.specs.Value.{body_of, message_of, IsSendable};
-ghost use Rattle.logger_store.specs.StoreState.{acknowledging, answer_bytes, wants_memory, bytes_of, lengths_of};
+ghost use Rattle.logger_wire.specs.Value.{body_of, message_of, IsSendable, IsSendableBy};
+ghost use Rattle.logger_store.specs.StoreState.{acknowledging, answer_bytes, answer_bytes_by, wants_memory, bytes_of, lengths_of};
 ghost use Rattle.log_pages.specs.Pages.{pages, place_of, reads_on, took};
 
 use crate::msg_out::MsgOut;
@@ -13,7 +14,7 @@ use crate::store::LogStore;
 use ft_io::{Key, NoMemory};
 use limits::ENTRIES;
 use log_pages::PAGE;
-use logger_wire::{Body, EntryHead, Msg};
+use logger_wire::{Body, EntryHead, Grammar, Msg};
 use std::alloc::Global;
 use std::marker::Model;
 
@@ -142,7 +143,6 @@ impl TrimStore {
 
     /// Takes a message, and replaces the content of `out` by the answer to it, or by nothing, as `LogStore::answer` does; but it doesn't answer questions with
     /// the log's boot number about what is trimmed. After `NoMemory` the log is unchanged, `out` empty.
-    #[tactic(auto, unfolding(crate::specs::Trim::answer_left))]
     pub fn answer(&mut self, alloc: Global, m: &Msg<'_>, out: &mut MsgOut) -> Result<(), NoMemory>
         requires { IsSendable m.now }
         ensures next { OnOk result (self.new.log ≡ log_after self.old.log (message_of m.now)) }
@@ -152,11 +152,31 @@ impl TrimStore {
         ensures memory { wants_memory self.old.log (message_of m.now) ≡ false → IsOk result }
         ensures trims { self.new.trims ≡ self.old.trims }
     {
+        self.answer_by(alloc, Grammar::Plain, m, out)
+    }
+
+    /// Takes a message of a grammar, and replaces the content of `out` by the answer to it in that grammar, or by nothing.
+    #[tactic(auto, unfolding(crate::specs::Trim::answer_left))]
+    pub fn answer_by(
+        &mut self,
+        alloc: Global,
+        grammar: Grammar,
+        m: &Msg<'_>,
+        out: &mut MsgOut,
+    ) -> Result<(), NoMemory>
+        requires { IsSendableBy grammar m.now }
+        ensures next { OnOk result (self.new.log ≡ log_after self.old.log (message_of m.now)) }
+        ensures answer { OnOk result (out.new ≡ answer_bytes_by grammar (answer_left self.old (message_of m.now))) }
+        ensures refused { OnErr result (self.new.log ≡ self.old.log) }
+        ensures empty { OnErr result (out.new ≡ []) }
+        ensures memory { wants_memory self.old.log (message_of m.now) ≡ false → IsOk result }
+        ensures trims { self.new.trims ≡ self.old.trims }
+    {
         if self.hides(m) {
             out.clear();
             return Ok(());
         }
-        self.log.answer(alloc, m, out)
+        self.log.answer_by(alloc, grammar, m, out)
     }
 
     /// The place of a key's entry, counted from 0; `None` if the key has no entry.
@@ -195,7 +215,7 @@ impl TrimStore {
         if i >= self.count() {
             return;
         }
-        self.log.give_up(i, bytes, reads);
+        self.log.discard(i, bytes, reads);
         self.trims[usize::from(i)] = Trim { bytes, reads };
     }
 

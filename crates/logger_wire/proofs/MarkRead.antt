@@ -80,21 +80,21 @@ turned false x y = refl
 tested : (kind : MarkKind) (bytes : List ℕ) → word_at bytes 4 ≡ length bytes → has_length kind (length bytes) ≡ true → checksum bytes ≡ 0
     → reading_of kind bytes ≡ (if is_sound_in kind bytes then Ok (message_in kind bytes) else Err bad.Field)
 unfolding reading_of
-tested kind bytes says size sum =
-    rw (no_difference _ _ says, size, no_difference _ _ sum) (turned (is_sound_in kind bytes) (Ok (message_in kind bytes)) (Err bad.Field))
+tested kind bytes datagram_of size sum =
+    rw (no_difference _ _ datagram_of, size, no_difference _ _ sum) (turned (is_sound_in kind bytes) (Ok (message_in kind bytes)) (Err bad.Field))
 
 pub is_refused : (kind : MarkKind) (bytes : List ℕ) (boot : ℕ) (body : MarkBody) → word_at bytes 4 ≡ length bytes → has_length kind (length bytes) ≡ true → checksum bytes ≡ 0
     → boot ≡ number_in 8 (drop 8 bytes) → body ≡ said_in kind bytes → is_sound (kind_of body) boot (length (behind_of body)) (numbers_of body) ≡ false
     → Err bad.Field ≡ reading_of kind bytes
-is_refused kind bytes boot body says size sum boot_is body_is is =
-    sym (tested kind bytes says size sum ∙ ap (λ b. if b then Ok (message_in kind bytes) else Err bad.Field) (sound_is kind bytes boot body false boot_is body_is is))
+is_refused kind bytes boot body datagram_of size sum boot_is body_is is =
+    sym (tested kind bytes datagram_of size sum ∙ ap (λ b. if b then Ok (message_in kind bytes) else Err bad.Field) (sound_is kind bytes boot body false boot_is body_is is))
 
 pub is_read : (kind : MarkKind) (bytes : List ℕ) (boot : ℕ) (body : MarkBody) → word_at bytes 4 ≡ length bytes → has_length kind (length bytes) ≡ true → checksum bytes ≡ 0
     → boot ≡ number_in 8 (drop 8 bytes) → body ≡ said_in kind bytes → is_sound (kind_of body) boot (length (behind_of body)) (numbers_of body) ≡ true
     → Ok (record { boot = boot; body = body }) ≡ reading_of kind bytes
 unfolding message_in
-is_read kind bytes boot body says size sum boot_is body_is is =
-    sym (tested kind bytes says size sum ∙ ap (λ b. if b then Ok (message_in kind bytes) else Err bad.Field) (sound_is kind bytes boot body true boot_is body_is is)
+is_read kind bytes boot body datagram_of size sum boot_is body_is is =
+    sym (tested kind bytes datagram_of size sum ∙ ap (λ b. if b then Ok (message_in kind bytes) else Err bad.Field) (sound_is kind bytes boot body true boot_is body_is is)
     ∙ ap₂ (λ n b. Ok (record { boot = n; body = b })) (sym boot_is) (sym body_is))
 
 fit : (kind : MarkKind) (bytes : List ℕ) → AreBytes bytes → AllFit (fields_of (kind_of (said_in kind bytes))) (numbers_of (said_in kind bytes))

@@ -1,5 +1,5 @@
 -- What a write at a place of a slice leaves, and writes one after the other. With the first bytes written out, writes at constant places compute.
-use Rattle.std.proofs.Common.{◌≡◌, ℕ, zero, suc, ◌≤◌, ◌+◌, ◌-◌, Bool, true, false, List, [], ◌∷◌, ◌++◌, length, length-append, length-take-le, take, drop, get_or, ap, refl, sym, subst, arith, append_assoc, append-nil, ◌∙◌}
+use Rattle.std.proofs.Common.{◌≡◌, ℕ, zero, suc, ◌≤◌, ◌<◌, ◌%◌, ◌+◌, ◌-◌, Bool, true, false, List, [], ◌∷◌, ◌++◌, length, length-append, length-take-le, take, drop, get_or, ap, refl, sym, subst, arith, append_assoc, append-nil, ◌∙◌}
 use Rattle.std.proofs.lemmas.List.{take_rest, drop-drop, drop_all}
 use Rattle.std.proofs.Math.Seq.{take-append_seam, drop-append-add}
 use borrow.Rule.Slice.PartMut.{put_mid, post_of}
@@ -31,6 +31,10 @@ pub flag_byte : (is_set : Bool) → (bool_byte is_set ∷ []) ≡ number_bytes 1
 unfolding number_bytes
 flag_byte true = refl
 flag_byte false = refl
+
+pub byte_bytes : (n : ℕ) → n < 256 → (n ∷ []) ≡ number_bytes 1 n
+unfolding number_bytes
+byte_bytes n small = let same : n ≡ n % 256 = omega (arith, small) in cc same
 
 -- the first n bytes written out
 abbrev front : ℕ → List ℕ → List ℕ

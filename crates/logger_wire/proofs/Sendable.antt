@@ -1,18 +1,20 @@
 -- What is read may be sent: its numbers are those that were read, and each of them is in its range.
 use Rattle.std.proofs.Common.{◌≡◌, ℕ, zero, suc, ◌≤◌, ◌+◌, ◌%◌, ◌^◌, Bool, true, not, List, [], ◌∷◌, length, length-drop, drop, ap, refl, sym, subst, arith, ◌∙◌}
-use Rattle.std.specs.Prelude.{Result, Ok, Err, IfOk, ◌&&◌, ◌||◌, nat_eq, nat_le, slice_index}
+use Rattle.std.specs.Prelude.{Result, Ok, Err, IfOk, if◌then◌else◌, ◌&&◌, ◌||◌, nat_eq, nat_le, slice_index}
 use Rattle.std.specs.List.{list_all}
-use Rattle.std.proofs.lemmas.Bool.{leb-true, and_from, and_parts}
+use Rattle.std.proofs.lemmas.Bool.{leb-true, le-leb, and_from, and_parts}
 use Rattle.seq_arith.specs.declared.kinds.BadMsg.{BadMsg}
+use Rattle.seq_arith.specs.declared.kinds.Grammar.{Grammar}
+use Rattle.seq_arith.specs.declared.kinds.Grammar.TheVariants as grammars
 use Rattle.seq_arith.specs.declared.kinds.Kind.{Kind}
 use Rattle.seq_arith.specs.declared.kinds.Kind.TheVariants as kinds
 use Rattle.seq_arith.specs.declared.kinds.Field.{Field}
 use Rattle.seq_arith.specs.Bytes.{two}
 use Rattle.seq_arith.specs.Message.{Body}
-use Rattle.seq_arith.specs.MessageGrammar.{number_in, fields_of, most_behind, width, behind_at, has_length, is_lens, all_in_range, numbers_in, lens_in, lens_bytes, kind_of, numbers_of, behind_of, lens_of, flag, body_in, message_in, is_sound, is_sound_in, reading_of, AllFit, IsSpellable}
+use Rattle.seq_arith.specs.MessageGrammar.{number_in, fields_of, most_behind, width, behind_at, has_length, is_lens, most_ending, all_in_range_by, numbers_in, lens_in, lens_bytes, kind_of, numbers_of, behind_of, lens_of, flag, body_in, message_in, is_sound_by, is_sound_in, reading_of, AllFit, IsSpellableBy}
 use Rattle.seq_arith.proofs.MessageSpelling.{bounded}
 use Rattle.logger_wire.specs.declared.Msg.{Msg}
-use Rattle.logger_wire.specs.Value.{IsSendable, left_over, message_of, seen}
+use Rattle.logger_wire.specs.Value.{IsSendableBy, left_over, message_of, seen}
 use Rattle.logger_wire.proofs.NumbersRead.{AreBytes, bytes_left, number_small}
 use Rattle.logger_wire.proofs.Placed.{tests_passed}
 
@@ -24,10 +26,21 @@ flag_again zero h = refl
 flag_again (suc zero) h = refl
 flag_again (suc (suc n)) h = absurd (omega (arith, leb-true (suc (suc n)) 1 h))
 
+-- so is the ending of a Data
+ending_again : (n : ℕ) → nat_le n 2 ≡ true → flag (nat_eq n 1) + (if nat_eq n 2 then 2 else 0) ≡ n
+ending_again zero h = refl
+ending_again (suc zero) h = refl
+ending_again (suc (suc zero)) h = refl
+ending_again (suc (suc (suc n))) h = absurd (omega (arith, leb-true (suc (suc (suc n))) 2 h))
+
+-- it is in no grammar above 2
+ending_low : (grammar : Grammar) (n : ℕ) → nat_le n (most_ending grammar) ≡ true → nat_le n 2 ≡ true
+ending_low grammars.Plain n h = le-leb n 2 (omega (arith, leb-true n 1 h))
+ending_low grammars.Wide n h = h
+
 -- the flags among a kind's numbers, and how many of the bytes after them are left over where a length has two
 abbrev flags_in : Kind → List ℕ → List ℕ
 flags_in kinds.Entry numbers = slice_index numbers 7 ∷ slice_index numbers 8 ∷ []
-flags_in kinds.Data numbers = slice_index numbers 4 ∷ []
 flags_in kinds.Stable numbers = slice_index numbers 3 ∷ []
 flags_in kinds.Reads numbers = slice_index numbers 3 ∷ []
 flags_in _ numbers = []
@@ -35,6 +48,11 @@ flags_in _ numbers = []
 abbrev left_over_in : Kind → List ℕ → ℕ
 left_over_in kinds.Lens behind = length behind % 2
 left_over_in _ behind = 0
+
+-- where a kind's numbers say how a Data ends, they say it in range
+abbrev ending_good : Kind → List ℕ → Bool
+ending_good kinds.Data numbers = nat_le (slice_index numbers 4) 2
+ending_good _ numbers = true
 
 -- the numbers of a kind's fields
 abbrev read : Kind → List ℕ → List ℕ
@@ -69,61 +87,84 @@ entry_flags place least most len fin done rest good =
     in and_from fin (done && true) from_fin.0 (and_from done true (and_parts done rest from_fin.1).0 refl)
 
 -- flags in their range are flags
-flags_good : (kind : Kind) (boot behind : ℕ) (bytes : List ℕ) → all_in_range boot behind (fields_of kind) (read kind bytes) ≡ true
+flags_good : (grammar : Grammar) (kind : Kind) (boot behind : ℕ) (bytes : List ℕ) → all_in_range_by grammar boot behind (fields_of kind) (read kind bytes) ≡ true
     → are_flags (flags_in kind (read kind bytes)) ≡ true
-flags_good kinds.Hello boot behind bytes good = refl
-flags_good kinds.Summary boot behind bytes good = refl
-flags_good kinds.List boot behind bytes good = refl
-flags_good kinds.Entry boot behind bytes good =
+flags_good grammar kinds.Hello boot behind bytes good = refl
+flags_good grammar kinds.Summary boot behind bytes good = refl
+flags_good grammar kinds.List boot behind bytes good = refl
+flags_good grammar kinds.Entry boot behind bytes good =
     let at : ℕ → ℕ = λ i. slice_index (read kinds.Entry bytes) i
     in entry_flags (nat_le (at 0) 63) (nat_le 64 (at 5)) (nat_le (at 5) 1460) (nat_le (at 6) (2 ^ 24)) (nat_le (at 7) 1) (nat_le (at 8) 1)
     (nat_le (at 9) (2 ^ 24 + 1) && (nat_le (at 10) (2 ^ 24 + 1) && true)) good
-flags_good kinds.Bytes boot behind bytes good = refl
-flags_good kinds.Part boot behind bytes good = refl
-flags_good kinds.Cuts boot behind bytes good = refl
-flags_good kinds.Lens boot behind bytes good = refl
-flags_good kinds.Open boot behind bytes good = refl
-flags_good kinds.Opened boot behind bytes good = refl
-flags_good kinds.Data boot behind bytes good = (and_parts _ _ (and_parts _ _ good).1).1
-flags_good kinds.Stable boot behind bytes good =
+flags_good grammar kinds.Bytes boot behind bytes good = refl
+flags_good grammar kinds.Part boot behind bytes good = refl
+flags_good grammar kinds.Cuts boot behind bytes good = refl
+flags_good grammar kinds.Lens boot behind bytes good = refl
+flags_good grammar kinds.Open boot behind bytes good = refl
+flags_good grammar kinds.Opened boot behind bytes good = refl
+flags_good grammar kinds.Data boot behind bytes good = refl
+flags_good grammar kinds.Stable boot behind bytes good =
     let from_flag = (and_parts _ _ good).1 in and_from _ _ (and_parts _ _ from_flag).0 refl
-flags_good kinds.Read boot behind bytes good = refl
-flags_good kinds.Reads boot behind bytes good =
+flags_good grammar kinds.Read boot behind bytes good = refl
+flags_good grammar kinds.Reads boot behind bytes good =
     let from_flag = (and_parts _ _ good).1 in and_from _ _ (and_parts _ _ from_flag).0 refl
-flags_good kinds.Done boot behind bytes good = refl
-flags_good kinds.Ended boot behind bytes good = refl
-flags_good kinds.Stale boot behind bytes good = refl
-flags_good kinds.Full boot behind bytes good = refl
+flags_good grammar kinds.Done boot behind bytes good = refl
+flags_good grammar kinds.Ended boot behind bytes good = refl
+flags_good grammar kinds.Stale boot behind bytes good = refl
+flags_good grammar kinds.Full boot behind bytes good = refl
+
+-- and an ending is
+ending_in : (grammar : Grammar) (kind : Kind) (boot behind : ℕ) (bytes : List ℕ) → all_in_range_by grammar boot behind (fields_of kind) (read kind bytes) ≡ true
+    → ending_good kind (read kind bytes) ≡ true
+ending_in grammar kinds.Hello boot behind bytes good = refl
+ending_in grammar kinds.Summary boot behind bytes good = refl
+ending_in grammar kinds.List boot behind bytes good = refl
+ending_in grammar kinds.Entry boot behind bytes good = refl
+ending_in grammar kinds.Bytes boot behind bytes good = refl
+ending_in grammar kinds.Part boot behind bytes good = refl
+ending_in grammar kinds.Cuts boot behind bytes good = refl
+ending_in grammar kinds.Lens boot behind bytes good = refl
+ending_in grammar kinds.Open boot behind bytes good = refl
+ending_in grammar kinds.Opened boot behind bytes good = refl
+ending_in grammar kinds.Data boot behind bytes good =
+    ending_low grammar (slice_index (read kinds.Data bytes) 4) (and_parts _ _ (and_parts _ _ (and_parts _ _ good).1).1).0
+ending_in grammar kinds.Stable boot behind bytes good = refl
+ending_in grammar kinds.Read boot behind bytes good = refl
+ending_in grammar kinds.Reads boot behind bytes good = refl
+ending_in grammar kinds.Done boot behind bytes good = refl
+ending_in grammar kinds.Ended boot behind bytes good = refl
+ending_in grammar kinds.Stale boot behind bytes good = refl
+ending_in grammar kinds.Full boot behind bytes good = refl
 
 -- a body that was read says the numbers that were read
-numbers_again : (kind : Kind) (bytes behind : List ℕ) → are_flags (flags_in kind (read kind bytes)) ≡ true
+numbers_again : (kind : Kind) (bytes behind : List ℕ) → are_flags (flags_in kind (read kind bytes)) ≡ true → ending_good kind (read kind bytes) ≡ true
     → numbers_of (body_in kind (read kind bytes) behind) ≡ read kind bytes
-numbers_again kinds.Hello bytes behind flags = refl
-numbers_again kinds.Summary bytes behind flags = refl
-numbers_again kinds.List bytes behind flags = refl
-numbers_again kinds.Entry bytes behind flags =
+numbers_again kinds.Hello bytes behind flags ends = refl
+numbers_again kinds.Summary bytes behind flags ends = refl
+numbers_again kinds.List bytes behind flags ends = refl
+numbers_again kinds.Entry bytes behind flags ends =
     let at : ℕ → ℕ = λ i. slice_index (read kinds.Entry bytes) i
     in let both = and_parts (nat_le (at 7) 1) (nat_le (at 8) 1 && true) flags
     in let fin : flag (nat_eq (at 7) 1) ≡ at 7 = flag_again (at 7) both.0
     in let done : flag (nat_eq (at 8) 1) ≡ at 8 = flag_again (at 8) (and_parts (nat_le (at 8) 1) true both.1).0
     in cc (fin, done)
-numbers_again kinds.Bytes bytes behind flags = refl
-numbers_again kinds.Part bytes behind flags = refl
-numbers_again kinds.Cuts bytes behind flags = refl
-numbers_again kinds.Lens bytes behind flags = refl
-numbers_again kinds.Open bytes behind flags = refl
-numbers_again kinds.Opened bytes behind flags = refl
-numbers_again kinds.Data bytes behind flags =
-    let n : ℕ = slice_index (read kinds.Data bytes) 4 in let fin : flag (nat_eq n 1) ≡ n = flag_again n (and_parts (nat_le n 1) true flags).0 in cc fin
-numbers_again kinds.Stable bytes behind flags =
+numbers_again kinds.Bytes bytes behind flags ends = refl
+numbers_again kinds.Part bytes behind flags ends = refl
+numbers_again kinds.Cuts bytes behind flags ends = refl
+numbers_again kinds.Lens bytes behind flags ends = refl
+numbers_again kinds.Open bytes behind flags ends = refl
+numbers_again kinds.Opened bytes behind flags ends = refl
+numbers_again kinds.Data bytes behind flags ends =
+    let n : ℕ = slice_index (read kinds.Data bytes) 4 in let same : flag (nat_eq n 1) + (if nat_eq n 2 then 2 else 0) ≡ n = ending_again n ends in cc same
+numbers_again kinds.Stable bytes behind flags ends =
     let n : ℕ = slice_index (read kinds.Stable bytes) 3 in let fin : flag (nat_eq n 1) ≡ n = flag_again n (and_parts (nat_le n 1) true flags).0 in cc fin
-numbers_again kinds.Read bytes behind flags = refl
-numbers_again kinds.Reads bytes behind flags =
+numbers_again kinds.Read bytes behind flags ends = refl
+numbers_again kinds.Reads bytes behind flags ends =
     let n : ℕ = slice_index (read kinds.Reads bytes) 3 in let fin : flag (nat_eq n 1) ≡ n = flag_again n (and_parts (nat_le n 1) true flags).0 in cc fin
-numbers_again kinds.Done bytes behind flags = refl
-numbers_again kinds.Ended bytes behind flags = refl
-numbers_again kinds.Stale bytes behind flags = refl
-numbers_again kinds.Full bytes behind flags = refl
+numbers_again kinds.Done bytes behind flags ends = refl
+numbers_again kinds.Ended bytes behind flags ends = refl
+numbers_again kinds.Stale bytes behind flags ends = refl
+numbers_again kinds.Full bytes behind flags ends = refl
 
 -- numbers that were read fit their fields
 pub read_fit : (fields : List Field) (bytes : List ℕ) → AreBytes bytes → AllFit fields (numbers_in fields bytes)
@@ -186,10 +227,10 @@ no_rest kind n behind is size =
     in none_left kind behind (ap (λ k. not (is_lens kind) || nat_eq (k % 2) 0) (sym is) ∙ even)
 
 -- a message that was read has a spelling
-read_spellable : (kind : Kind) (bytes : List ℕ) → AreBytes bytes → has_length kind (length bytes) ≡ true → is_sound_in kind bytes ≡ true
-    → IsSpellable (message_in kind bytes)
-unfolding message_in is_sound is_sound_in
-read_spellable kind bytes are size sound =
+read_spellable : (grammar : Grammar) (kind : Kind) (bytes : List ℕ) → AreBytes bytes → has_length kind (length bytes) ≡ true → is_sound_in grammar kind bytes ≡ true
+    → IsSpellableBy grammar (message_in kind bytes)
+unfolding message_in is_sound_by is_sound_in
+read_spellable grammar kind bytes are size sound =
     let fields : List ℕ = drop 16 bytes
     in let behind : List ℕ = drop (behind_at kind) bytes
     in let body : Body = body_in kind (read kind fields) behind
@@ -197,11 +238,11 @@ read_spellable kind bytes are size sound =
     in let within = bounded kind (length bytes) size
     in let count : length bytes ≡ behind_at kind + length behind = omega (arith, length-drop (behind_at kind) bytes)
     in let few : length behind ≤ most_behind kind = omega arith
-    in let good : all_in_range boot (length behind) (fields_of kind) (read kind fields) ≡ true = (and_parts _ _ (and_parts _ _ sound).0).1
-    in let again : numbers_of body ≡ read kind fields = numbers_again kind fields behind (flags_good kind boot (length behind) fields good)
+    in let good : all_in_range_by grammar boot (length behind) (fields_of kind) (read kind fields) ≡ true = (and_parts _ _ (and_parts _ _ sound).0).1
+    in let again : numbers_of body ≡ read kind fields = numbers_again kind fields behind (flags_good grammar kind boot (length behind) fields good) (ending_in grammar kind boot (length behind) fields good)
     in let as_many : length (behind_of body) ≡ length behind = same_behind kind (read kind fields) behind few (no_rest kind (length bytes) behind count size)
     in let Fit : Kind → List ℕ → Type 0 = λ k numbers. AllFit (fields_of k) numbers
-    in let Sound : Kind → ℕ → List ℕ → Type 0 = λ k n numbers. is_sound k boot n numbers (lens_of body) ≡ true
+    in let Sound : Kind → ℕ → List ℕ → Type 0 = λ k n numbers. is_sound_by grammar k boot n numbers (lens_of body) ≡ true
     in let Sized : Kind → ℕ → Type 0 = λ k n. has_length k (behind_at k + n) ≡ true
     in let kind_is : kind ≡ kind_of body = sym (same_kind kind (read kind fields) behind)
     in let fit : Fit kind (numbers_of body) = subst (Fit kind) (sym again) (read_fit (fields_of kind) fields (bytes_left 16 bytes are))
@@ -216,9 +257,9 @@ read_spellable kind bytes are size sound =
     }
 
 -- what is read may be sent, if its lengths have two bytes each
-pub all_sendable : (kind : Kind) (bytes : List ℕ) (result : Result Msg BadMsg) → AreBytes bytes → seen result ≡ reading_of kind bytes
-    → IfOk result (λ msg. left_over msg.body ≡ 0) → IfOk result (λ msg. IsSendable msg)
-all_sendable kind bytes (Err bad) are says whole = tt
-all_sendable kind bytes (Ok msg) are says whole =
-    let tests = tests_passed kind bytes (message_of msg) says
-    in record { lens = whole; spellable = subst IsSpellable (sym tests.2) (read_spellable kind bytes are tests.0 tests.1) }
+pub all_sendable : (grammar : Grammar) (kind : Kind) (bytes : List ℕ) (result : Result Msg BadMsg) → AreBytes bytes → seen result ≡ reading_of grammar kind bytes
+    → IfOk result (λ msg. left_over msg.body ≡ 0) → IfOk result (λ msg. IsSendableBy grammar msg)
+all_sendable grammar kind bytes (Err bad) are datagram_of whole = tt
+all_sendable grammar kind bytes (Ok msg) are datagram_of whole =
+    let tests = tests_passed grammar kind bytes (message_of msg) datagram_of
+    in record { lens = whole; spellable = subst (IsSpellableBy grammar) (sym tests.2) (read_spellable grammar kind bytes are tests.0 tests.1) }

@@ -1,21 +1,22 @@
 -- A header with its checksum and what is after it are the one spelling of a datagram, and it is read.
-use Rattle.std.proofs.Common.{◌≡◌, ◌∙◌, ℕ, ◌+◌, ◌≤◌, List, ◌++◌, length, take, drop, ap, refl, sym, append_assoc}
+use Rattle.std.proofs.Common.{◌≡◌, ◌∙◌, ℕ, ◌+◌, ◌≤◌, true, List, ◌++◌, length, take, drop, ap, refl, sym, append_assoc}
 use Rattle.std.specs.Prelude.{Ok}
 use Rattle.std.proofs.Math.Seq.{take-append_seam}
 use Rattle.std.proofs.lemmas.List.{drop-drop}
+use Rattle.seq_arith.specs.declared.kinds.Grammar.{Grammar}
 use Rattle.seq_arith.specs.declared.twin.TwinKind.{TwinKind}
 use Rattle.seq_arith.specs.Bytes.{two}
 use Rattle.seq_arith.specs.Checksum.{checksum}
 use Rattle.seq_arith.specs.Header.{headed}
 use Rattle.seq_arith.specs.MessageGrammar.{number_bytes}
 use Rattle.seq_arith.specs.TwinDatagram.{TwinDatagram}
-use Rattle.seq_arith.specs.TwinGrammar.{kind_of, kind_number, number_of, behind_of, spelled, spelling, reading, IsSpellable}
+use Rattle.seq_arith.specs.TwinGrammar.{kind_of, kind_number, number_of, behind_of, has_length, spelled, spelling, reading_by, IsSpellableBy}
 use Rattle.seq_arith.proofs.TwinSpelling.{bounded, length_of, twin_is_read}
 use Rattle.logger_wire.specs.TwinHeader.{header_of}
 
 -- no datagram is longer than the room for one
-pub datagram_fits : (d : TwinDatagram) → IsSpellable d → 16 + length (behind_of d) ≤ 1507
-datagram_fits d spellable = bounded (kind_of d) (16 + length (behind_of d)) spellable.size
+pub datagram_fits : (d : TwinDatagram) → has_length (kind_of d) (16 + length (behind_of d)) ≡ true → 16 + length (behind_of d) ≤ 1507
+datagram_fits d fits = bounded (kind_of d) (16 + length (behind_of d)) fits
 
 -- what was written at the front is the whole datagram
 pub datagram_whole : (d : TwinDatagram) (rest : List ℕ) (len : ℕ) → len ≡ 16 + length (behind_of d) → take len (spelling d ++ rest) ≡ spelling d
@@ -53,5 +54,6 @@ assembled d kind len number check behind blank front written rest out kind_is nu
     ∙ sym (append_assoc (header_of kind len check number) behind (drop len out))
     ∙ ap (λ xs. xs ++ drop len out) (with_header d kind len number check behind kind_is number_is behind_is len_is ∙ ap (spelled d) sum)
 
-pub read_back : (d : TwinDatagram) (out : List ℕ) (len : ℕ) → IsSpellable d → len ≡ 16 + length (behind_of d) → reading (take len (spelling d ++ drop len out)) ≡ Ok d
-read_back d out len spellable is = ap reading (datagram_whole d (drop len out) len is) ∙ twin_is_read d spellable
+pub read_back : (grammar : Grammar) (d : TwinDatagram) (out : List ℕ) (len : ℕ) → IsSpellableBy grammar d → len ≡ 16 + length (behind_of d)
+    → reading_by grammar (take len (spelling d ++ drop len out)) ≡ Ok d
+read_back grammar d out len spellable is = ap (reading_by grammar) (datagram_whole d (drop len out) len is) ∙ twin_is_read d spellable

@@ -3,6 +3,7 @@ use Rattle.std.specs.Prelude.{ℕ, Bool, not, List, [], ◌∷◌, length, drop,
 use Rattle.std.specs.List.{list_all}
 use Rattle.seq_arith.specs.declared.kinds.BadMsg.{BadMsg}
 use Rattle.seq_arith.specs.declared.kinds.BadMsg.TheVariants as bad
+use Rattle.seq_arith.specs.declared.kinds.Grammar.{Grammar}
 use Rattle.seq_arith.specs.declared.kinds.Kind.{Kind}
 use Rattle.seq_arith.specs.declared.kinds.Kind.TheVariants as kinds
 use Rattle.seq_arith.specs.declared.kinds.Field.{Field}
@@ -11,7 +12,8 @@ use Rattle.seq_arith.specs.Bytes.{word_at}
 use Rattle.seq_arith.specs.Checksum.{checksum}
 use Rattle.seq_arith.specs.Message as said
 use Rattle.seq_arith.specs.Message.{Body, Message}
-use Rattle.seq_arith.specs.MessageGrammar.{number_in, width, opening, kept, fields_of, fewest_behind, most_behind, behind_at, is_lens, all_in_range, lens_of, opening_in, kept_in, entry_in, part_in, body_in}
+use Rattle.seq_arith.specs.MessageGrammar.{number_in, width, opening, kept, fields_of, fewest_behind, most_behind, behind_at, is_lens, all_in_range}
+use Rattle.seq_arith.specs.MessageGrammar.{all_in_range_by, lens_of, opening_in, kept_in, entry_in, part_in, body_in}
 
 -- the number in the `width` bytes at a position
 unfoldable pub number_at : (width at : ℕ) → List ℕ → ℕ
@@ -33,12 +35,12 @@ opened least most bytes =
     else (if not (checksum bytes == 0) then Err bad.Sum else checked (nat_le 1 (number_at 8 8 bytes)) (number_at 8 8 bytes))
 
 -- the body of a message of this kind
-abbrev pub body_at : Kind → (boot : ℕ) → List ℕ → Result Body BadMsg
-body_at kind boot bytes =
+abbrev pub body_at : Grammar → Kind → (boot : ℕ) → List ℕ → Result Body BadMsg
+body_at grammar kind boot bytes =
     let numbers = numbers_at (fields_of kind) 16 bytes
     in let behind = drop (behind_at kind) bytes
     in let body = body_in kind numbers behind
-    in checked (list_all (λ len. nat_le len 2048) (lens_of body) && all_in_range boot (length behind) (fields_of kind) numbers) body
+    in checked (list_all (λ len. nat_le len 2048) (lens_of body) && all_in_range_by grammar boot (length behind) (fields_of kind) numbers) body
 
 abbrev pub with_body : ℕ → Result Body BadMsg → Result Message BadMsg
 with_body boot (Ok body) = Ok (record { boot = boot; body = body })
@@ -49,10 +51,10 @@ with_boot (Ok boot) body = with_body boot (body boot)
 with_boot (Err bad) body = Err bad
 
 -- a message of this kind
-abbrev pub placed : Kind → List ℕ → Result Message BadMsg
-placed kind bytes =
+abbrev pub placed : Grammar → Kind → List ℕ → Result Message BadMsg
+placed grammar kind bytes =
     if is_lens kind && not (length bytes % 2 == 0) then Err bad.Length
-    else with_boot (opened (behind_at kind + fewest_behind kind) (behind_at kind + most_behind kind) bytes) (λ boot. body_at kind boot bytes)
+    else with_boot (opened (behind_at kind + fewest_behind kind) (behind_at kind + most_behind kind) bytes) (λ boot. body_at grammar kind boot bytes)
 
 -- the records read from bytes
 abbrev pub opening_at : List ℕ → Result said.Numbers BadMsg
@@ -69,11 +71,11 @@ abbrev pub head_at : List ℕ → Result said.EntryHead BadMsg
 head_at bytes =
     let numbers = numbers_at entry_fields (16 + width fields.Place) bytes in checked (all_in_range 0 0 entry_fields numbers) (entry_in (0 ∷ numbers))
 
-abbrev pub part_at : List ℕ → Result said.Part BadMsg
-part_at bytes =
+abbrev pub part_at : Grammar → List ℕ → Result said.Part BadMsg
+part_at grammar bytes =
     let numbers = numbers_at (fields_of kinds.Data) 16 bytes
     in let behind = drop (behind_at kinds.Data) bytes
-    in checked (all_in_range 0 (length behind) (fields_of kinds.Data) numbers) (part_in numbers behind)
+    in checked (all_in_range_by grammar 0 (length behind) (fields_of kinds.Data) numbers) (part_in numbers behind)
 
 -- a result of reading, as a plain record
 abbrev pub read_as : {A B : Type 0} → (A → B) → Result A BadMsg → Result B BadMsg

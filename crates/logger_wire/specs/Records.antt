@@ -25,4 +25,4 @@ head_said head = record {
 }
 
 abbrev pub part_said : Part → said.Part
-part_said part = record { key = part.key; offset = part.offset; acked = part.acked; fin = part.fin; bytes = part.bytes.now }
+part_said part = record { key = part.key; offset = part.offset; acked = part.acked; fin = part.fin; more = part.more; bytes = part.bytes.now }

@@ -1,5 +1,6 @@
 -- A message as it is written, part by part.
 use Rattle.std.specs.Prelude.{ℕ, List, ◌++◌, ◌+◌, length, take, drop}
+use Rattle.seq_arith.specs.declared.kinds.Grammar.{Grammar}
 use Rattle.seq_arith.specs.declared.kinds.Kind.{Kind}
 use Rattle.seq_arith.specs.Checksum.{checksum}
 use Rattle.seq_arith.specs.Message.{Body}
@@ -14,12 +15,12 @@ unfoldable pub body_bytes : Body → List ℕ
 body_bytes body = numbers_bytes (fields_of (kind_of body)) (numbers_of body) ++ behind_of body
 
 -- a message of a kind with this checksum, and then with the right one
-unfoldable pub text : Kind → (boot : ℕ) → (behind : List ℕ) → (check : ℕ) → List ℕ
-text kind boot behind check = header kind (16 + length behind) check boot ++ behind
+unfoldable pub text : Grammar → Kind → (boot : ℕ) → (behind : List ℕ) → (check : ℕ) → List ℕ
+text grammar kind boot behind check = header grammar kind (16 + length behind) check boot ++ behind
 
-unfoldable pub sealed : Kind → (boot : ℕ) → (behind : List ℕ) → List ℕ
-sealed kind boot behind = text kind boot behind (checksum (text kind boot behind 0))
+unfoldable pub sealed : Grammar → Kind → (boot : ℕ) → (behind : List ℕ) → List ℕ
+sealed grammar kind boot behind = text grammar kind boot behind (checksum (text grammar kind boot behind 0))
 
 -- what bytes become when a message's header is written before the body that is already in place
-unfoldable pub framed : Kind → (boot len : ℕ) → List ℕ → List ℕ
-framed kind boot len bytes = put 0 (sealed kind boot (drop 16 (take len bytes))) bytes
+unfoldable pub framed : Grammar → Kind → (boot len : ℕ) → List ℕ → List ℕ
+framed grammar kind boot len bytes = put 0 (sealed grammar kind boot (drop 16 (take len bytes))) bytes

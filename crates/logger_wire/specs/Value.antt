@@ -1,10 +1,12 @@
 -- The code's messages as plain records of the message grammar, and which of them may be sent.
 use Rattle.std.specs.Prelude.{ℕ, ◌≡◌, ◌%◌, length, Result, Ok, Err}
 use Rattle.seq_arith.specs.declared.kinds.BadMsg.{BadMsg}
+use Rattle.seq_arith.specs.declared.kinds.Grammar.{Grammar}
+use Rattle.seq_arith.specs.declared.kinds.Grammar.TheVariants.{Plain}
 use Rattle.seq_arith.specs.Message as said
 use Rattle.seq_arith.specs.Message.{Message}
 use Rattle.seq_arith.specs.Message.{Body as bodies}
-use Rattle.seq_arith.specs.MessageGrammar.{lens_in, IsSpellable}
+use Rattle.seq_arith.specs.MessageGrammar.{lens_in, IsSpellableBy}
 use Rattle.logger_wire.specs.declared.Msg.{Msg}
 use Rattle.logger_wire.specs.declared.Body.{Body}
 use Rattle.logger_wire.specs.declared.Body.TheVariants as body
@@ -43,7 +45,11 @@ abbrev pub left_over : Body → ℕ
 left_over (body.Lens key first lens) = length lens.now % 2
 left_over _ = 0
 
--- a message may be sent: its lengths have two bytes each, each field is in its range, and its kind allows its length
-pub record IsSendable (msg : Msg) : Type 0 where
+-- a message may be sent in a grammar: its lengths have two bytes each, each field is in its range, and its kind allows its length
+pub record IsSendableBy (grammar : Grammar) (msg : Msg) : Type 0 where
   pub lens : left_over msg.body ≡ 0
-  pub spellable : IsSpellable (message_of msg)
+  pub spellable : IsSpellableBy grammar (message_of msg)
+
+-- .. in the plain one
+abbrev pub IsSendable : Msg → Type 0
+IsSendable msg = IsSendableBy Plain msg

@@ -1,18 +1,18 @@
-//! Wrong results that the contracts of this crate exclude. Each function calls another one of the crate, and promises of its result what a wrong body would make
-//! false. It is proved from the other's contract alone, so it is no longer proved once that contract lets the wrong body pass.
+//! Wrong results that the contracts of this crate exclude. Each function calls another one of the crate, and promises of its result what a wrong body would
+//! make false. It is proved from the other's contract alone, so it is no longer proved once that contract lets the wrong body pass.
 
-ghost use Rattle.std.specs.Prelude.{◌≡◌, ◌≤◌, false, length, take, Ok, Err};
+ghost use Rattle.std.specs.Prelude.{◌≡◌, ◌≤◌, true, false, length, take, Ok, Err};
 ghost use Rattle.seq_arith.specs.Message.Body.{HelloMsg};
 ghost use Rattle.seq_arith.specs.MessageGrammar.{reading};
 
 use crate::fields::offset;
-use crate::reading::open_within;
+use crate::reading::{open_within, read_msg};
 use crate::twin::table::is_asking;
 use crate::{Body, Msg, put_msg};
-use seq_arith::BadMsg;
+use seq_arith::{BadMsg, Grammar};
 
 /// A message is written with its own boot number: the clause `read` of `put_msg`.
-#[tactic(auto, unfolding(seq_arith::specs::MessageGrammar::is_sound, seq_arith::specs::MessageGrammar::has_length))]
+#[tactic(auto, unfolding(seq_arith::specs::MessageGrammar::is_sound_by, seq_arith::specs::MessageGrammar::has_length))]
 fn answers_with_boot_1(out: &mut [u8])
     requires { 16 ≤ length out.old }
     ensures { reading (take 16 out.new) ≡ Ok (record { boot = 2; body = HelloMsg }) }
@@ -27,7 +27,7 @@ fn answers_with_boot_1(out: &mut [u8])
 }
 
 /// A logger's answer isn't what a Forward may hold: the contract of `is_asking`.
-#[tactic(auto, unfolding(seq_arith::specs::TwinGrammar::is_asking, seq_arith::specs::MessageGrammar::is_sound, seq_arith::specs::MessageGrammar::has_length))]
+#[tactic(auto, unfolding(seq_arith::specs::TwinGrammar::is_asking_by, seq_arith::specs::MessageGrammar::is_sound_by, seq_arith::specs::MessageGrammar::has_length))]
 fn forwards_an_answer(out: &mut [u8]) -> bool
     requires { 18 ≤ length out.old }
     ensures { result ≡ false }
@@ -39,7 +39,7 @@ fn forwards_an_answer(out: &mut [u8]) -> bool
         },
         out,
     );
-    is_asking(&out[..len])
+    is_asking(Grammar::Plain, &out[..len])
 }
 
 /// A short message of the right length, whose checksum is wrong, is refused for its checksum: the clause `value` of `open_within`.
@@ -56,4 +56,15 @@ fn part_past_the_stream() -> Result<u32, BadMsg>
     ensures { result ≡ Err BadMsg.Field }
 {
     offset(&[1, 0, 0, 0, 7], 0, 4)
+}
+
+/// A message of the wide grammar isn't read as a plain one, whatever it has after its version: the clause `value` of `read_msg`.
+#[tactic(auto, unfolding(seq_arith::specs::MessageGrammar::reading_by, seq_arith::specs::Bytes::word_at))]
+fn takes_a_wide_message() -> bool
+    ensures { result ≡ false }
+{
+    match read_msg(&[70, 84, 2, 1, 0, 16, 0, 0, 0, 0, 0, 0, 0, 0, 0, 1]) {
+        Ok(_) => true,
+        Err(_) => false,
+    }
 }

@@ -1,14 +1,14 @@
 //! The fields of a message, read at their positions and checked for their ranges.
 
 ghost use Rattle.std.specs.Prelude.{◌≡◌, ◌≤◌, ◌<◌, ◌+◌, ◌==◌, length, drop};
-ghost use Rattle.seq_arith.specs.MessageGrammar.{is_in_range};
+ghost use Rattle.seq_arith.specs.MessageGrammar.{is_in_range, is_in_range_by, most_ending as most_ending_lem};
 ghost use Rattle.logger_wire.specs.Places.{number_at, checked};
 
 use crate::layout::{KEY, PORT};
 use byteorder::{BigEndian, ByteOrder};
 use ft_io::Key;
 use limits::{ENTRIES, SEGMENT, SHORTEST_SEGMENT, STREAM, UNITS};
-use seq_arith::{BadMsg, Field};
+use seq_arith::{BadMsg, Field, Grammar};
 
 /// The longest read, in bytes.
 pub(crate) const LONGEST_READ: u16 = 2048;
@@ -176,5 +176,28 @@ pub(crate) fn flag(bytes: &[u8], at: usize) -> Result<bool, BadMsg>
         Ok(n == 1)
     } else {
         Err(BadMsg::Field)
+    }
+}
+
+/// Reads how a Data ends: 1 if the FIN follows its bytes, and in the wide grammar 2 if a later Data of the same turn does.
+pub(crate) fn ending(grammar: Grammar, bytes: &[u8], at: usize) -> Result<u8, BadMsg>
+    requires { at < length bytes.now }
+    ensures { result ≡ checked (is_in_range_by grammar 0 0 Field.Ending (number_at 1 at bytes.now)) (number_at 1 at bytes.now) }
+{
+    let n = byte(bytes, at);
+    if n <= most_ending(grammar) {
+        Ok(n)
+    } else {
+        Err(BadMsg::Field)
+    }
+}
+
+/// Returns the most that an ending may be.
+fn most_ending(grammar: Grammar) -> u8
+    ensures { result ≡ most_ending_lem grammar }
+{
+    match grammar {
+        Grammar::Plain => 1,
+        Grammar::Wide => 2,
     }
 }

@@ -3,8 +3,10 @@
 
 /// The first two bytes of a message: "FT".
 pub(crate) const MAGIC: u16 = 0x4654;
-/// The version of every message.
+/// The version of messages of the plain grammar, and of all other datagrams.
 pub(crate) const VERSION: u8 = 1;
+/// The version of messages of the wide grammar.
+pub(crate) const WIDE_VERSION: u8 = 2;
 
 pub(crate) const MAGIC_AT: usize = 0;
 

@@ -10,11 +10,11 @@ ghost use Rattle.logger_wire.specs.Value.{body_of};
 use byteorder::{BigEndian, ByteOrder};
 use ft_io::Key;
 pub use marks::{Mark, MarkBody, MarkMsg, read_mark, write_mark};
-pub use reading::{checksum_of, read_msg, word_at};
+pub use reading::{checksum_of, read_msg, read_msg_by, read_wide_msg, word_at};
 pub use records::{EntryHead, Kept, Numbers, Part};
-pub use seq_arith::{BadMark, BadMsg, BadTwin};
-pub use twin::{TwinMsg, read_twin, write_twin};
-pub use writing::{checksum_of_both, put_msg, write_msg};
+pub use seq_arith::{BadMark, BadMsg, BadTwin, Grammar};
+pub use twin::{TwinMsg, read_twin, read_twin_by, write_twin};
+pub use writing::{checksum_of_both, put_msg, put_msg_by, write_msg, write_msg_by};
 
 mod excluded;
 mod fields;

@@ -22,6 +22,13 @@ pub(crate) fn put_flag(out: &mut [u8], at: usize, is_set: bool)
     put_bytes(out, at, &[u8::from(is_set)]);
 }
 
+pub(crate) fn put_byte(out: &mut [u8], at: usize, n: u8)
+    requires { at < length out.old }
+    ensures { out.new ≡ put at (number_bytes 1 n) out.old }
+{
+    put_bytes(out, at, &[n]);
+}
+
 pub(crate) fn put_word(out: &mut [u8], at: usize, n: u16)
     requires { at + 2 ≤ length out.old }
     ensures { out.new ≡ put at (number_bytes 2 n) out.old }

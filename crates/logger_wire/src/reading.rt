@@ -5,8 +5,9 @@ ghost use Rattle.std.specs.Prelude.{◌≡◌, ◌≤◌, ◌<◌, ◌+◌, ◌^
 ghost use Rattle.std.specs.List.{list_all};
 ghost use Rattle.seq_arith.specs.Bytes.{word_at as word_at_lem};
 ghost use Rattle.seq_arith.specs.Checksum.{checksum};
-ghost use Rattle.seq_arith.specs.MessageGrammar.{kind_numbered, reading_of, reading, lens_in};
-ghost use Rattle.logger_wire.specs.Value.{seen, left_over, IsSendable};
+ghost use Rattle.seq_arith.specs.MessageGrammar.{kind_numbered, reading_of, reading, reading_by, version, lens_in};
+ghost use Rattle.seq_arith.specs.declared.kinds.Grammar.{Grammar};
+ghost use Rattle.logger_wire.specs.Value.{seen, left_over, IsSendable, IsSendableBy};
 ghost use Rattle.logger_wire.specs.Places.{opened, placed};
 
 use crate::fields::{
@@ -15,23 +16,40 @@ use crate::fields::{
 };
 use crate::layout::{
     AFTER_COUNT, AFTER_KEY, AFTER_LENGTH, AFTER_NEWER, AFTER_START, BOOT_AT, HEADER, KIND_AT,
-    LENGTH_AT, MAGIC, MAGIC_AT, VERSION, VERSION_AT,
+    LENGTH_AT, MAGIC, MAGIC_AT, VERSION, VERSION_AT, WIDE_VERSION,
 };
 use crate::records::{EntryHead, Kept, Numbers, Part};
 use crate::{Body, Msg};
 use byteorder::{BigEndian, ByteOrder};
 use limits::SEGMENT;
-use seq_arith::{BadMsg, Kind, Sum16};
+use seq_arith::{BadMsg, Grammar, Kind, Sum16};
 
 /// The most bytes in a Part, and in the lengths of a Lens.
 const MOST_LOGGED: usize = 1024;
 
-/// Reads a message. The error is the first test of the grammar that it fails. It copies none of the message's bytes.
-#[tactic(auto, unfolding(seq_arith::specs::MessageGrammar::reading))]
+/// Reads a message of the plain grammar. The error is the first test of the grammar that it fails; a wide message fails that of the version. It copies none of
+/// the message's bytes.
 pub fn read_msg(bytes: &[u8]) -> Result<Msg<'_>, BadMsg>
     ensures value { seen result ≡ reading bytes.now }
     // A message that was read may be sent.
     ensures sendable { IfOk result (λ msg. IsSendable msg) }
+{
+    read_msg_by(Grammar::Plain, bytes)
+}
+
+/// Reads a message of the wide grammar. A plain message fails the test of the version.
+pub fn read_wide_msg(bytes: &[u8]) -> Result<Msg<'_>, BadMsg>
+    ensures value { seen result ≡ reading_by Grammar.Wide bytes.now }
+    ensures sendable { IfOk result (λ msg. IsSendableBy Grammar.Wide msg) }
+{
+    read_msg_by(Grammar::Wide, bytes)
+}
+
+/// Reads a message of a grammar.
+#[tactic(auto, unfolding(seq_arith::specs::MessageGrammar::reading_by))]
+pub fn read_msg_by(grammar: Grammar, bytes: &[u8]) -> Result<Msg<'_>, BadMsg>
+    ensures value { seen result ≡ reading_by grammar bytes.now }
+    ensures sendable { IfOk result (λ msg. IsSendableBy grammar msg) }
 {
     if bytes.len() < HEADER {
         return Err(BadMsg::Short);
@@ -39,12 +57,22 @@ pub fn read_msg(bytes: &[u8]) -> Result<Msg<'_>, BadMsg>
     if word_at(bytes, MAGIC_AT) != MAGIC {
         return Err(BadMsg::Magic);
     }
-    if bytes[VERSION_AT] != VERSION {
+    if bytes[VERSION_AT] != version_of(grammar) {
         return Err(BadMsg::Version);
     }
     match kind_of_number(bytes[KIND_AT]) {
-        Some(kind) => read_kind(kind, bytes),
+        Some(kind) => read_kind(grammar, kind, bytes),
         None => Err(BadMsg::Kind),
+    }
+}
+
+/// Returns the version of a grammar's messages.
+pub(crate) fn version_of(grammar: Grammar) -> u8
+    ensures { result ≡ version grammar }
+{
+    match grammar {
+        Grammar::Plain => VERSION,
+        Grammar::Wide => WIDE_VERSION,
     }
 }
 
@@ -95,10 +123,10 @@ fn kind_of_number(number: u8) -> Option<Kind>
     }
 }
 
-/// Reads a message of a kind.
-fn read_kind(kind: Kind, bytes: &[u8]) -> Result<Msg<'_>, BadMsg>
+/// Reads a message of a kind. Only a Data depends on the grammar.
+fn read_kind(grammar: Grammar, kind: Kind, bytes: &[u8]) -> Result<Msg<'_>, BadMsg>
     requires { HEADER ≤ length bytes.now }
-    ensures value { seen result ≡ placed kind bytes.now }
+    ensures value { seen result ≡ placed grammar kind bytes.now }
     ensures whole { IfOk result (λ msg. left_over msg.body ≡ 0) }
 {
     match kind {
@@ -112,7 +140,7 @@ fn read_kind(kind: Kind, bytes: &[u8]) -> Result<Msg<'_>, BadMsg>
         Kind::Lens => read_lens(bytes),
         Kind::Open => read_open(bytes),
         Kind::Opened => read_opened(bytes),
-        Kind::Data => read_data(bytes),
+        Kind::Data => read_data(grammar, bytes),
         Kind::Stable => read_stable(bytes),
         Kind::Read => read_read(bytes),
         Kind::Reads => read_reads(bytes),
@@ -157,7 +185,7 @@ pub(crate) fn open_within(bytes: &[u8], least: usize, most: usize) -> Result<u64
 
 fn read_hello(bytes: &[u8]) -> Result<Msg<'_>, BadMsg>
     requires { HEADER ≤ length bytes.now }
-    ensures value { seen result ≡ placed Kind.Hello bytes.now }
+    ensures value { seen result ≡ placed Grammar.Plain Kind.Hello bytes.now }
     ensures whole { IfOk result (λ msg. left_over msg.body ≡ 0) }
 {
     let boot = open(bytes, HEADER)?;
@@ -167,7 +195,7 @@ fn read_hello(bytes: &[u8]) -> Result<Msg<'_>, BadMsg>
 
 fn read_summary(bytes: &[u8]) -> Result<Msg<'_>, BadMsg>
     requires { HEADER ≤ length bytes.now }
-    ensures value { seen result ≡ placed Kind.Summary bytes.now }
+    ensures value { seen result ≡ placed Grammar.Plain Kind.Summary bytes.now }
     ensures whole { IfOk result (λ msg. left_over msg.body ≡ 0) }
 {
     let boot = open(bytes, AFTER_COUNT)?;
@@ -179,7 +207,7 @@ fn read_summary(bytes: &[u8]) -> Result<Msg<'_>, BadMsg>
 
 fn read_list(bytes: &[u8]) -> Result<Msg<'_>, BadMsg>
     requires { HEADER ≤ length bytes.now }
-    ensures value { seen result ≡ placed Kind.List bytes.now }
+    ensures value { seen result ≡ placed Grammar.Plain Kind.List bytes.now }
     ensures whole { IfOk result (λ msg. left_over msg.body ≡ 0) }
 {
     let boot = open(bytes, AFTER_COUNT)?;
@@ -191,7 +219,7 @@ fn read_list(bytes: &[u8]) -> Result<Msg<'_>, BadMsg>
 
 fn read_entry(bytes: &[u8]) -> Result<Msg<'_>, BadMsg>
     requires { HEADER ≤ length bytes.now }
-    ensures value { seen result ≡ placed Kind.Entry bytes.now }
+    ensures value { seen result ≡ placed Grammar.Plain Kind.Entry bytes.now }
     ensures whole { IfOk result (λ msg. left_over msg.body ≡ 0) }
 {
     let boot = open(bytes, EntryHead::END)?;
@@ -204,7 +232,7 @@ fn read_entry(bytes: &[u8]) -> Result<Msg<'_>, BadMsg>
 
 fn read_bytes(bytes: &[u8]) -> Result<Msg<'_>, BadMsg>
     requires { HEADER ≤ length bytes.now }
-    ensures value { seen result ≡ placed Kind.Bytes bytes.now }
+    ensures value { seen result ≡ placed Grammar.Plain Kind.Bytes bytes.now }
     ensures whole { IfOk result (λ msg. left_over msg.body ≡ 0) }
 {
     let boot = open(bytes, AFTER_START)?;
@@ -217,7 +245,7 @@ fn read_bytes(bytes: &[u8]) -> Result<Msg<'_>, BadMsg>
 
 fn read_part(bytes: &[u8]) -> Result<Msg<'_>, BadMsg>
     requires { HEADER ≤ length bytes.now }
-    ensures value { seen result ≡ placed Kind.Part bytes.now }
+    ensures value { seen result ≡ placed Grammar.Plain Kind.Part bytes.now }
     ensures whole { IfOk result (λ msg. left_over msg.body ≡ 0) }
 {
     let boot = open_within(bytes, AFTER_START + 1, AFTER_START + MOST_LOGGED)?;
@@ -231,7 +259,7 @@ fn read_part(bytes: &[u8]) -> Result<Msg<'_>, BadMsg>
 
 fn read_cuts(bytes: &[u8]) -> Result<Msg<'_>, BadMsg>
     requires { HEADER ≤ length bytes.now }
-    ensures value { seen result ≡ placed Kind.Cuts bytes.now }
+    ensures value { seen result ≡ placed Grammar.Plain Kind.Cuts bytes.now }
     ensures whole { IfOk result (λ msg. left_over msg.body ≡ 0) }
 {
     let boot = open(bytes, AFTER_START)?;
@@ -244,7 +272,7 @@ fn read_cuts(bytes: &[u8]) -> Result<Msg<'_>, BadMsg>
 
 fn read_lens(bytes: &[u8]) -> Result<Msg<'_>, BadMsg>
     requires { HEADER ≤ length bytes.now }
-    ensures value { seen result ≡ placed Kind.Lens bytes.now }
+    ensures value { seen result ≡ placed Grammar.Plain Kind.Lens bytes.now }
     ensures whole { IfOk result (λ msg. left_over msg.body ≡ 0) }
 {
     if bytes.len() % 2 != 0 {
@@ -265,7 +293,7 @@ fn read_lens(bytes: &[u8]) -> Result<Msg<'_>, BadMsg>
 
 fn read_open(bytes: &[u8]) -> Result<Msg<'_>, BadMsg>
     requires { HEADER ≤ length bytes.now }
-    ensures value { seen result ≡ placed Kind.Open bytes.now }
+    ensures value { seen result ≡ placed Grammar.Plain Kind.Open bytes.now }
     ensures whole { IfOk result (λ msg. left_over msg.body ≡ 0) }
 {
     let boot = open(bytes, Numbers::END)?;
@@ -275,7 +303,7 @@ fn read_open(bytes: &[u8]) -> Result<Msg<'_>, BadMsg>
 
 fn read_opened(bytes: &[u8]) -> Result<Msg<'_>, BadMsg>
     requires { HEADER ≤ length bytes.now }
-    ensures value { seen result ≡ placed Kind.Opened bytes.now }
+    ensures value { seen result ≡ placed Grammar.Plain Kind.Opened bytes.now }
     ensures whole { IfOk result (λ msg. left_over msg.body ≡ 0) }
 {
     let boot = open(bytes, Numbers::END)?;
@@ -283,19 +311,19 @@ fn read_opened(bytes: &[u8]) -> Result<Msg<'_>, BadMsg>
     Ok(Msg { boot, body })
 }
 
-fn read_data(bytes: &[u8]) -> Result<Msg<'_>, BadMsg>
+fn read_data(grammar: Grammar, bytes: &[u8]) -> Result<Msg<'_>, BadMsg>
     requires { HEADER ≤ length bytes.now }
-    ensures value { seen result ≡ placed Kind.Data bytes.now }
+    ensures value { seen result ≡ placed grammar Kind.Data bytes.now }
     ensures whole { IfOk result (λ msg. left_over msg.body ≡ 0) }
 {
     let boot = open_within(bytes, Part::END, Part::END + usize::from(SEGMENT))?;
-    let body = Body::Data(Part::read(bytes)?);
+    let body = Body::Data(Part::read(grammar, bytes)?);
     Ok(Msg { boot, body })
 }
 
 fn read_stable(bytes: &[u8]) -> Result<Msg<'_>, BadMsg>
     requires { HEADER ≤ length bytes.now }
-    ensures value { seen result ≡ placed Kind.Stable bytes.now }
+    ensures value { seen result ≡ placed Grammar.Plain Kind.Stable bytes.now }
     ensures whole { IfOk result (λ msg. left_over msg.body ≡ 0) }
 {
     let boot = open(bytes, Kept::END)?;
@@ -305,7 +333,7 @@ fn read_stable(bytes: &[u8]) -> Result<Msg<'_>, BadMsg>
 
 fn read_read(bytes: &[u8]) -> Result<Msg<'_>, BadMsg>
     requires { HEADER ≤ length bytes.now }
-    ensures value { seen result ≡ placed Kind.Read bytes.now }
+    ensures value { seen result ≡ placed Grammar.Plain Kind.Read bytes.now }
     ensures whole { IfOk result (λ msg. left_over msg.body ≡ 0) }
 {
     let boot = open(bytes, AFTER_LENGTH)?;
@@ -319,7 +347,7 @@ fn read_read(bytes: &[u8]) -> Result<Msg<'_>, BadMsg>
 
 fn read_reads(bytes: &[u8]) -> Result<Msg<'_>, BadMsg>
     requires { HEADER ≤ length bytes.now }
-    ensures value { seen result ≡ placed Kind.Reads bytes.now }
+    ensures value { seen result ≡ placed Grammar.Plain Kind.Reads bytes.now }
     ensures whole { IfOk result (λ msg. left_over msg.body ≡ 0) }
 {
     let boot = open(bytes, Kept::END)?;
@@ -329,7 +357,7 @@ fn read_reads(bytes: &[u8]) -> Result<Msg<'_>, BadMsg>
 
 fn read_done(bytes: &[u8]) -> Result<Msg<'_>, BadMsg>
     requires { HEADER ≤ length bytes.now }
-    ensures value { seen result ≡ placed Kind.Done bytes.now }
+    ensures value { seen result ≡ placed Grammar.Plain Kind.Done bytes.now }
     ensures whole { IfOk result (λ msg. left_over msg.body ≡ 0) }
 {
     let boot = open(bytes, AFTER_KEY)?;
@@ -341,7 +369,7 @@ fn read_done(bytes: &[u8]) -> Result<Msg<'_>, BadMsg>
 
 fn read_ended(bytes: &[u8]) -> Result<Msg<'_>, BadMsg>
     requires { HEADER ≤ length bytes.now }
-    ensures value { seen result ≡ placed Kind.Ended bytes.now }
+    ensures value { seen result ≡ placed Grammar.Plain Kind.Ended bytes.now }
     ensures whole { IfOk result (λ msg. left_over msg.body ≡ 0) }
 {
     let boot = open(bytes, AFTER_KEY)?;
@@ -353,7 +381,7 @@ fn read_ended(bytes: &[u8]) -> Result<Msg<'_>, BadMsg>
 
 fn read_stale(bytes: &[u8]) -> Result<Msg<'_>, BadMsg>
     requires { HEADER ≤ length bytes.now }
-    ensures value { seen result ≡ placed Kind.Stale bytes.now }
+    ensures value { seen result ≡ placed Grammar.Plain Kind.Stale bytes.now }
     ensures whole { IfOk result (λ msg. left_over msg.body ≡ 0) }
 {
     let boot = open(bytes, AFTER_NEWER)?;
@@ -365,7 +393,7 @@ fn read_stale(bytes: &[u8]) -> Result<Msg<'_>, BadMsg>
 
 fn read_full(bytes: &[u8]) -> Result<Msg<'_>, BadMsg>
     requires { HEADER ≤ length bytes.now }
-    ensures value { seen result ≡ placed Kind.Full bytes.now }
+    ensures value { seen result ≡ placed Grammar.Plain Kind.Full bytes.now }
     ensures whole { IfOk result (λ msg. left_over msg.body ≡ 0) }
 {
     let boot = open(bytes, AFTER_KEY)?;

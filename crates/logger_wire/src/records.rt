@@ -2,16 +2,16 @@
 
 ghost use Rattle.std.specs.Prelude.{◌≡◌, ◌≤◌, length};
 ghost use Rattle.seq_arith.specs.Message.Body.{EntryMsg, OpenMsg, DataMsg, StableMsg};
-ghost use Rattle.seq_arith.specs.MessageGrammar.{fields_of, numbers_of, numbers_bytes, behind_at};
+ghost use Rattle.seq_arith.specs.MessageGrammar.{fields_of, numbers_of, numbers_bytes, behind_at, ending as ending_lem};
 ghost use Rattle.logger_wire.specs.Spelling.{put, body_bytes};
 ghost use Rattle.logger_wire.specs.Records.{numbers_said, kept_said, head_said, part_said};
 ghost use Rattle.logger_wire.specs.Places.{opening_at, kept_at, head_at, part_at, read_as};
 
-use crate::fields::{behind, flag, key, long, offset, segment_size, stream_length, units};
+use crate::fields::{behind, ending, flag, key, long, offset, segment_size, stream_length, units};
 use crate::layout::{AFTER_KEY, HEADER, KEY};
-use crate::places::{put_flag, put_key, put_long, put_word};
+use crate::places::{put_byte, put_flag, put_key, put_long, put_word};
 use ft_io::Key;
-use seq_arith::{BadMsg, Kind};
+use seq_arith::{BadMsg, Grammar, Kind};
 
 /// The numbers of a connection.
 #[derive(Clone, Copy)]
@@ -73,6 +73,8 @@ pub struct Part<'a> {
     pub acked: u32,
     /// Whether the client's FIN follows the bytes.
     pub fin: bool,
+    /// Whether the same turn sends a later part, which is answered in place of this one. Then no FIN follows.
+    pub more: bool,
     /// The bytes of text.
     pub bytes: &'a [u8],
 }
@@ -216,16 +218,20 @@ impl<'a> Part<'a> {
     pub(crate) const END: usize = Self::FIN + 1;
 
     /// Reads the record of a Data.
-    pub(crate) fn read(bytes: &'a [u8]) -> Result<Part<'a>, BadMsg>
+    pub(crate) fn read(grammar: Grammar, bytes: &'a [u8]) -> Result<Part<'a>, BadMsg>
         requires long { behind_at Kind.Data ≤ length bytes.now }
         requires short { length bytes.now ≤ 65535 }
-        ensures { read_as part_said result ≡ part_at bytes.now }
+        ensures { read_as part_said result ≡ part_at grammar bytes.now }
     {
+        let offset = offset(bytes, Self::OFFSET, Self::END)?;
+        let acked = units(bytes, Self::ACKED)?;
+        let ending = ending(grammar, bytes, Self::FIN)?;
         Ok(Part {
             key: key(bytes, HEADER),
-            offset: offset(bytes, Self::OFFSET, Self::END)?,
-            acked: units(bytes, Self::ACKED)?,
-            fin: flag(bytes, Self::FIN)?,
+            offset,
+            acked,
+            fin: ending == 1,
+            more: ending == 2,
             bytes: behind(bytes, Self::END),
         })
     }
@@ -238,6 +244,13 @@ impl<'a> Part<'a> {
         put_key(out, HEADER, self.key);
         put_long(out, Self::OFFSET, self.offset);
         put_long(out, Self::ACKED, self.acked);
-        put_flag(out, Self::FIN, self.fin);
+        put_byte(out, Self::FIN, self.ending());
+    }
+
+    /// Returns how the Data ends, as a number.
+    fn ending(&self) -> u8
+        ensures { result ≡ ending_lem (part_said self.now) }
+    {
+        u8::from(self.fin) + if self.more { 2 } else { 0 }
     }
 }

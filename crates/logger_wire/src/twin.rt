@@ -1,7 +1,7 @@
 //! The datagrams between two loggers as bytes: reading and writing. What a string of bytes says, and which refusal it gets, is defined by their grammar in
 //! `seq_arith`. Nothing here allocates.
 
-pub use reading::read_twin;
+pub use reading::{read_twin, read_twin_by};
 pub use twin_msg::TwinMsg;
 pub use writing::write_twin;
 

@@ -8,6 +8,7 @@ use Rattle.ft_io.specs.declared.Key.{Key}
 use Rattle.ft_io.specs.Key.{key_eq}
 use Rattle.ft_io.proofs.Choices.{same_some}
 use Rattle.ft_io.proofs.Numbers.{equal_itself, test_of_equal}
+use Rattle.seq_arith.specs.declared.kinds.Grammar.{Grammar}
 use Rattle.seq_arith.specs.MarkGrammar.{IsSpellable, is_sound, has_length, kind_of, fields_of, behind_of, numbers_of}
 use Rattle.seq_arith.specs.declared.mark.MarkKind.{MarkKind}
 use Rattle.seq_arith.specs.declared.mark.MarkKind.TheVariants as kinds
@@ -20,13 +21,13 @@ use Rattle.ft_model.specs.Log.{Entry, log_after, answer_to, entry_of, head_of, w
 use Rattle.ft_model.specs.Growth.{EntriesGrow}
 use Rattle.ft_model.proofs.Grows.{log_grows}
 use Rattle.log_pages.specs.Pages.{changed_at, pages, place_of, without}
-use Rattle.logger_store.specs.StoreState.{answer_bytes, bytes_of}
+use Rattle.logger_store.specs.StoreState.{answer_bytes_by, bytes_of}
 use Rattle.logger_store.specs.Trim.{TrimmedLog, no_trim, trim_at, trim_of, is_trimmed, answer_left, with_trim, MayTrim, IsLeft, untrimmed}
 use Rattle.logger_store.specs.declared.trimming.Trim.{Trim}
 use Rattle.logger_store.proofs.LeftLogs.{after_left, answers_left, trim_left, more_acknowledged, none_trimmed, same_front, same_closing, count_left, size_left}
 use Rattle.mark_laws.specs.MarkedLog.{MarkedLog, no_mark, nothing_logged, after_mark, after_message, answer_above, answer_to_mark, about_mark, is_below, is_mark_answer, told_of_mark, acknowledging, with_mark, with_mark_body, keeps, may_follow, has_closing}
 use Rattle.mark_laws.specs.MarkedLog.AnyMessage.{Of_log}
-use Rattle.mark_store.specs.Bytes.{reply_bytes, kept_at}
+use Rattle.mark_store.specs.Bytes.{reply_bytes, reply_bytes_by, kept_at}
 use Rattle.mark_store.specs.Refinement.{TrimmedAtMarks, IsLeftOfMarked, mark_at}
 use Rattle.mark_store.proofs.Places.{at_more, nowhere, put_at_key, found_left, left_at, IsSameEntry, IsLeftAt}
 
@@ -105,17 +106,22 @@ same_asked s l (EndedMsg k) a = refl
 same_asked s l (StaleMsg n) a = refl
 same_asked s l (FullMsg k) a = refl
 
-pub answers_above : (s : TrimmedAtMarks) (l : MarkedLog) (message : Message) → IsLeftOfMarked s l
-    → answer_bytes (answer_left s.trimmed message) ≡ reply_bytes (option_map Of_log (answer_above l message))
+pub answers_above : (grammar : Grammar) (s : TrimmedAtMarks) (l : MarkedLog) (message : Message) → IsLeftOfMarked s l
+    → answer_bytes_by grammar (answer_left s.trimmed message) ≡ reply_bytes_by grammar (option_map Of_log (answer_above l message))
 unfolding answer_above
-answers_above s l message a =
-    ap answer_bytes (answers_left s.trimmed l.log message a.left
+answers_above grammar s l message a =
+    ap (answer_bytes_by grammar) (answers_left s.trimmed l.log message a.left
     ∙ ap (λ c. if message.boot == l.log.boot && c then None else answer_to l.log message) (same_asked s l message.body a))
     ∙ by (if message.boot == l.log.boot && is_below l message.body then None else answer_to l.log message)
   where
-    by : (o : Option Message) → answer_bytes o ≡ reply_bytes (option_map Of_log o)
+    by : (o : Option Message) → answer_bytes_by grammar o ≡ reply_bytes_by grammar (option_map Of_log o)
     by None = refl
     by (Some m) = refl
+
+-- answers about marks have one grammar
+pub replies_alike : (grammar : Grammar) (boot : ℕ) (told : Option MarkBody) → reply_bytes (option_map (about_mark boot) told) ≡ reply_bytes_by grammar (option_map (about_mark boot) told)
+replies_alike grammar boot None = refl
+replies_alike grammar boot (Some body) = refl
 
 -- a change of entries that keeps their keys
 keys_changed : (key : Key) (units : ℕ) (es : List Entry) → map (λ e. e.key) (map (λ e. if key_eq e.key key then acknowledging units e else e) es) ≡ map (λ e. e.key) es

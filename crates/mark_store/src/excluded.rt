@@ -1,5 +1,5 @@
-//! Wrong results that the contracts of this crate exclude. Each function calls another one of the crate, and promises of its result what a wrong body would make
-//! false. It is proved from the other's contract alone, so it is no longer proved once that contract lets the wrong body pass.
+//! Wrong results that the contracts of this crate exclude. Each function calls another one of the crate, and promises of its result what a wrong body would
+//! make false. It is proved from the other's contract alone, so it is no longer proved once that contract lets the wrong body pass.
 
 ghost use Rattle.limits.specs.Limits.{longest_stream, most_units};
 ghost use Rattle.std.specs.Prelude.{ℕ, ◌≡◌, ◌≤◌, ◌+◌, ◌^◌, true, false, Some, OnOk, length, slice_get, take};
@@ -30,7 +30,8 @@ fn never_trims(
 ) -> Result<(), NoMemory>
     requires numbers { (mark.now.reads ≤ most_units) × (mark.now.length ≤ longest_stream) × (mark.now.made ≤ longest_stream) }
     requires state { length mark.now.state.now ≤ 1100 }
-    ensures { OnOk result ((l : MarkedLog) → IsLeftOfMarked store.old l → (i : ℕ) → (trim_at store.new.trimmed.trims i).reads ≡ (mark_at store.new.marks i).reads) }
+    ensures { OnOk result ((l : MarkedLog) → IsLeftOfMarked store.old l → (i : ℕ)
+        → (trim_at store.new.trimmed.trims i).reads ≡ (mark_at store.new.marks i).reads) }
 {
     store.take_mark(alloc, key, mark)
 }
@@ -52,7 +53,8 @@ fn output_not_acknowledged(
 ) -> Result<(), NoMemory>
     requires numbers { (mark.now.reads ≤ most_units) × (mark.now.length ≤ longest_stream) × (mark.now.made ≤ longest_stream) }
     requires state { length mark.now.state.now ≤ 1100 }
-    ensures { OnOk result ((l : MarkedLog) → IsLeftOfMarked store.old l → keeps key (mark_said mark.now) l ≡ true → IsLeftOf store.new.trimmed (with_entry key (acknowledging mark.now.made) l.log)) }
+    ensures { OnOk result ((l : MarkedLog) → IsLeftOfMarked store.old l → keeps key (mark_said mark.now) l ≡ true
+        → IsLeftOf store.new.trimmed (with_entry key (acknowledging mark.now.made) l.log)) }
 {
     store.take_mark(alloc, key, mark)
 }

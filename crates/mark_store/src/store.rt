@@ -1,7 +1,8 @@
 //! The log with marks.
 
 ghost use Rattle.limits.specs.Limits.{longest_stream, most_units};
-ghost use Rattle.std.specs.Prelude.{[], ◌≡◌, ◌≤◌, ◌<◌, ◌+◌, ◌^◌, ◌==◌, ◌&&◌, not, nat_lt, ℕ, true, false, Some, None, OnOk, OnErr, option_map, length, max, slice_get, if◌then◌else◌};
+ghost use Rattle.std.specs.Prelude.{[], ◌≡◌, ◌≤◌, ◌<◌, ◌+◌, ◌^◌, ◌==◌, ◌&&◌, not, nat_lt, ℕ, true, false, Some, None, OnOk, OnErr, option_map};
+ghost use Rattle.std.specs.Prelude.{length, max, slice_get, if◌then◌else◌};
 ghost use Rattle.std.specs.Option.{option_map_or};
 ghost use Rattle.seq_arith.specs.Mark.MarkBody.{MarkMsg as Marking, AskMsg};
 ghost use Rattle.seq_arith.specs.MarkGrammar.{IsSpellable};
@@ -10,18 +11,19 @@ ghost use Rattle.ft_model.specs.Log.{head_of};
 ghost use Rattle.logger_wire.specs.Records.{head_said};
 ghost use Rattle.logger_store.specs.StoreState.{bytes_of};
 ghost use Rattle.logger_store.specs.Trim.{trim_at, MayTrim};
-ghost use Rattle.mark_laws.specs.MarkedLog.{MarkedLog, after_mark, answer_to_mark, is_mark_answer, may_follow, no_mark, nothing_logged, told_of_mark, with_mark_body};
+ghost use Rattle.mark_laws.specs.MarkedLog.{MarkedLog, after_mark, answer_to_mark, is_mark_answer, may_follow, no_mark, nothing_logged, told_of_mark};
+ghost use Rattle.mark_laws.specs.MarkedLog.{with_mark_body};
 ghost use Rattle.seq_arith.specs.Message.Body.{StaleMsg};
 ghost use Rattle.mark_laws.specs.MarkedLog.{about_mark};
 ghost use Rattle.mark_laws.specs.MarkedLog.AnyMessage.{Of_log};
-ghost use Rattle.mark_store.specs.Bytes.{after_bytes, kept_at, reply_bytes, reply_to};
+ghost use Rattle.mark_store.specs.Bytes.{after_bytes, after_bytes_by, kept_at, reply_bytes, reply_bytes_by, reply_to, reply_to_by};
 ghost use Rattle.mark_store.specs.Refinement.{IsLeftOfMarked, mark_at};
 
 use crate::kept_mark::KeptMark;
-use crate::telling::{tell_held, tell_marked, tell_stale};
+use crate::telling::{answer_held, answer_marked, answer_stale};
 use ft_io::{Key, NoMemory};
 use logger_store::{MsgOut, TrimStore};
-use logger_wire::{EntryHead, Mark, MarkBody, MarkMsg, read_mark, read_msg};
+use logger_wire::{EntryHead, Grammar, Mark, MarkBody, MarkMsg, read_mark, read_msg_by};
 use std::alloc::Global;
 use std::marker::Model;
 
@@ -57,13 +59,14 @@ fn is_answer(body: &MarkBody<'_>) -> bool
 }
 
 /// Writes Stale into `out`, the answer to a message of an older boot, unless the message is of a kind that only the logger sends. Writes nothing otherwise.
-fn tell_newer(newer: u64, m: &MarkMsg<'_>, out: &mut MsgOut)
+fn answer_newer(grammar: Grammar, newer: u64, m: &MarkMsg<'_>, out: &mut MsgOut)
     requires boot { 1 ≤ m.now.boot }
     requires empty { out.old ≡ [] }
-    ensures { out.new ≡ reply_bytes (if nat_lt m.now.boot newer && not (is_mark_answer (body_of m.now.body)) then Some (Of_log (record { boot = m.now.boot; body = StaleMsg newer })) else None) }
+    ensures { out.new ≡ reply_bytes_by grammar (if nat_lt m.now.boot newer
+        && not (is_mark_answer (body_of m.now.body)) then Some (Of_log (record { boot = m.now.boot; body = StaleMsg newer })) else None) }
 {
     if m.boot < newer && !is_answer(&m.body) {
-        tell_stale(m.boot, newer, out);
+        answer_stale(grammar, m.boot, newer, out);
     }
 }
 
@@ -125,7 +128,8 @@ impl MarkStore {
     /// Whether a mark may replace that of the entry at this place: it lies after more reads, these are logged and took its `length` bytes, and no closing
     /// read is among them.
     pub(crate) fn follows(&self, place: u16, mark: &Mark<'_>) -> bool
-        ensures value { result ≡ option_map_or (may_follow (record no_mark { reads = (trim_at self.now.trimmed.trims place).reads }) (mark_said mark.now)) (slice_get self.now.trimmed.log.entries place) false }
+        ensures value { result ≡ option_map_or (may_follow (record no_mark { reads = (trim_at self.now.trimmed.trims place).reads }) (mark_said mark.now))
+            (slice_get self.now.trimmed.log.entries place) false }
         ensures trims { result ≡ true → MayTrim place mark.now.length mark.now.reads self.now.trimmed }
         ensures within { result ≡ true → mark.now.length ≤ length (bytes_of (slice_get self.now.trimmed.log.entries place)) }
     {
@@ -200,36 +204,37 @@ impl MarkStore {
     }
 
     /// Writes into `out` after how many reads a key's mark lies. Writes nothing if the key has no entry.
-    fn tell_marked(&self, boot: u64, key: Key, out: &mut MsgOut)
+    fn answer_marked(&self, boot: u64, key: Key, out: &mut MsgOut)
         requires boot { 1 ≤ boot }
         requires empty { out.old ≡ [] }
         ensures { (l : MarkedLog) → IsLeftOfMarked self.now l → out.new ≡ reply_bytes (option_map (about_mark boot) (told_of_mark (Marking key no_mark) l)) }
     {
         if let Some(place) = self.log.place_of(key) {
-            tell_marked(boot, key, self.mark_at(place).reads, out);
+            answer_marked(boot, key, self.mark_at(place).reads, out);
         }
     }
 
     /// Writes a key's mark into `out`. Writes nothing if the key has no entry.
-    fn tell_held(&self, boot: u64, key: Key, out: &mut MsgOut)
+    fn answer_held(&self, boot: u64, key: Key, out: &mut MsgOut)
         requires boot { 1 ≤ boot }
         requires empty { out.old ≡ [] }
         ensures { (l : MarkedLog) → IsLeftOfMarked self.now l → out.new ≡ reply_bytes (option_map (about_mark boot) (told_of_mark (AskMsg key) l)) }
     {
         if let Some(place) = self.log.place_of(key) {
-            tell_held(boot, key, &self.mark_at(place), out);
+            answer_held(boot, key, &self.mark_at(place), out);
         }
     }
 
     /// Writes into the empty `out` the answer to a message about marks that has the log's boot number, after the log has taken the message.
-    fn tell(&self, m: &MarkMsg<'_>, out: &mut MsgOut)
+    fn write_answer(&self, m: &MarkMsg<'_>, out: &mut MsgOut)
         requires spellable { IsSpellable (message_of m.now) }
         requires empty { out.old ≡ [] }
-        ensures { (l : MarkedLog) → IsLeftOfMarked self.now l → out.new ≡ reply_bytes (option_map (about_mark m.now.boot) (told_of_mark (body_of m.now.body) l)) }
+        ensures { (l : MarkedLog) → IsLeftOfMarked self.now l
+            → out.new ≡ reply_bytes (option_map (about_mark m.now.boot) (told_of_mark (body_of m.now.body) l)) }
     {
         match m.body {
-            MarkBody::Mark { key, .. } => self.tell_marked(m.boot, key, out),
-            MarkBody::Ask { key } => self.tell_held(m.boot, key, out),
+            MarkBody::Mark { key, .. } => self.answer_marked(m.boot, key, out),
+            MarkBody::Ask { key } => self.answer_held(m.boot, key, out),
             _ => (),
         }
     }
@@ -238,23 +243,24 @@ impl MarkStore {
     fn answer_mark(
         &mut self,
         alloc: Global,
+        grammar: Grammar,
         m: &MarkMsg<'_>,
         out: &mut MsgOut,
     ) -> Result<(), NoMemory>
         requires spellable { IsSpellable (message_of m.now) }
         requires empty { out.old ≡ [] }
         ensures next { OnOk result ((l : MarkedLog) → IsLeftOfMarked self.old l → IsLeftOfMarked self.new (after_mark l (message_of m.now))) }
-        ensures answer { OnOk result ((l : MarkedLog) → IsLeftOfMarked self.old l → out.new ≡ reply_bytes (answer_to_mark l (message_of m.now))) }
+        ensures answer { OnOk result ((l : MarkedLog) → IsLeftOfMarked self.old l → out.new ≡ reply_bytes_by grammar (answer_to_mark l (message_of m.now))) }
         ensures refused { OnErr result (self.new ≡ self.old) }
         ensures empty { OnErr result (out.new ≡ []) }
     {
         let boot = self.boot();
         if m.boot == boot {
             self.take(alloc, m)?;
-            self.tell(m, out);
+            self.write_answer(m, out);
             return Ok(());
         }
-        tell_newer(boot, m, out);
+        answer_newer(grammar, boot, m, out);
         Ok(())
     }
 
@@ -266,12 +272,28 @@ impl MarkStore {
         ensures refused { OnErr result (self.new ≡ self.old) }
         ensures empty { OnErr result (out.new ≡ []) }
     {
-        if let Ok(m) = read_msg(bytes) {
-            return self.log.answer(alloc, &m, out);
+        self.answer_by(alloc, Grammar::Plain, bytes, out)
+    }
+
+    /// Takes bytes, which may be a message of the log in a grammar, one about marks, or neither, and replaces the content of `out` by the answer, or by nothing.
+    pub fn answer_by(
+        &mut self,
+        alloc: Global,
+        grammar: Grammar,
+        bytes: &[u8],
+        out: &mut MsgOut,
+    ) -> Result<(), NoMemory>
+        ensures next { OnOk result ((l : MarkedLog) → IsLeftOfMarked self.old l → IsLeftOfMarked self.new (after_bytes_by grammar bytes.now l)) }
+        ensures answer { OnOk result ((l : MarkedLog) → IsLeftOfMarked self.old l → out.new ≡ reply_to_by grammar bytes.now l) }
+        ensures refused { OnErr result (self.new ≡ self.old) }
+        ensures empty { OnErr result (out.new ≡ []) }
+    {
+        if let Ok(m) = read_msg_by(grammar, bytes) {
+            return self.log.answer_by(alloc, grammar, &m, out);
         }
         out.clear();
         match read_mark(bytes) {
-            Ok(m) => self.answer_mark(alloc, &m, out),
+            Ok(m) => self.answer_mark(alloc, grammar, &m, out),
             Err(_) => Ok(()),
         }
     }

@@ -6,13 +6,13 @@ ghost use Rattle.seq_arith.specs.Mark.MarkBody.{MarkedMsg, HeldMsg};
 ghost use Rattle.seq_arith.specs.Message.Body.{StaleMsg};
 ghost use Rattle.seq_arith.specs.MarkGrammar.{IsSpellable, spelling};
 ghost use Rattle.logger_wire.specs.MarkValue.{mark_said, message_of};
-ghost use Rattle.logger_store.specs.StoreState.{answer_bytes};
+ghost use Rattle.logger_store.specs.StoreState.{answer_bytes_by};
 ghost use Rattle.mark_laws.specs.MarkedLog.{about_mark};
 ghost use Rattle.mark_store.specs.Bytes.{reply_bytes};
 
 use ft_io::Key;
 use logger_store::MsgOut;
-use logger_wire::{Body, Mark, MarkBody, MarkMsg, Msg, write_mark};
+use logger_wire::{Body, Grammar, Mark, MarkBody, MarkMsg, Msg, write_mark};
 
 /// Replaces the content of `out` by a message about marks.
 fn put_mark(m: &MarkMsg<'_>, out: &mut MsgOut)
@@ -26,7 +26,7 @@ fn put_mark(m: &MarkMsg<'_>, out: &mut MsgOut)
 
 /// Writes Marked into `out`: the key's mark lies after `reads` reads.
 #[tactic(auto, unfolding(seq_arith::specs::MarkGrammar::has_length, seq_arith::specs::MarkGrammar::is_sound))]
-pub(crate) fn tell_marked(boot: u64, key: Key, reads: u32, out: &mut MsgOut)
+pub(crate) fn answer_marked(boot: u64, key: Key, reads: u32, out: &mut MsgOut)
     requires boot { 1 ≤ boot }
     requires reads { reads ≤ most_units }
     ensures { out.new ≡ reply_bytes (Some (about_mark boot (MarkedMsg key reads))) }
@@ -37,7 +37,7 @@ pub(crate) fn tell_marked(boot: u64, key: Key, reads: u32, out: &mut MsgOut)
 
 /// Writes Held into `out`: the key's mark itself.
 #[tactic(auto, unfolding(seq_arith::specs::MarkGrammar::has_length, seq_arith::specs::MarkGrammar::is_sound))]
-pub(crate) fn tell_held(boot: u64, key: Key, mark: &Mark<'_>, out: &mut MsgOut)
+pub(crate) fn answer_held(boot: u64, key: Key, mark: &Mark<'_>, out: &mut MsgOut)
     requires boot { 1 ≤ boot }
     requires reads { mark.now.reads ≤ most_units }
     requires length { mark.now.length ≤ longest_stream }
@@ -50,12 +50,12 @@ pub(crate) fn tell_held(boot: u64, key: Key, mark: &Mark<'_>, out: &mut MsgOut)
 }
 
 /// Writes Stale into `out`, the answer to a message of boot `boot`: a server with the larger boot number `newer` has started.
-#[tactic(auto, unfolding(seq_arith::specs::MessageGrammar::has_length, seq_arith::specs::MessageGrammar::is_sound))]
-pub(crate) fn tell_stale(boot: u64, newer: u64, out: &mut MsgOut)
+#[tactic(auto, unfolding(seq_arith::specs::MessageGrammar::has_length, seq_arith::specs::MessageGrammar::is_sound_by))]
+pub(crate) fn answer_stale(grammar: Grammar, boot: u64, newer: u64, out: &mut MsgOut)
     requires boot { 1 ≤ boot }
     requires newer { boot < newer }
-    ensures { out.new ≡ answer_bytes (Some (record { boot = boot; body = StaleMsg newer })) }
+    ensures { out.new ≡ answer_bytes_by grammar (Some (record { boot = boot; body = StaleMsg newer })) }
 {
     let body = Body::Stale { newer };
-    out.put(&Msg { boot, body });
+    out.put_by(grammar, &Msg { boot, body });
 }

@@ -1,7 +1,7 @@
 //! Room for one datagram that is sent.
 
-ghost use Rattle.std.specs.Prelude.{[], ◌≡◌, ◌≤◌, length};
-ghost use Rattle.seq_arith.specs.TwinGrammar.{spelling, IsSpellable};
+ghost use Rattle.std.specs.Prelude.{[], ◌≡◌, ◌≤◌, ◌+◌, true, length};
+ghost use Rattle.seq_arith.specs.TwinGrammar.{spelling, has_length, kind_of, behind_of};
 ghost use Rattle.twin_laws.specs.declared.part.Side.TheVariants as sides;
 ghost use Rattle.logger_wire.specs.TwinValue.{said_by};
 
@@ -68,8 +68,8 @@ impl Datagram {
 
     /// Replaces the content by a datagram for the other logger.
     #[tactic(auto, using(logger_wire::proofs::TwinSpelled::datagram_whole, logger_wire::proofs::TwinSpelled::datagram_fits))]
-    pub(crate) fn tell(&mut self, m: &TwinMsg<'_>)
-        requires { IsSpellable (said_by m.now) }
+    pub(crate) fn put(&mut self, m: &TwinMsg<'_>)
+        requires { has_length (kind_of (said_by m.now)) (16 + length (behind_of (said_by m.now))) ≡ true }
         ensures { self.new ≡ (sides.Other, spelling (said_by m.now)) }
     {
         self.to = Side::Other;

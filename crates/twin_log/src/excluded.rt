@@ -1,10 +1,11 @@
-//! Wrong results that the contracts of this crate exclude. Each function calls another one of the crate, and promises of its result what a wrong body would make
-//! false. It is proved from the other's contract alone, so it is no longer proved once that contract lets the wrong body pass.
+//! Wrong results that the contracts of this crate exclude. Each function calls another one of the crate, and promises of its result what a wrong body would
+//! make false. It is proved from the other's contract alone, so it is no longer proved once that contract lets the wrong body pass.
 
 ghost use Rattle.std.specs.Prelude.{[], ◌∷◌, ◌≡◌, ◌≤◌, ◌<◌, ◌+◌, ◌-◌, ◌^◌, true, false, Ok, OnOk, OnErr};
 ghost use Rattle.seq_arith.specs.Message.{Message};
-ghost use Rattle.seq_arith.specs.MessageGrammar.{reading};
-ghost use Rattle.logger_wire.specs.Value.{IsSendable};
+ghost use Rattle.seq_arith.specs.MessageGrammar.{reading_by};
+ghost use Rattle.seq_arith.specs.declared.kinds.Grammar.TheVariants as grammars;
+ghost use Rattle.logger_wire.specs.Value.{IsSendableBy};
 ghost use Rattle.twin_laws.specs.StoredState.{forwards_sent, sent_to_other};
 ghost use Rattle.twin_laws.specs.Twin.Between.{Got};
 ghost use Rattle.twin_laws.specs.declared.part.Part.TheVariants as parts;
@@ -25,7 +26,7 @@ fn answers_a_repeat(
     msg: &Msg<'_>,
     out: &mut TwinOut,
 ) -> Result<(), NoMemory>
-    requires sendable { IsSendable msg.now }
+    requires sendable { IsSendableBy tail.old.grammar msg.now }
     requires repeat { (1 ≤ number) × (number ≤ tail.old.number) }
     requires empty { out.old ≡ [] }
     ensures next { OnOk result (tail.new ≡ tail.old) }
@@ -42,7 +43,7 @@ fn applies_out_of_order(
     msg: &Msg<'_>,
     out: &mut TwinOut,
 ) -> Result<(), NoMemory>
-    requires sendable { IsSendable msg.now }
+    requires sendable { IsSendableBy tail.old.grammar msg.now }
     requires gap { tail.old.number + 1 < number }
     requires empty { out.old ≡ [] }
     ensures next { OnOk result (tail.new ≡ tail.old) }
@@ -62,10 +63,26 @@ fn head_answers_while_paired(
     requires paired { (head.old.part ≡ parts.Head) × (head.old.alone ≡ false) }
     requires room { (head.old.waiting ≡ []) × (head.old.number < 2 ^ 64 - 1) }
     requires empty { out.old ≡ [] }
-    ensures next { (m : Message) → reading bytes.now ≡ Ok m → is_asking_message m ≡ true → OnOk result (head.new.waiting ≡ bytes.now ∷ []) }
-    ensures sent { (m : Message) → reading bytes.now ≡ Ok m → is_asking_message m ≡ true → OnOk result (out.new ≡ forwards_sent head.old.number (bytes.now ∷ [])) }
+    ensures next { (m : Message) → reading_by head.old.grammar bytes.now ≡ Ok m → is_asking_message m ≡ true → OnOk result (head.new.waiting ≡ bytes.now ∷ []) }
+    ensures sent { (m : Message) → reading_by head.old.grammar bytes.now ≡ Ok m → is_asking_message m ≡ true
+        → OnOk result (out.new ≡ forwards_sent head.old.number (bytes.now ∷ [])) }
 {
     head.on_server(alloc, bytes, out)
+}
+
+/// To loggers whose server's messages are plain, a wide one is noise, whatever it says: the clauses `next` and `sent` of `TwinLog::on_server`.
+fn a_plain_pair_takes_a_wide_message(
+    log: &mut TwinLog,
+    alloc: Global,
+    out: &mut TwinOut,
+) -> Result<(), NoMemory>
+    requires plain { log.old.grammar ≡ grammars.Plain }
+    requires empty { out.old ≡ [] }
+    ensures next { OnOk result (log.new ≡ log.old) }
+    ensures sent { OnOk result (out.new ≡ []) }
+{
+    let hello = [70, 84, 2, 1, 0, 16, 0, 0, 0, 0, 0, 0, 0, 0, 0, 1];
+    log.on_server(alloc, &hello, out)
 }
 
 /// Where there is no memory, no message is taken and the number stays: the clause `refused` of `TwinLog::deliver`, and of `TwinLog::add` below it.

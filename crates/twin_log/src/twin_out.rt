@@ -1,7 +1,7 @@
 //! What a logger sends in one turn, in room that is allocated once.
 
-ghost use Rattle.std.specs.Prelude.{[], ◌≡◌, ◌≤◌, ◌<◌, ◌++◌, ◌∷◌, Some, length, option_map, slice_get, slice_set, IfOk};
-ghost use Rattle.seq_arith.specs.TwinGrammar.{spelling, IsSpellable};
+ghost use Rattle.std.specs.Prelude.{[], ◌≡◌, ◌≤◌, ◌<◌, ◌+◌, ◌++◌, ◌∷◌, true, Some, length, option_map, slice_get, slice_set, IfOk};
+ghost use Rattle.seq_arith.specs.TwinGrammar.{spelling, has_length, kind_of, behind_of};
 ghost use Rattle.twin_laws.specs.declared.part.Side.TheVariants as sides;
 ghost use Rattle.logger_wire.specs.TwinValue.{said_by};
 
@@ -54,12 +54,12 @@ fn answer_at(datagrams: &mut [Datagram], i: usize, bytes: &[u8])
 }
 
 /// Puts a datagram for the other logger at the place `i`.
-fn tell_at(datagrams: &mut [Datagram], i: usize, m: &TwinMsg<'_>)
+fn put_at(datagrams: &mut [Datagram], i: usize, m: &TwinMsg<'_>)
     requires within { i < length datagrams.old }
-    requires spellable { IsSpellable (said_by m.now) }
+    requires fits { has_length (kind_of (said_by m.now)) (16 + length (behind_of (said_by m.now))) ≡ true }
     ensures { datagrams.new ≡ slice_set datagrams.old i (sides.Other, spelling (said_by m.now)) }
 {
-    datagrams[i].tell(m);
+    datagrams[i].put(m);
 }
 
 impl TwinOut {
@@ -125,12 +125,12 @@ impl TwinOut {
 
     /// Appends a datagram for the other logger.
     #[tactic(auto, using(std::proofs::lemmas::List::take_more_set))]
-    pub(crate) fn tell(&mut self, m: &TwinMsg<'_>)
+    pub(crate) fn put(&mut self, m: &TwinMsg<'_>)
         requires room { length self.old < 64 }
-        requires spellable { IsSpellable (said_by m.now) }
+        requires fits { has_length (kind_of (said_by m.now)) (16 + length (behind_of (said_by m.now))) ≡ true }
         ensures { self.new ≡ self.old ++ (sides.Other, spelling (said_by m.now)) ∷ [] }
     {
-        tell_at(&mut self.datagrams, self.count, m);
+        put_at(&mut self.datagrams, self.count, m);
         self.count += 1;
     }
 }

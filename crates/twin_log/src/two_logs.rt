@@ -1,22 +1,24 @@
 //! One of two loggers.
 
 ghost use Rattle.std.specs.Prelude.{[], ◌∷◌, ◌++◌, ◌≡◌, ◌≤◌, ◌<◌, ◌+◌, ◌^◌, true, false, Ok, OnOk, OnErr, IfOk, length};
-ghost use Rattle.seq_arith.specs.MessageGrammar.{reading};
-ghost use Rattle.seq_arith.specs.TwinGrammar.{reading as twin_reading};
-ghost use Rattle.logger_wire.specs.Value.{message_of, IsSendable};
+ghost use Rattle.seq_arith.specs.MessageGrammar.{reading_by};
+ghost use Rattle.seq_arith.specs.TwinGrammar.{reading_by as twin_reading};
+ghost use Rattle.seq_arith.specs.declared.kinds.Grammar.TheVariants.{Plain};
+ghost use Rattle.logger_wire.specs.Value.{message_of, IsSendableBy};
 ghost use Rattle.twin_laws.specs.Twin.{asked, forwarded_as, from_other_logger};
 ghost use Rattle.twin_laws.specs.Twin.Between.{Got};
 ghost use Rattle.twin_laws.specs.Twin.Comes.{Tells};
-ghost use Rattle.twin_laws.specs.StoredState.{kept_does, paired_does, new_kept, left_alone, serves_alone, kept_head_asked, kept_tail_told, keeps_request, keeps_too, has_kept_room, kept_confirmed, sends_kept, sent_to_other, applies_kept};
+ghost use Rattle.twin_laws.specs.StoredState.{kept_does, paired_does, new_kept, left_alone, serves_alone, kept_head_asked, kept_tail_told};
+ghost use Rattle.twin_laws.specs.StoredState.{keeps_request, keeps_too, has_kept_room, kept_confirmed, sends_kept, sent_to_other, applies_kept};
 ghost use Rattle.twin_laws.specs.declared.part.Side.TheVariants as sides;
-ghost use Rattle.twin_log.specs.Outbox.{answer_out, request_in, is_asking_message};
+ghost use Rattle.twin_log.specs.Outbox.{answer_out, request_in};
 
 use crate::twin_out::TwinOut;
 use crate::waiting::Waiting;
 use ft_io::NoMemory;
 use limits::WAITING;
 use logger_store::{LogStore, MsgOut};
-use logger_wire::{Msg, TwinMsg, read_msg, read_twin};
+use logger_wire::{Grammar, Msg, TwinMsg, read_msg_by, read_twin_by};
 use std::alloc::Global;
 use std::marker::Model;
 use twin_laws::{Part, Side};
@@ -24,6 +26,8 @@ use twin_laws::{Part, Side};
 /// A head or a tail: its log, and how many messages it has taken or applied. A head also stores the messages that the tail hasn't confirmed, at most 64.
 #[derive(Drop)]
 pub struct TwinLog {
+    /// That of the server's messages. The answers have it too.
+    grammar: Grammar,
     part: Part,
     /// Whether the other has stopped.
     alone: bool,
@@ -42,17 +46,25 @@ impl Model for TwinLog {
 
     ghost Value = { Kept };
 
-    ghost view = { λ l. record { part = l.part; alone = l.alone; log = l.log; number = l.number; waiting = l.waiting } };
+    ghost view = { λ l. record { grammar = l.grammar; part = l.part; alone = l.alone; log = l.log; number = l.number; waiting = l.waiting } };
 
     ghost invariant = { λ l. length l.waiting ≤ l.number };
 }
 
 impl TwinLog {
-    /// A logger of a pair, with an empty log.
+    /// A logger of a pair, with an empty log. The server's messages have the plain grammar.
     pub fn new(alloc: Global, part: Part) -> Result<TwinLog, NoMemory>
-        ensures { IfOk result (λ l. l ≡ new_kept part) }
+        ensures { IfOk result (λ l. l ≡ new_kept Plain part) }
+    {
+        TwinLog::new_by(alloc, Grammar::Plain, part)
+    }
+
+    /// A logger of a pair, with an empty log, of a server whose messages have this grammar.
+    pub fn new_by(alloc: Global, grammar: Grammar, part: Part) -> Result<TwinLog, NoMemory>
+        ensures { IfOk result (λ l. l ≡ new_kept grammar part) }
     {
         Ok(TwinLog {
+            grammar,
             part,
             alone: false,
             log: LogStore::new(alloc),
@@ -126,7 +138,7 @@ impl TwinLog {
         ensures refused { OnErr result (self.new ≡ self.old) }
         ensures empty { OnErr result (out.new ≡ []) }
     {
-        let Ok(msg) = read_msg(bytes) else {
+        let Ok(msg) = read_msg_by(self.grammar, bytes) else {
             return Ok(());
         };
         if self.alone {
@@ -157,12 +169,14 @@ impl TwinLog {
     #[tactic(auto, using(crate::proofs::Cases::noise_in_pair, crate::proofs::Cases::some_number))]
     fn on_told(&mut self, alloc: Global, bytes: &[u8], out: &mut TwinOut) -> Result<(), NoMemory>
         requires empty { out.old ≡ [] }
-        ensures next { OnOk result (self.new ≡ (paired_does self.old.part (from_other_logger (twin_reading bytes.now)) self.old).next) }
-        ensures sent { OnOk result (out.new ≡ (paired_does self.old.part (from_other_logger (twin_reading bytes.now)) self.old).sent) }
+        ensures next { let comes = from_other_logger self.old.grammar (twin_reading self.old.grammar bytes.now)
+            in OnOk result (self.new ≡ (paired_does self.old.part comes self.old).next) }
+        ensures sent { let comes = from_other_logger self.old.grammar (twin_reading self.old.grammar bytes.now)
+            in OnOk result (out.new ≡ (paired_does self.old.part comes self.old).sent) }
         ensures refused { OnErr result (self.new ≡ self.old) }
         ensures empty { OnErr result (out.new ≡ []) }
     {
-        let Ok(said) = read_twin(bytes) else {
+        let Ok(said) = read_twin_by(self.grammar, bytes) else {
             return Ok(());
         };
         match said {
@@ -186,12 +200,14 @@ impl TwinLog {
     ) -> Result<(), NoMemory>
         requires some { 1 ≤ number }
         requires empty { out.old ≡ [] }
-        ensures next { OnOk result (self.new ≡ (paired_does self.old.part (forwarded_as number (asked message.now (reading message.now))) self.old).next) }
-        ensures sent { OnOk result (out.new ≡ (paired_does self.old.part (forwarded_as number (asked message.now (reading message.now))) self.old).sent) }
+        ensures next { let comes = forwarded_as number (asked message.now (reading_by self.old.grammar message.now))
+            in OnOk result (self.new ≡ (paired_does self.old.part comes self.old).next) }
+        ensures sent { let comes = forwarded_as number (asked message.now (reading_by self.old.grammar message.now))
+            in OnOk result (out.new ≡ (paired_does self.old.part comes self.old).sent) }
         ensures refused { OnErr result (self.new ≡ self.old) }
         ensures empty { OnErr result (out.new ≡ []) }
     {
-        let Ok(msg) = read_msg(message) else {
+        let Ok(msg) = read_msg_by(self.grammar, message) else {
             return Ok(());
         };
         match self.part {
@@ -213,14 +229,15 @@ impl TwinLog {
     /// Gives a message to the log, and sends the log's answer to the server. A logger that serves alone does nothing else.
     #[tactic(auto, using(crate::proofs::Outgoing::answer_is))]
     fn serve(&mut self, alloc: Global, msg: &Msg<'_>, out: &mut TwinOut) -> Result<(), NoMemory>
-        requires sendable { IsSendable msg.now }
+        requires sendable { IsSendableBy self.old.grammar msg.now }
         requires empty { out.old ≡ [] }
         ensures next { OnOk result (self.new ≡ (serves_alone (message_of msg.now) self.old).next) }
         ensures sent { OnOk result (out.new ≡ (serves_alone (message_of msg.now) self.old).sent) }
         ensures refused { OnErr result (self.new ≡ self.old) }
         ensures empty { OnErr result (out.new ≡ []) }
     {
-        self.log.answer(alloc, msg, &mut self.answer)?;
+        self.log
+            .answer_by(alloc, self.grammar, msg, &mut self.answer)?;
         send_answer(&self.answer, out);
         Ok(())
     }
@@ -233,8 +250,8 @@ impl TwinLog {
         bytes: &[u8],
         out: &mut TwinOut,
     ) -> Result<(), NoMemory>
-        requires sendable { IsSendable msg.now }
-        requires read { reading bytes.now ≡ Ok (message_of msg.now) }
+        requires sendable { IsSendableBy self.old.grammar msg.now }
+        requires read { reading_by self.old.grammar bytes.now ≡ Ok (message_of msg.now) }
         requires empty { out.old ≡ [] }
         ensures next { OnOk result (self.new ≡ (kept_head_asked (request_in bytes.now (message_of msg.now)) self.old).next) }
         ensures sent { OnOk result (out.new ≡ (kept_head_asked (request_in bytes.now (message_of msg.now)) self.old).sent) }
@@ -251,9 +268,8 @@ impl TwinLog {
 
     /// Adds a message to those that a head took, if there is room.
     fn keep(&mut self, alloc: Global, msg: &Msg<'_>, bytes: &[u8]) -> Result<(), NoMemory>
-        requires sendable { IsSendable msg.now }
-        requires read { reading bytes.now ≡ Ok (message_of msg.now) }
-        requires asking { is_asking_message (message_of msg.now) ≡ true }
+        requires sendable { IsSendableBy self.old.grammar msg.now }
+        requires read { reading_by self.old.grammar bytes.now ≡ Ok (message_of msg.now) }
         ensures next { OnOk result (self.new ≡ keeps_request (request_in bytes.now (message_of msg.now)) self.old) }
         ensures refused { OnErr result (self.new ≡ self.old) }
     {
@@ -271,17 +287,17 @@ impl TwinLog {
     }
 
     /// Adds a message to those that a head took. The answer of the head's log isn't sent.
-    #[tactic(auto, unfolding(seq_arith::specs::TwinGrammar::is_asking))]
+    #[tactic(auto, using(crate::proofs::Outgoing::read_is_forwardable))]
     fn add(&mut self, alloc: Global, msg: &Msg<'_>, bytes: &[u8]) -> Result<(), NoMemory>
-        requires sendable { IsSendable msg.now }
-        requires read { reading bytes.now ≡ Ok (message_of msg.now) }
-        requires asking { is_asking_message (message_of msg.now) ≡ true }
+        requires sendable { IsSendableBy self.old.grammar msg.now }
+        requires read { reading_by self.old.grammar bytes.now ≡ Ok (message_of msg.now) }
         requires room { has_kept_room self.old ≡ true }
         ensures next { OnOk result (self.new ≡ keeps_too (request_in bytes.now (message_of msg.now)) self.old) }
         ensures refused { OnErr result (self.new ≡ self.old) }
     {
         let message = bytes.to_vec(alloc)?;
-        self.log.answer(alloc, msg, &mut self.answer)?;
+        self.log
+            .answer_by(alloc, self.grammar, msg, &mut self.answer)?;
         self.waiting.push(message);
         self.number += 1;
         Ok(())
@@ -315,7 +331,7 @@ impl TwinLog {
         msg: &Msg<'_>,
         out: &mut TwinOut,
     ) -> Result<(), NoMemory>
-        requires sendable { IsSendable msg.now }
+        requires sendable { IsSendableBy self.old.grammar msg.now }
         requires some { 1 ≤ number }
         requires empty { out.old ≡ [] }
         ensures next { OnOk result (self.new ≡ (kept_tail_told number (message_of msg.now) self.old).next) }
@@ -341,7 +357,7 @@ impl TwinLog {
         msg: &Msg<'_>,
         out: &mut TwinOut,
     ) -> Result<(), NoMemory>
-        requires sendable { IsSendable msg.now }
+        requires sendable { IsSendableBy self.old.grammar msg.now }
         requires room { self.old.number + 1 < 2 ^ 64 }
         requires empty { out.old ≡ [] }
         ensures next { OnOk result (self.new ≡ (applies_kept (message_of msg.now) self.old).next) }
@@ -376,5 +392,5 @@ fn send_got(number: u64, out: &mut TwinOut)
     requires room { length out.old < 64 }
     ensures { out.new ≡ out.old ++ sent_to_other (Got number ∷ []) }
 {
-    out.tell(&TwinMsg::Got { number });
+    out.put(&TwinMsg::Got { number });
 }

@@ -1,10 +1,9 @@
 //! The messages that the head has forwarded and the tail hasn't confirmed.
 
-ghost use Rattle.std.specs.Prelude.{[], ◌≡◌, ◌≤◌, ◌<◌, ◌+◌, ◌^◌, ◌++◌, ◌∷◌, true, Some, length, map, drop, slice_get, IfOk};
+ghost use Rattle.std.specs.Prelude.{[], ◌≡◌, ◌≤◌, ◌<◌, ◌+◌, ◌^◌, ◌++◌, ◌∷◌, true, Some, length, drop, slice_get, IfOk};
 ghost use Rattle.std.specs.VecDeque.{deque_capacity};
-ghost use Rattle.seq_arith.specs.TwinGrammar.{is_asking};
 ghost use Rattle.twin_laws.specs.StoredState.{forwards_sent};
-ghost use Rattle.twin_log.specs.Outbox.{AreAsking, texts_of};
+ghost use Rattle.twin_log.specs.Outbox.{is_forwardable, AreForwardable, texts_of};
 
 use crate::twin_out::TwinOut;
 use ft_io::NoMemory;
@@ -23,13 +22,13 @@ pub(crate) struct Waiting {
 impl Model for Waiting {
     ghost use Rattle.std.specs.Prelude.{ℕ, ◌≤◌, List, length};
     ghost use Rattle.std.specs.VecDeque.{deque_capacity};
-    ghost use Rattle.twin_log.specs.Outbox.{AreAsking, texts_of};
+    ghost use Rattle.twin_log.specs.Outbox.{AreForwardable, texts_of};
 
     ghost Value = { List (List ℕ) };
 
     ghost view = { λ w. texts_of w.messages.items };
 
-    ghost invariant = { λ w. (length w.messages.items ≤ 64) × (64 ≤ deque_capacity w.messages) × AreAsking (texts_of w.messages.items) };
+    ghost invariant = { λ w. (length w.messages.items ≤ 64) × (64 ≤ deque_capacity w.messages) × AreForwardable (texts_of w.messages.items) };
 }
 
 /// Removes the first `count` messages, or all if there are fewer.
@@ -52,7 +51,7 @@ fn text_at(messages: &VecDeque<Vec<u8>>, i: usize) -> &[u8]
 
 /// Forwards each message. The first has the number after `confirmed`.
 fn forward(messages: &VecDeque<Vec<u8>>, confirmed: u64, out: &mut TwinOut)
-    requires asking { AreAsking (texts_of messages.now.items) }
+    requires fit { AreForwardable (texts_of messages.now.items) }
     requires room { length out.old + length messages.now.items ≤ 64 }
     requires numbers { confirmed + length messages.now.items < 2 ^ 64 }
     ensures { out.new ≡ out.old ++ forwards_sent confirmed (texts_of messages.now.items) }
@@ -60,7 +59,7 @@ fn forward(messages: &VecDeque<Vec<u8>>, confirmed: u64, out: &mut TwinOut)
     for i in 0..messages.len() {
         let message = text_at(messages, i);
         let number = confirmed + i as u64 + 1;
-        out.tell(&TwinMsg::Forward { number, message });
+        out.put(&TwinMsg::Forward { number, message });
     }
 }
 
@@ -86,7 +85,7 @@ impl Waiting {
     /// Appends a message.
     #[tactic(auto, using(crate::proofs::Fronts::mapped))]
     pub(crate) fn push(&mut self, message: Vec<u8>)
-        requires asking { is_asking message.items ≡ true }
+        requires fits { is_forwardable message.items ≡ true }
         requires room { length self.old < 64 }
         ensures { self.new ≡ self.old ++ message.items ∷ [] }
     {

@@ -3,7 +3,8 @@
 ghost use Rattle.limits.specs.Limits.{longest_stream, most_units};
 ghost use Rattle.std.specs.Prelude.{◌≡◌, ◌≤◌, ◌+◌, ◌^◌, ◌&&◌, nat_le, true, length, drop, IfOk};
 ghost use Rattle.seq_arith.specs.MessageGrammar.{number_in};
-ghost use Rattle.seq_arith.specs.MarkGrammar.{kind_numbered, has_length as has_length_lem, marking, fields_of, numbers_of, behind_at, behind_of, kind_of, mark_in, body_in};
+ghost use Rattle.seq_arith.specs.MarkGrammar.{kind_numbered, has_length as has_length_lem, marking, fields_of, numbers_of, behind_at, behind_of};
+ghost use Rattle.seq_arith.specs.MarkGrammar.{kind_of, mark_in, body_in};
 ghost use Rattle.seq_arith.specs.MarkGrammar.{is_sound as is_sound_lem, reading_of, reading, IsSpellable};
 ghost use Rattle.seq_arith.specs.MessageGrammar.{numbers_in};
 ghost use Rattle.logger_wire.specs.MarkValue.{mark_said, body_of, message_of, seen};
@@ -112,7 +113,8 @@ fn read_body(kind: MarkKind, bytes: &[u8]) -> MarkBody<'_>
 /// Returns whether all numbers of a message are in their ranges.
 #[tactic(auto, unfolding(seq_arith::specs::MarkGrammar::is_sound))]
 fn is_sound(msg: &MarkMsg<'_>) -> bool
-    ensures { result ≡ is_sound_lem (kind_of (body_of msg.now.body)) msg.now.boot (length (behind_of (body_of msg.now.body))) (numbers_of (body_of msg.now.body)) }
+    ensures { result ≡ is_sound_lem (kind_of (body_of msg.now.body)) msg.now.boot (length (behind_of (body_of msg.now.body)))
+        (numbers_of (body_of msg.now.body)) }
 {
     let is_body_sound = match msg.body {
         MarkBody::Mark { mark, .. } => mark.reads >= 1 && is_in_range(&mark),

@@ -1,10 +1,10 @@
 //! The kinds of datagrams between two loggers as the code reads them: their numbers, lengths and ranges.
 
 ghost use Rattle.std.specs.Prelude.{◌≡◌};
-ghost use Rattle.seq_arith.specs.TwinGrammar.{kind_number, kind_numbered, has_length as has_length_lem, is_asking as is_asking_lem, is_sound as is_sound_lem};
+ghost use Rattle.seq_arith.specs.TwinGrammar.{kind_number, kind_numbered, has_length as has_length_lem, is_asking_by, is_sound_by};
 
-use crate::reading::read_msg;
-use seq_arith::TwinKind;
+use crate::reading::read_msg_by;
+use seq_arith::{Grammar, TwinKind};
 
 /// The length of every header, in bytes.
 pub(crate) const HEADER: usize = 16;
@@ -45,24 +45,24 @@ pub(crate) fn has_length(kind: TwinKind, len: usize) -> bool
     }
 }
 
-/// Whether bytes are a message that a server may send to a logger.
-#[tactic(auto, unfolding(seq_arith::specs::TwinGrammar::is_asking))]
-pub(crate) fn is_asking(bytes: &[u8]) -> bool
-    ensures { result ≡ is_asking_lem bytes.now }
+/// Whether bytes are a message of a grammar that a server may send to a logger.
+#[tactic(auto, unfolding(seq_arith::specs::TwinGrammar::is_asking_by))]
+pub(crate) fn is_asking(grammar: Grammar, bytes: &[u8]) -> bool
+    ensures { result ≡ is_asking_by grammar bytes.now }
 {
-    match read_msg(bytes) {
+    match read_msg_by(grammar, bytes) {
         Ok(msg) => !msg.body.is_answer(),
         Err(_) => false,
     }
 }
 
-/// Whether a datagram of a kind may have this number, and these bytes after its header.
-#[tactic(auto, unfolding(seq_arith::specs::TwinGrammar::is_sound))]
-pub(crate) fn is_sound(kind: TwinKind, number: u64, behind: &[u8]) -> bool
-    ensures { result ≡ is_sound_lem kind number behind.now }
+/// Whether a datagram of a kind may have this number, and these bytes after its header, where the loggers' messages have this grammar.
+#[tactic(auto, unfolding(seq_arith::specs::TwinGrammar::is_sound_by))]
+pub(crate) fn is_sound(grammar: Grammar, kind: TwinKind, number: u64, behind: &[u8]) -> bool
+    ensures { result ≡ is_sound_by grammar kind number behind.now }
 {
     match kind {
-        TwinKind::Forward => number >= 1 && is_asking(behind),
+        TwinKind::Forward => number >= 1 && is_asking(grammar, behind),
         TwinKind::Got => number >= 1,
         TwinKind::Alone => number == 0,
     }

@@ -1,7 +1,9 @@
 //! Writing a datagram between two loggers in its one spelling. The checksum is computed over the bytes to be written, with zero in its own field.
 
-ghost use Rattle.std.specs.Prelude.{◌≡◌, ◌≤◌, ◌+◌, ◌++◌, length, take, drop, Ok};
-ghost use Rattle.seq_arith.specs.TwinGrammar.{kind_of as kind_lem, number_of as number_lem, behind_of as behind_lem, spelling, reading, IsSpellable};
+ghost use Rattle.std.specs.Prelude.{◌≡◌, ◌≤◌, ◌+◌, ◌++◌, true, length, take, drop, Ok};
+ghost use Rattle.seq_arith.specs.declared.kinds.Grammar.{Grammar};
+ghost use Rattle.seq_arith.specs.TwinGrammar.{kind_of as kind_lem, number_of as number_lem, behind_of as behind_lem};
+ghost use Rattle.seq_arith.specs.TwinGrammar.{has_length, spelling, reading_by, IsSpellableBy};
 ghost use Rattle.logger_wire.specs.TwinValue.{said_by};
 ghost use Rattle.logger_wire.specs.TwinHeader.{header_of};
 
@@ -11,14 +13,15 @@ use crate::writing::checksum_of_both;
 use byteorder::{BigEndian, ByteOrder};
 use seq_arith::TwinKind;
 
-/// Writes a datagram between two loggers at the beginning of `out`, which has room for 2,048 bytes, and returns how many bytes it has: at most 1,507.
+/// Writes a datagram between two loggers at the beginning of `out`, which has room for 2,048 bytes, and returns how many bytes it has: at most 1,507. Its
+/// spelling doesn't depend on the grammar of the loggers' messages.
 pub fn write_twin(m: &TwinMsg<'_>, out: &mut [u8]) -> usize
-    requires spellable { IsSpellable (said_by m.now) }
+    requires size { has_length (kind_lem (said_by m.now)) (16 + length (behind_lem (said_by m.now))) ≡ true }
     requires room { 2048 ≤ length out.old }
     ensures length { result ≡ 16 + length (behind_lem (said_by m.now)) }
     ensures bytes { out.new ≡ spelling (said_by m.now) ++ drop result out.old }
-    // What is written can be read back.
-    ensures read { reading (take result out.new) ≡ Ok (said_by m.now) }
+    // What is written can be read back, by the grammar in which what it says is in its range.
+    ensures read { (grammar : Grammar) → IsSpellableBy grammar (said_by m.now) → reading_by grammar (take result out.new) ≡ Ok (said_by m.now) }
 {
     let (front, rest) = out.split_at_mut(HEADER);
     let behind = behind_of(m);

@@ -10,11 +10,11 @@ returns-clause-bytes c =
     let len : ℕ = c.args.at + length c.args.behind.now
     in let there : List ℕ = c.put_bytes.new.out
     in let blank : List ℕ = c.put_header.new.out
-    in let blank_is : blank ≡ put 0 (header c.args.kind len 0 c.args.boot) (put c.args.at c.args.behind.now c.args.out.now) =
-    c.put_header.ensures ∙ ap (put 0 (header c.args.kind len 0 c.args.boot)) c.put_bytes.ensures
+    in let blank_is : blank ≡ put 0 (header c.args.grammar c.args.kind len 0 c.args.boot) (put c.args.at c.args.behind.now c.args.out.now) =
+    c.put_header.ensures ∙ ap (put 0 (header c.args.grammar c.args.kind len 0 c.args.boot)) c.put_bytes.ensures
     in let sum : c.checksum_of_both-check.result ≡ checksum (take len blank) =
     c.checksum_of_both-check.ensures
-    ∙ ap checksum (behind_summed c.args.kind c.args.boot len c.args.at c.args.behind.now c.args.out.now blank c.requires.long c.requires.room blank_is)
+    ∙ ap checksum (behind_summed c.args.grammar c.args.kind c.args.boot len c.args.at c.args.behind.now c.args.out.now blank c.requires.long c.requires.room blank_is)
     in c.put_word.ensures
-    ∙ finished c.args.kind c.args.boot len c.checksum_of_both-check.result there blank (omega (arith, c.requires.long)) (omega arith) c.put_header.ensures sum
-    ∙ ap (framed c.args.kind c.args.boot len) c.put_bytes.ensures
+    ∙ finished c.args.grammar c.args.kind c.args.boot len c.checksum_of_both-check.result there blank (omega (arith, c.requires.long)) (omega arith) c.put_header.ensures sum
+    ∙ ap (framed c.args.grammar c.args.kind c.args.boot len) c.put_bytes.ensures

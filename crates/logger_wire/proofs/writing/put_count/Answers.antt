@@ -9,4 +9,4 @@ use Rattle.logger_wire.proofs.writing.put_count.Goals as goal
 pub returns-clause-bytes : goal.returns-clause-bytes
 returns-clause-bytes c =
     let body : Body = bodies.SummaryMsg c.args.n
-    in cc (fields_are_all body c.args.out.now refl c.requires, written c.args.kind c.args.boot (message_length body) body c.args.out.now refl c.requires)
+    in cc (fields_are_all body c.args.out.now refl c.requires, written c.args.grammar c.args.kind c.args.boot (message_length body) body c.args.out.now refl c.requires)

@@ -11,4 +11,4 @@ use Rattle.logger_wire.proofs.writing.put_data.Goals as goal
 pub returns-clause-bytes : goal.returns-clause-bytes
 returns-clause-bytes c =
     let body : Body = bodies.DataMsg (part_said c.args.part.now)
-    in cc (written kinds.Data c.args.boot (message_length body) body c.args.out.now refl c.requires.room, behind_put body c.args.out.now c.requires.room)
+    in cc (written c.args.grammar kinds.Data c.args.boot (message_length body) body c.args.out.now refl c.requires.room, behind_put body c.args.out.now c.requires.room)

@@ -10,4 +10,4 @@ use Rattle.logger_wire.proofs.writing.put_entry.Goals as goal
 pub returns-clause-bytes : goal.returns-clause-bytes
 returns-clause-bytes c =
     let body : Body = bodies.EntryMsg c.args.index (head_said c.args.head.now)
-    in cc (written kinds.Entry c.args.boot (message_length body) body c.args.out.now refl c.requires)
+    in cc (written c.args.grammar kinds.Entry c.args.boot (message_length body) body c.args.out.now refl c.requires)

@@ -11,5 +11,5 @@ returns-clause-bytes c =
     let body : Body = bodies.PartMsg c.args.key c.args.start c.args.behind.now
     in cc (
       body_put body c.args.out.now c.requires.room,
-      written c.args.kind c.args.boot (message_length body) body c.args.out.now refl c.requires.room,
+      written c.args.grammar c.args.kind c.args.boot (message_length body) body c.args.out.now refl c.requires.room,
     )

@@ -10,5 +10,5 @@ pub returns-clause-bytes : goal.returns-clause-bytes
 returns-clause-bytes c =
     cc (
       fields_are_all bodies.HelloMsg c.args.out.now refl c.requires,
-      written kinds.Hello c.args.boot (message_length bodies.HelloMsg) bodies.HelloMsg c.args.out.now refl c.requires,
+      written c.args.grammar kinds.Hello c.args.boot (message_length bodies.HelloMsg) bodies.HelloMsg c.args.out.now refl c.requires,
     )

@@ -7,4 +7,4 @@ use Rattle.logger_wire.proofs.writing.put_kind.Goals as goal
 pub returns-in-Entry-clause-bytes : goal.returns-in-Entry-clause-bytes
 returns-in-Entry-clause-bytes c =
     c.put_entry.ensures.bytes
-    ∙ sym (ap (λ b. put 0 (sealed (kind_of (body_of b)) c.args.m.now.boot (body_bytes (body_of b))) c.args.out.now) c.in-Entry.is)
+    ∙ sym (ap (λ b. put 0 (sealed c.args.grammar (kind_of (body_of b)) c.args.m.now.boot (body_bytes (body_of b))) c.args.out.now) c.in-Entry.is)

@@ -9,4 +9,4 @@ use Rattle.logger_wire.proofs.writing.put_opening.Goals as goal
 pub returns-clause-bytes : goal.returns-clause-bytes
 returns-clause-bytes c =
     let body : Body = bodies.OpenMsg (numbers_said c.args.numbers.now)
-    in cc (written c.args.kind c.args.boot (message_length body) body c.args.out.now refl c.requires)
+    in cc (written c.args.grammar c.args.kind c.args.boot (message_length body) body c.args.out.now refl c.requires)

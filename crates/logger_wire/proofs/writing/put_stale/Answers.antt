@@ -10,4 +10,4 @@ use Rattle.logger_wire.proofs.writing.put_stale.Goals as goal
 pub returns-clause-bytes : goal.returns-clause-bytes
 returns-clause-bytes c =
     let body : Body = bodies.StaleMsg c.args.newer
-    in cc (fields_are_all body c.args.out.now refl c.requires, written kinds.Stale c.args.boot (message_length body) body c.args.out.now refl c.requires)
+    in cc (fields_are_all body c.args.out.now refl c.requires, written c.args.grammar kinds.Stale c.args.boot (message_length body) body c.args.out.now refl c.requires)

@@ -1,6 +1,7 @@
-use Rattle.std.proofs.Common.{arith}
-use Rattle.twin_log.proofs.Outgoing.{got_fits}
+use Rattle.std.proofs.Common.{refl}
+use Rattle.seq_arith.specs.TwinGrammar.{has_length}
 use Rattle.twin_log.proofs.two_logs.send_got.Goals as goal
 
-pub tell-requires-clause-spellable : goal.tell-requires-clause-spellable
-tell-requires-clause-spellable c = got_fits c.args.number c.requires.some (omega (arith, c.ranges.number.fits))
+pub put-requires-clause-fits : goal.put-requires-clause-fits
+unfolding has_length
+put-requires-clause-fits c = refl

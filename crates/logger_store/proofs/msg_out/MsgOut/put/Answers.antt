@@ -1,10 +1,8 @@
-use Rattle.std.proofs.Common.{arith, inl, inr, refl, subst, sym, IsOk}
+use Rattle.std.proofs.Common.{◌∙◌, ap}
+use Rattle.seq_arith.specs.MessageGrammar.{reading}
+use Rattle.seq_arith.proofs.MessageSpelling.{message_is_read}
 use Rattle.logger_wire.specs.Value.{message_of}
-use Rattle.logger_wire.proofs.OneSpelling.{not_longer}
 use Rattle.logger_store.proofs.msg_out.MsgOut.put.Goals as goal
 
-pub invariant_of-self : goal.invariant_of-self
-invariant_of-self c = (
-  omega (arith, c.write_msg-self-inside.ensures.length, not_longer (message_of c.args.m.now) c.requires.spellable),
-  inl (inr (subst IsOk (sym c.write_msg-self-inside.ensures.read) refl)),
-)
+pub returns-clause-read : goal.returns-clause-read
+returns-clause-read c = ap (λ bytes. reading bytes) c.put_by.ensures ∙ message_is_read (message_of c.args.m.now) c.requires.spellable

@@ -1,7 +1,7 @@
 use Rattle.std.proofs.Common.{◌∙◌, sym, ap}
 use Rattle.logger_wire.specs.Value.{message_of}
 use Rattle.logger_store.proofs.Changed.{own_differs}
-use Rattle.logger_store.proofs.store.LogStore.changes.Goals as goal
+use Rattle.logger_store.proofs.store.LogStore.changes_by.Goals as goal
 
 pub returns-then-m-self-clause-differs : goal.returns-then-m-self-clause-differs
 returns-then-m-self-clause-differs c = λ some.

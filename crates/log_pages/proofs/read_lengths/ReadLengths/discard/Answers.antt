@@ -1,7 +1,7 @@
 use Rattle.std.proofs.Common.{◌≡◌, ◌∙◌, ◌+◌, ◌*◌, ◌≤◌, ap, ap₂, refl, subst, arith, take, sum}
 use Rattle.log_pages.specs.Pages.{levelled}
 use Rattle.log_pages.proofs.Levels.{level_stays, level_total, level_ranges, level_more}
-use Rattle.log_pages.proofs.read_lengths.ReadLengths.give_up.Goals as goal
+use Rattle.log_pages.proofs.read_lengths.ReadLengths.discard.Goals as goal
 
 pub returns-then-reads-given_up : goal.returns-then-reads-given_up
 returns-then-reads-given_up c =

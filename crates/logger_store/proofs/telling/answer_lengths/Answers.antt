@@ -3,10 +3,10 @@ use Rattle.std.specs.Prelude.{nat_le}
 use Rattle.std.specs.List.{list_all}
 use Rattle.seq_arith.specs.MessageGrammar.{lens_in}
 use Rattle.logger_store.proofs.Sending.{lens_sound, lens_size}
-use Rattle.logger_store.proofs.telling.tell_lengths.Goals as goal
+use Rattle.logger_store.proofs.telling.answer_lengths.Goals as goal
 
-pub put-requires : goal.put-requires
-put-requires c =
+pub put_by-requires : goal.put_by-requires
+put_by-requires c =
     let each : list_all (λ n. nat_le n 2048) (lens_in c.as_bytes.result.now) ≡ true = ap (list_all (λ n. nat_le n 2048)) c.as_bytes.ensures.value ∙ c.copy_lengths.ensures.each in
     let whole : length (lens_in c.as_bytes.result.now) ≡ length c.copy_lengths.new.lens = ap length c.as_bytes.ensures.value in
     let some : 1 ≤ length (lens_in c.as_bytes.result.now) =
@@ -17,7 +17,7 @@ put-requires c =
       spellable = record {
         boot = search rules;
         numbers = search rules;
-        sound = lens_sound c.args.boot c.args.first _ _ _ (lens_in c.as_bytes.result.now) c.requires.boot (search rules) each;
+        sound = lens_sound c.args.grammar c.args.boot c.args.first _ _ _ (lens_in c.as_bytes.result.now) c.requires.boot (search rules) each;
         size = lens_size (lens_in c.as_bytes.result.now) some few;
       };
     }
