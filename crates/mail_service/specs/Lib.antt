@@ -1,0 +1,6 @@
+pub mod Reply
+pub mod Command
+pub mod Phase
+pub mod Mail
+pub mod Laws
+pub mod Session
