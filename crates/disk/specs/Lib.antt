@@ -7,3 +7,4 @@ pub mod MemDesk
 pub mod MemDisk
 pub mod MemFile
 pub mod CallRecord
+pub mod Aside

@@ -37,7 +37,18 @@ pub record DeskState : Type 0 where
 -- a desk before its first call
 abbrev pub fresh_desk : LinkState → DiskState → (name open_fails : List ℕ) → Bool → DeskState
 fresh_desk link disk name open_fails is_in_use =
-    record { link = link; disk = disk; name = name; opens = no_call open_fails; is_in_use = is_in_use; refusals = 0; link_faults = 0; bind_faults = 0; waits = []; forgets_waits = false }
+    record {
+      link = link;
+      disk = disk;
+      name = name;
+      opens = no_call open_fails;
+      is_in_use = is_in_use;
+      refusals = 0;
+      link_faults = 0;
+      bind_faults = 0;
+      waits = [];
+      forgets_waits = false;
+    }
 
 -- the record of the calls on both; there is none once an allocation for it has failed
 abbrev pub told_of : DeskState → Option (List DeskCall)

@@ -16,6 +16,9 @@ pub record DiskState : Type 0 where
   pub reads : Calls
   -- its calls that change it
   pub changes : Calls
+  -- what the new file beside it has, and had at its last sync
+  pub aside : List ℕ
+  pub aside_synced : List ℕ
   -- the calls that it has recorded, the oldest first
   pub calls : List DeskCall
   -- how many calls failed
@@ -26,7 +29,17 @@ pub record DiskState : Type 0 where
 -- a file of these bytes before the first call
 abbrev pub fresh_disk : List ℕ → List ℕ → List ℕ → DiskState
 fresh_disk first read_fails fails =
-    record { first = first; left = first; reads = no_call read_fails; changes = no_call fails; calls = []; faults = 0; is_starved = false }
+    record {
+      first = first;
+      left = first;
+      reads = no_call read_fails;
+      changes = no_call fails;
+      aside = [];
+      aside_synced = [];
+      calls = [];
+      faults = 0;
+      is_starved = false;
+    }
 
 -- the record of all its calls; there is none once an allocation has failed in one
 abbrev pub told_of : DiskState → Option (List DeskCall)

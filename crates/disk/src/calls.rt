@@ -11,8 +11,10 @@ pub enum DiskCall {
     Put(u64, u8, bool),
     /// The bytes from this place on are cut off.
     Cut(u64, bool),
-    /// All that was done before is written to the disk.
+    /// All that was done before is written to the disk, and so is the file's name.
     Synced(bool),
+    /// A new file with these bytes, which are on the disk, takes the place of the file and its name.
+    Replaced(Octets, bool),
 }
 
 /// A call on a network or a file.

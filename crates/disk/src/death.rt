@@ -15,7 +15,7 @@ pub struct Death {
     pub calls: usize,
     /// How many of the first bytes of an unsynced append are on the disk; all if it has fewer.
     pub kept: usize,
-    /// Whether an unsynced byte that was put is on the disk.
+    /// Whether an unsynced byte that was put is on the disk, and whether a new file has the name before the folder is synced.
     pub is_put: bool,
 }
 
@@ -64,6 +64,11 @@ fn hold(
         DiskCall::Cut(at, _) => cut_off(held, *at),
         DiskCall::Synced(true) => (),
         DiskCall::Synced(false) => *held = file.to_vec(alloc)?,
+        DiskCall::Replaced(bytes, _) => {
+            if death.is_put {
+                *held = bytes.as_slice().to_vec(alloc)?;
+            }
+        }
     }
     Ok(())
 }
@@ -76,7 +81,11 @@ fn see(file: &mut Vec<u8>, call: &DiskCall) -> Result<(), NoMemory>
         DiskCall::Appended(bytes, _) => file.extend_from_slice(bytes.as_slice())?,
         DiskCall::Put(at, byte, _) => put_byte(file, *at, *byte)?,
         DiskCall::Cut(at, _) => cut_off(file, *at),
-        DiskCall::Synced(_) => (),
+        DiskCall::Synced(_) | DiskCall::Replaced(_, true) => (),
+        DiskCall::Replaced(bytes, false) => {
+            file.clear();
+            file.extend_from_slice(bytes.as_slice())?;
+        }
     }
     Ok(())
 }

@@ -1,11 +1,14 @@
 //! A network of datagrams and one file, whose calls are recorded in one order. So a contract can say that an answer was sent after the sync that it depends on.
 
-ghost use Rattle.std.specs.Prelude.{◌≡◌, ◌≤◌, ℕ, List, [], ◌∷◌, Some, true, false, length, IfOk, OnOk, OnErr, IsErrOf};
+ghost use Rattle.std.specs.Prelude.{◌≡◌, ◌≤◌, ℕ, List, [], ◌∷◌, ◌++◌, Some, true, false, length, is_err, IfOk, OnOk, OnErr, IsErrOf};
 ghost use Rattle.std.specs.declared.option.Option.{Option};
 ghost use Rattle.ft_io.specs.Faults.{Rose};
 ghost use Rattle.ft_io.specs.Told.{Tells};
 ghost use Rattle.ft_io.specs.Link.{bind_told, send_told, recv_told, HasAtMost};
+ghost use Rattle.disk.specs.Aside.{HasAside};
 ghost use Rattle.disk.specs.CallRecord.{on_link};
+ghost use Rattle.disk.specs.declared.calls.DeskCall.TheVariants.{OnDisk};
+ghost use Rattle.disk.specs.declared.calls.DiskCall.TheVariants.{Replaced};
 
 use crate::{Disk, ShelfEnd};
 use ft_io::{Addr, Failed, Heard};
@@ -14,6 +17,12 @@ use ft_io::{Addr, Failed, Heard};
 pub trait Desk: Disk {
     /// The content of the file of this name, empty if there is no such file, or `None` where the content isn't specified.
     ghost file_of: { Self → List ℕ → Option (List ℕ) };
+
+    /// What the new file has that is to take the place of the open one, or `None` where that isn't specified.
+    ghost aside: { Self → Option (List ℕ) };
+
+    /// What it had at its last sync: a death leaves this of it.
+    ghost aside_synced: { Self → Option (List ℕ) };
 
     /// How many times a file was refused because another process has it, because it isn't there, or because it is and was to be made. The count never falls,
     /// and stops at `u64::MAX`.
@@ -58,6 +67,45 @@ pub trait Desk: Disk {
         ensures no_link_fault { (Self.beside self.new).link_faults ≡ (Self.beside self.old).link_faults }
         ensures no_bind_fault { (Self.beside self.new).bind_faults ≡ (Self.beside self.old).bind_faults }
         ensures waits { (Self.beside self.new).waits ≡ (Self.beside self.old).waits };
+
+    /// Begins a new file beside the open one, which stays as it is. What is left of an earlier one is removed.
+    fn begin_aside(&mut self) -> Result<(), Failed>
+        ensures empty { OnOk result (HasAside (aside self.new) []) }
+        ensures told { Tells (Self.told self.old) (Self.told self.new) [] }
+        ensures cause { OnErr result (Rose (Self.fault_count self.old) (Self.fault_count self.new)) }
+        ensures never_falls { Self.fault_count self.old ≤ Self.fault_count self.new }
+        ensures beside { Self.beside self.new ≡ Self.beside self.old };
+
+    /// Appends bytes to the new file. The open one stays as it is.
+    fn append_aside(&mut self, bytes: &[u8]) -> Result<(), Failed>
+        ensures appended { OnOk result ((before : List ℕ) → HasAside (aside self.old) before → HasAside (aside self.new) (before ++ bytes.now)) }
+        ensures told { Tells (Self.told self.old) (Self.told self.new) [] }
+        ensures cause { OnErr result (Rose (Self.fault_count self.old) (Self.fault_count self.new)) }
+        ensures never_falls { Self.fault_count self.old ≤ Self.fault_count self.new }
+        ensures beside { Self.beside self.new ≡ Self.beside self.old };
+
+    /// Waits until the new file is on the disk.
+    fn sync_aside(&mut self) -> Result<(), Failed>
+        ensures synced { OnOk result (aside_synced self.new ≡ aside self.old) }
+        ensures told { Tells (Self.told self.old) (Self.told self.new) [] }
+        ensures cause { OnErr result (Rose (Self.fault_count self.old) (Self.fault_count self.new)) }
+        ensures never_falls { Self.fault_count self.old ≤ Self.fault_count self.new }
+        ensures beside { Self.beside self.new ≡ Self.beside self.old };
+
+    /// Removes the new file, so that it takes no room.
+    fn drop_aside(&mut self)
+        ensures told { Tells (Self.told self.old) (Self.told self.new) [] }
+        ensures same { Self.fault_count self.new ≡ Self.fault_count self.old }
+        ensures beside { Self.beside self.new ≡ Self.beside self.old };
+
+    /// The new file takes the place and the name of the open one, with what it had at its last sync. Until a sync the name may be the old file's after a death.
+    /// After `Failed` it is the one's or the other's, and no more calls may be made on the file.
+    fn replace(&mut self) -> Result<(), Failed>
+        ensures told { (bytes : List ℕ) → HasAside (aside_synced self.old) bytes
+            → Tells (Self.told self.old) (Self.told self.new) (OnDisk (Replaced bytes (is_err result)) ∷ []) }
+        ensures cause { OnErr result (Rose (Self.fault_count self.old) (Self.fault_count self.new)) }
+        ensures never_falls { Self.fault_count self.old ≤ Self.fault_count self.new }
+        ensures beside { Self.beside self.new ≡ Self.beside self.old };
 
     /// Sends and receives at the address `at` from now on. After `Failed` all is as before, except for the counts.
     fn bind(&mut self, at: Addr) -> Result<(), Failed>

@@ -63,7 +63,7 @@ pub trait Disk {
         ensures never_falls { fault_count self.old ≤ fault_count self.new }
         ensures beside { beside self.new ≡ beside self.old };
 
-    /// Waits until all that was done is on the disk. After `Failed` it may be there or not.
+    /// Waits until all that was done is on the disk, and the file's name if it is a new one. After `Failed` it may be there or not.
     fn sync(&mut self) -> Result<(), Failed>
         ensures told { Tells (told self.old) (told self.new) (OnDisk (Synced (is_err result)) ∷ []) }
         ensures cause { OnErr result (Rose (fault_count self.old) (fault_count self.new)) }

@@ -21,8 +21,8 @@ pub struct FileDisk<F: OpenFile> {
 }
 
 impl FileDisk<StdFile> {
-    /// Opens the file of the system at `path`, for this process only. A symbolic link, a directory and a device are refused, and so is a file with a second name
-    /// (hard link).
+    /// Opens the file of the system at `path`, for this process only. A symbolic link, a directory and a device are refused, and so is a file with a second
+    /// name (hard link).
     pub fn open<R: Files<File = File>>(files: &R, path: &str) -> Result<FileDisk<StdFile>, ShelfEnd>
         ensures { IfOk result (λ disk. disk.faults ≡ 0) }
     {

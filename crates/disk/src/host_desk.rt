@@ -5,14 +5,15 @@ ghost use Rattle.ft_io.specs.Link.{HasAtMost};
 ghost use Rattle.disk.specs.HostDesk.{fresh_desk};
 
 use crate::file_disk::counted;
+use crate::std_file::keep_name;
 use crate::{Desk, Disk, FileDisk, ShelfEnd, StdFile};
 use ft_io::{Addr, Failed, Heard};
-use std::alloc::Global;
+use std::alloc::{AllocError, Global};
 use std::fs::{File, Files};
-use std::io;
 use std::marker::Model;
 use std::net::{IpAddr, Ipv4Addr, Net, SocketAddr, UdpSocket};
 use std::time::{Clock, Duration, SystemTime, UNIX_EPOCH};
+use std::{fs, io};
 
 /// The longest wait of a receive, in milliseconds.
 const PATIENCE: u64 = 20;
@@ -22,15 +23,18 @@ const PATIENCE: u64 = 20;
 struct Held {
     disk: FileDisk<StdFile>,
     name: String,
+    /// Whether it took this name, and the folder isn't synced yet.
+    is_new: bool,
 }
 
-/// A UDP socket and a file. A sync is a fault if the file's name is gone then, or another file's. A call on the file before the first successful open is a fault,
-/// and so is one on the network before the first successful bind. A datagram from an address that isn't IPv4 is a fault too.
+/// A UDP socket and a file. A sync is a fault if the file's name is gone then, or another file's. A call on the file before the first successful open is a
+/// fault, and so is one on the network before the first successful bind. A datagram from an address that isn't IPv4 is a fault too.
 #[derive(Drop)]
 pub struct HostDesk<'a, R: Net + Clock + Files<File = File>> {
     alloc: Global,
     system: &'a R,
     file: Option<Held>,
+    aside: Option<Held>,
     socket: Option<Bound>,
     faults: u64,
     refusals: u64,
@@ -55,6 +59,7 @@ impl<'a, R: Net + Clock + Files<File = File>> HostDesk<'a, R> {
             alloc,
             system,
             file: None,
+            aside: None,
             socket: None,
             faults: 0,
             refusals: 0,
@@ -71,7 +76,9 @@ fn open_held<R: Files<File = File>>(
     name: &str,
 ) -> Result<Held, ShelfEnd> {
     let disk = FileDisk::open(files, name)?;
-    named(alloc, disk, name)
+    let held = named(alloc, disk, name)?;
+    clear_aside(alloc, files, &held);
+    Ok(held)
 }
 
 /// Makes a file of this name.
@@ -87,19 +94,92 @@ fn begin_held<R: Files<File = File>>(
 /// A file with its name, if there is memory for that.
 fn named(alloc: Global, disk: FileDisk<StdFile>, name: &str) -> Result<Held, ShelfEnd> {
     match String::from_str(alloc, name) {
-        Ok(name) => Ok(Held { disk, name }),
+        Ok(name) => Ok(Held {
+            disk,
+            name,
+            is_new: false,
+        }),
         Err(_) => Err(ShelfEnd::Failed),
     }
 }
 
-/// Syncs a file. Then its name still has to be its name.
+/// Syncs a file, and its folder if the file has just taken its name. Then its name still has to be its name.
 fn sync_named<R: Files<File = File>>(files: &R, held: &mut Held) -> Result<(), Failed> {
     held.disk.sync()?;
+    if held.is_new {
+        keep_name(files, held.name.as_str()).map_err(|_| Failed)?;
+        held.is_new = false;
+    }
     if held.disk.is_at(files, held.name.as_str()) {
         Ok(())
     } else {
         Err(Failed)
     }
+}
+
+/// The name of the new file that is to take the place of the one of this name.
+fn aside_name(alloc: Global, name: &str) -> Result<String, AllocError> {
+    let mut aside = String::from_str(alloc, name)?;
+    aside.push_str(".new")?;
+    Ok(aside)
+}
+
+/// Removes what is left of an earlier new file, if there is any.
+fn remove_left<R: Files<File = File>>(files: &R, name: &str) -> Result<(), Failed> {
+    match fs::remove_file(files, name) {
+        Ok(()) => Ok(()),
+        Err(error) if error.kind() == io::ErrorKind::NotFound => Ok(()),
+        Err(_) => Err(Failed),
+    }
+}
+
+/// Removes a new file that an earlier process has left beside this one. If that fails it stays: it is never read, and is in the way of the next one only.
+fn clear_aside<R: Files<File = File>>(alloc: Global, files: &R, held: &Held) {
+    if let Ok(name) = aside_name(alloc, held.name.as_str()) {
+        let _removed = remove_left(files, name.as_str());
+    }
+}
+
+/// Makes the new file that is to take the place of this one.
+fn make_aside<R: Files<File = File>>(
+    alloc: Global,
+    files: &R,
+    held: &Held,
+) -> Result<Held, Failed> {
+    let name = aside_name(alloc, held.name.as_str()).map_err(|_| Failed)?;
+    remove_left(files, name.as_str())?;
+    let disk = FileDisk::begin(files, name.as_str()).map_err(|_| Failed)?;
+    Ok(Held {
+        disk,
+        name,
+        is_new: false,
+    })
+}
+
+/// The new file takes the name of the old one, which still has to be its name.
+fn rename_over<R: Files<File = File>>(files: &R, old: &Held, aside: &Held) -> Result<(), Failed> {
+    if !old.disk.is_at(files, old.name.as_str()) || !aside.disk.is_at(files, aside.name.as_str()) {
+        return Err(Failed);
+    }
+    fs::rename(files, aside.name.as_str(), old.name.as_str()).map_err(|_| Failed)
+}
+
+/// The new file takes the place and the name of the old one.
+fn take_place<R: Files<File = File>>(
+    files: &R,
+    file: &mut Option<Held>,
+    aside: &mut Option<Held>,
+) -> Result<(), Failed> {
+    let (Some(old), Some(new)) = (file.take(), aside.take()) else {
+        return Err(Failed);
+    };
+    rename_over(files, &old, &new)?;
+    *file = Some(Held {
+        disk: new.disk,
+        name: old.name,
+        is_new: true,
+    });
+    Ok(())
 }
 
 /// The time since 1970, in nanoseconds.
@@ -166,6 +246,10 @@ impl<'a, R: Net + Clock + Files<File = File>> Disk for HostDesk<'a, R> {
 impl<'a, R: Net + Clock + Files<File = File>> Desk for HostDesk<'a, R> {
     ghost file_of = { λ _ _. None };
 
+    ghost aside = { λ _. None };
+
+    ghost aside_synced = { λ _. None };
+
     fn refusals(&self) -> u64 {
         self.refusals
     }
@@ -224,6 +308,44 @@ impl<'a, R: Net + Clock + Files<File = File>> Desk for HostDesk<'a, R> {
         }
     }
 
+    fn begin_aside(&mut self) -> Result<(), Failed> {
+        self.aside = None;
+        let made = match &self.file {
+            Some(file) => make_aside(self.alloc, self.system, file),
+            None => Err(Failed),
+        };
+        let made = counted(&mut self.faults, made)?;
+        self.aside = Some(made);
+        Ok(())
+    }
+
+    fn append_aside(&mut self, bytes: &[u8]) -> Result<(), Failed> {
+        let done = match &mut self.aside {
+            Some(aside) => aside.disk.append(bytes),
+            None => Err(Failed),
+        };
+        counted(&mut self.faults, done)
+    }
+
+    fn sync_aside(&mut self) -> Result<(), Failed> {
+        let done = match &mut self.aside {
+            Some(aside) => aside.disk.sync(),
+            None => Err(Failed),
+        };
+        counted(&mut self.faults, done)
+    }
+
+    fn drop_aside(&mut self) {
+        if let Some(aside) = self.aside.take() {
+            let _removed = remove_left(self.system, aside.name.as_str());
+        }
+    }
+
+    fn replace(&mut self) -> Result<(), Failed> {
+        let done = take_place(self.system, &mut self.file, &mut self.aside);
+        counted(&mut self.faults, done)
+    }
+
     fn bind(&mut self, at: Addr) -> Result<(), Failed> {
         match Bound::open(self.system, at) {
             Ok(bound) => {
@@ -244,12 +366,12 @@ impl<'a, R: Net + Clock + Files<File = File>> Desk for HostDesk<'a, R> {
     }
 
     fn recv(&mut self, buf: &mut [u8]) -> Result<Heard, Failed> {
-        let heard = hear_by(&mut self.socket, true, buf);
+        let heard = receive_by(&mut self.socket, true, buf);
         counted(&mut self.link_faults, heard)
     }
 
     fn recv_waiting(&mut self, buf: &mut [u8]) -> Result<Heard, Failed> {
-        let heard = hear_by(&mut self.socket, false, buf);
+        let heard = receive_by(&mut self.socket, false, buf);
         counted(&mut self.link_faults, heard)
     }
 }
@@ -282,7 +404,7 @@ impl Bound {
     }
 
     /// Receives a datagram, or nothing. `None` where the socket fails.
-    fn hear(&mut self, waits: bool, buf: &mut [u8]) -> Option<Heard>
+    fn receive(&mut self, waits: bool, buf: &mut [u8]) -> Option<Heard>
         ensures { IfSome result (λ heard. HasAtMost heard (length buf.new)) }
     {
         self.set_waits(waits).ok()?;
@@ -315,13 +437,13 @@ fn send_by(socket: &mut Option<Bound>, to: Addr, bytes: &[u8]) -> Result<(), Fai
     }
 }
 
-fn hear_by(socket: &mut Option<Bound>, waits: bool, buf: &mut [u8]) -> Result<Heard, Failed>
+fn receive_by(socket: &mut Option<Bound>, waits: bool, buf: &mut [u8]) -> Result<Heard, Failed>
     ensures { IfOk result (λ heard. HasAtMost heard (length buf.new)) }
 {
     let Some(bound) = socket else {
         return Err(Failed);
     };
-    bound.hear(waits, buf).ok_or(Failed)
+    bound.receive(waits, buf).ok_or(Failed)
 }
 
 fn is_silence(kind: io::ErrorKind) -> bool {

@@ -1,7 +1,8 @@
 //! A network and a file in memory, for tests: the datagrams that arrive, the file's bytes and the calls that fail are given, and the calls on both are recorded
 //! in one list.
 
-ghost use Rattle.std.specs.Prelude.{◌≡◌, ◌≤◌, ◌<◌, ◌⊎◌, ℕ, List, length, take, false, true, None, Some, [], ◌∷◌, string_bytes, IfSome, IfOk, OnOk, OnErr, IsErrOf};
+ghost use Rattle.std.specs.Prelude.{◌≡◌, ◌≤◌, ◌<◌, ◌⊎◌, ℕ, List, length, take, false, true, None, Some, [], ◌∷◌, string_bytes, IfSome, IfOk, OnOk};
+ghost use Rattle.std.specs.Prelude.{OnErr, IsErrOf};
 ghost use Rattle.std.specs.Bool.{OnTrue, OnFalse};
 ghost use Rattle.ft_io.specs.declared.link_call.LinkCall.TheVariants.{Handed};
 ghost use Rattle.ft_system.specs.Arrival.{arriving};
@@ -190,7 +191,7 @@ impl MemDesk {
     }
 
     /// Receives, and records the outcome.
-    fn hear(&mut self, buf: &mut [u8]) -> Result<Heard, Failed>
+    fn receive(&mut self, buf: &mut [u8]) -> Result<Heard, Failed>
         requires { 2048 ≤ length buf.old }
         ensures heard { IfOk result (λ heard. heard_as heard buf.new ≡ arriving (length buf.new) self.old.link.arrivals) }
         ensures fails { OnErr result (IsNextListed self.old.link.recvs ⊎ IsStarved self.new) }
@@ -252,6 +253,10 @@ impl Disk for MemDesk {
 
 impl Desk for MemDesk {
     ghost file_of = { file_of };
+
+    ghost aside = { λ d. Some d.disk.aside };
+
+    ghost aside_synced = { λ d. Some d.disk.aside_synced };
 
     fn refusals(&self) -> u64 {
         self.refusals
@@ -339,6 +344,26 @@ impl Desk for MemDesk {
         Ok(())
     }
 
+    fn begin_aside(&mut self) -> Result<(), Failed> {
+        self.disk.begin_aside()
+    }
+
+    fn append_aside(&mut self, bytes: &[u8]) -> Result<(), Failed> {
+        self.disk.append_aside(bytes)
+    }
+
+    fn sync_aside(&mut self) -> Result<(), Failed> {
+        self.disk.sync_aside()
+    }
+
+    fn drop_aside(&mut self) {
+        self.disk.drop_aside();
+    }
+
+    fn replace(&mut self) -> Result<(), Failed> {
+        self.disk.replace()
+    }
+
     fn bind(&mut self, at: Addr) -> Result<(), Failed>
         // It fails only where it was made to fail, or where an allocation fails.
         ensures fails { OnErr result (BindFails self.old.link ⊎ IsStarved self.new) }
@@ -406,7 +431,7 @@ impl Desk for MemDesk {
         ensures waits { Tells (waits_of self.old) (waits_of self.new) (true ∷ []) }
     {
         self.note_wait(true);
-        self.hear(buf)
+        self.receive(buf)
     }
 
     /// Its calls and those of `recv` are numbered together.
@@ -430,6 +455,6 @@ impl Desk for MemDesk {
         ensures waits { Tells (waits_of self.old) (waits_of self.new) (false ∷ []) }
     {
         self.note_wait(false);
-        self.hear(buf)
+        self.receive(buf)
     }
 }

@@ -1,7 +1,8 @@
 //! A file in memory, for tests. It records its calls. It fails where it was made to fail, and where an allocation fails; once an allocation has failed, `told`
 //! returns `None`. It can be asked what a death at any moment leaves of it.
 
-ghost use Rattle.std.specs.Prelude.{◌≡◌, ◌≤◌, ◌<◌, ◌↔◌, ◌⊎◌, length, min, take, false, true, None, Some, [], ◌∷◌, is_err, IfSome, IfOk, OnOk, OnErr, IsErr};
+ghost use Rattle.std.specs.Prelude.{◌≡◌, ◌≤◌, ◌<◌, ◌↔◌, ◌⊎◌, length, min, take, false, true, None, Some, [], ◌∷◌, ◌++◌, is_err, IfSome, IfOk, OnOk};
+ghost use Rattle.std.specs.Prelude.{OnErr, IsErr};
 ghost use Rattle.std.specs.Bool.{OnTrue, OnFalse};
 ghost use Rattle.std.specs.Io.KnownBytes.{ReadConsumes, IsAtEnd};
 ghost use Rattle.ft_io.specs.Faults.{Rose};
@@ -9,7 +10,7 @@ ghost use Rattle.ft_system.specs.NumberedCalls.{IsNextListed};
 ghost use Rattle.ft_io.specs.Told.{Tells};
 ghost use Rattle.disk.specs.Counts.{nothing};
 ghost use Rattle.disk.specs.declared.calls.DeskCall.TheVariants.{OnDisk};
-ghost use Rattle.disk.specs.declared.calls.DiskCall.TheVariants.{Appended, Put, Cut, Synced};
+ghost use Rattle.disk.specs.declared.calls.DiskCall.TheVariants.{Appended, Put, Cut, Synced, Replaced};
 ghost use Rattle.disk.specs.Death.{left_of};
 ghost use Rattle.disk.specs.Remains.{LeftBy};
 ghost use Rattle.disk.specs.CallRecord.{disk_calls};
@@ -30,6 +31,8 @@ pub struct MemDisk {
     at: usize,
     reads: NumberedCalls,
     changes: NumberedCalls,
+    aside: Vec<u8>,
+    aside_synced: Vec<u8>,
     calls: Vec<DeskCall>,
     faults: u64,
     is_starved: bool,
@@ -46,6 +49,8 @@ impl Model for MemDisk {
       left = drop d.at d.first.items;
       reads = d.reads;
       changes = d.changes;
+      aside = d.aside.items;
+      aside_synced = d.aside_synced.items;
       calls = d.calls.items;
       faults = d.faults;
       is_starved = d.is_starved;
@@ -66,6 +71,8 @@ impl MemDisk {
             at: 0,
             reads: NumberedCalls::new(read_fails),
             changes: NumberedCalls::new(fails),
+            aside: Vec::new(alloc),
+            aside_synced: Vec::new(alloc),
             calls: Vec::new(alloc),
             faults: 0,
             is_starved: false,
@@ -132,6 +139,77 @@ impl MemDisk {
     {
         self.first = Vec::new(self.alloc);
         self.at = 0;
+    }
+
+    /// Begins a new file beside this one.
+    pub(crate) fn begin_aside(&mut self) -> Result<(), Failed>
+        // It fails exactly where its call is listed as failing.
+        ensures done { OnOk result ((IsNextListed self.old.changes → ⊥) × (self.new ≡ record (changing self.old) { aside = [] })) }
+        ensures failed { OnErr result (IsNextListed self.old.changes × (self.new ≡ failed (changing self.old))) }
+        ensures cause { OnErr result (Rose self.old.faults self.new.faults) }
+    {
+        if self.changes.next_fails() {
+            return Err(self.fail());
+        }
+        self.aside.clear();
+        Ok(())
+    }
+
+    /// Appends bytes to the new file.
+    pub(crate) fn append_aside(&mut self, bytes: &[u8]) -> Result<(), Failed>
+        // It fails only where its call is listed as failing, or where an allocation fails.
+        ensures done { OnOk result ((IsNextListed self.old.changes → ⊥) × (self.new ≡ record (changing self.old) { aside = self.old.aside ++ bytes.now })) }
+        ensures failed { OnErr result (self.new ≡ failed (changing self.old)) }
+        ensures cause { OnErr result (Rose self.old.faults self.new.faults) }
+    {
+        if self.changes.next_fails() || self.aside.extend_from_slice(bytes).is_err() {
+            return Err(self.fail());
+        }
+        Ok(())
+    }
+
+    /// Syncs the new file.
+    pub(crate) fn sync_aside(&mut self) -> Result<(), Failed>
+        // It fails only where its call is listed as failing, or where an allocation fails.
+        ensures done { OnOk result ((IsNextListed self.old.changes → ⊥) × (self.new ≡ record (changing self.old) { aside_synced = self.old.aside })) }
+        ensures failed { OnErr result (self.new ≡ failed (changing self.old)) }
+        ensures cause { OnErr result (Rose self.old.faults self.new.faults) }
+    {
+        if self.changes.next_fails() {
+            return Err(self.fail());
+        }
+        match self.aside.as_slice().to_vec(self.alloc) {
+            Ok(copy) => self.aside_synced = copy,
+            Err(_) => return Err(self.fail()),
+        }
+        Ok(())
+    }
+
+    /// Removes the new file.
+    pub(crate) fn drop_aside(&mut self)
+        ensures { self.new ≡ record self.old { aside = []; aside_synced = [] } }
+    {
+        self.aside.clear();
+        self.aside_synced.clear();
+    }
+
+    /// The new file takes the place of this one, with what it had at its last sync.
+    pub(crate) fn replace(&mut self) -> Result<(), Failed>
+        // It fails exactly where its call is listed as failing, or where an allocation fails.
+        ensures done { OnOk result ((IsNextListed self.old.changes → ⊥)
+            × (self.new ≡ noted (changing self.old) (OnDisk (Replaced self.old.aside_synced false)))) }
+        ensures failed { OnErr result ((IsNextListed self.old.changes
+            × (self.new ≡ failed (noted (changing self.old) (OnDisk (Replaced self.old.aside_synced true)))))
+            ⊎ (self.new ≡ failed (starved (changing self.old)))) }
+        ensures told { Tells (told_of self.old) (told_of self.new) (OnDisk (Replaced self.old.aside_synced (is_err result)) ∷ []) }
+        ensures cause { OnErr result (Rose self.old.faults self.new.faults) }
+    {
+        let fails = self.changes.next_fails();
+        let Ok(copy) = self.aside_synced.as_slice().to_vec(self.alloc) else {
+            self.starve();
+            return Err(self.fail());
+        };
+        self.finish(DiskCall::Replaced(Octets::new(copy), fails), fails)
     }
 
     /// Counts a call as failed.

@@ -1,4 +1,5 @@
-//! Std's file as an open file. Its content isn't specified: what is written, and whether it is on the disk after a sync that returns `Ok`, depends on the system.
+//! Std's file as an open file. Its content isn't specified: what is written, and whether it is on the disk after a sync that returns `Ok`, depends on the
+//! system.
 
 ghost use Rattle.std.specs.Prelude.{None};
 
@@ -19,8 +20,8 @@ pub struct StdFile {
 }
 
 impl StdFile {
-    /// Opens the file at `path`, for this process only, and syncs its directory, so that a new name stays. A symbolic link, a directory and a device are refused,
-    /// and so is a file with a second name (hard link).
+    /// Opens the file at `path`, for this process only, and syncs its directory, so that a new name stays. A symbolic link, a directory and a device are
+    /// refused, and so is a file with a second name (hard link).
     pub fn open<R: Files<File = File>>(files: &R, path: &str) -> Result<StdFile, ShelfEnd> {
         let file = open_there(files, path)?;
         keep_name(files, path)?;
@@ -41,7 +42,7 @@ impl StdFile {
 }
 
 /// Syncs the directory of a file, so that a new name stays.
-fn keep_name<R: Files<File = File>>(files: &R, path: &str) -> io::Result<()> {
+pub(crate) fn keep_name<R: Files<File = File>>(files: &R, path: &str) -> io::Result<()> {
     let folder = OpenOptions::new().read(true).open(files, folder_of(path))?;
     folder.sync_all()
 }

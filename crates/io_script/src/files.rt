@@ -24,7 +24,7 @@ fn change<D: Disk>(disk: &mut D) -> bool {
 }
 
 /// Says how an opening or a making ended.
-fn say_end(end: Result<FileDisk<StdFile>, ShelfEnd>, said: &mut Said) {
+fn write_end(end: Result<FileDisk<StdFile>, ShelfEnd>, said: &mut Said) {
     said.word(match end {
         Ok(_) => b"opened",
         Err(ShelfEnd::InUse) => b"in use",
@@ -35,13 +35,13 @@ fn say_end(end: Result<FileDisk<StdFile>, ShelfEnd>, said: &mut Said) {
 }
 
 /// Says whether the file of this name is opened.
-fn say_opening<R: Files<File = File>>(system: &R, name: &str, said: &mut Said) {
-    say_end(FileDisk::open(system, name), said);
+fn write_opening<R: Files<File = File>>(system: &R, name: &str, said: &mut Said) {
+    write_end(FileDisk::open(system, name), said);
 }
 
 /// Says whether a file of this name is made.
-fn say_making<R: Files<File = File>>(system: &R, name: &str, said: &mut Said) {
-    say_end(FileDisk::begin(system, name), said);
+fn write_making<R: Files<File = File>>(system: &R, name: &str, said: &mut Said) {
+    write_end(FileDisk::begin(system, name), said);
 }
 
 /// Changes a new file: says how the changes ended, and whether the file was opened a second time meanwhile.
@@ -49,14 +49,14 @@ fn change_kept<R: Files<File = File>>(system: &R, said: &mut Said) {
     match FileDisk::begin(system, "kept") {
         Ok(mut disk) => {
             said.done(change(&mut disk));
-            say_opening(system, "kept", said);
+            write_opening(system, "kept", said);
         }
         Err(_) => said.word(b"no file"),
     }
 }
 
 /// Says what two reads of the disk give.
-fn say_reads<D: Disk>(disk: &mut D, said: &mut Said) {
+fn write_reads<D: Disk>(disk: &mut D, said: &mut Said) {
     let mut back = [b'.'; 9];
     for _ in 0..2 {
         let read = disk.read(&mut back);
@@ -65,31 +65,32 @@ fn say_reads<D: Disk>(disk: &mut D, said: &mut Said) {
     }
 }
 
-/// Changes a new file, and opens it while it is open and after that: says how the changes ended, whether it was opened a second time, what two reads of it give.
+/// Changes a new file, and opens it while it is open and after that: says how the changes ended, whether it was opened a second time, what two reads of it
+/// give.
 pub fn keep_file<R: Files<File = File>>(system: &R, said: &mut Said) {
     change_kept(system, said);
     match FileDisk::open(system, "./kept") {
-        Ok(mut disk) => say_reads(&mut disk, said),
+        Ok(mut disk) => write_reads(&mut disk, said),
         Err(_) => said.word(b"no file"),
     }
 }
 
-/// A file that isn't there, is made, and is there; a symbolic link to it, a folder, a file in a folder that isn't there; and the file once it has a second name, by
-/// each of the two: says which are opened, and which are made.
+/// A file that isn't there, is made, and is there; a symbolic link to it, a folder, a file in a folder that isn't there; and the file once it has a second
+/// name, by each of the two: says which are opened, and which are made.
 pub fn open_names<R: Files<File = File>>(system: &R, said: &mut Said) {
-    say_opening(system, "plain", said);
-    say_making(system, "plain", said);
-    say_making(system, "plain", said);
-    say_opening(system, "plain", said);
+    write_opening(system, "plain", said);
+    write_making(system, "plain", said);
+    write_making(system, "plain", said);
+    write_opening(system, "plain", said);
     said.done(symlink(system, "plain", "link").is_ok());
     said.done(fs::create_dir(system, "folder").is_ok());
     for name in ["link", "folder", "none/plain"] {
-        say_opening(system, name, said);
-        say_making(system, name, said);
+        write_opening(system, name, said);
+        write_making(system, name, said);
     }
     said.done(fs::hard_link(system, "plain", "second").is_ok());
     for name in ["plain", "second"] {
-        say_opening(system, name, said);
+        write_opening(system, name, said);
     }
 }
 
@@ -104,7 +105,7 @@ fn change_by_desk<K: Desk>(desk: &mut K, said: &mut Said) {
 /// Opens this file by a desk, and says what two reads of it give.
 fn read_by_desk<K: Desk>(desk: &mut K, said: &mut Said) {
     match desk.open("./desk") {
-        Ok(()) => say_reads(desk, said),
+        Ok(()) => write_reads(desk, said),
         Err(_) => said.word(b"no file"),
     }
 }
@@ -118,22 +119,69 @@ pub fn keep_by_desk<R: AllocGlobal + Net + Clock + Files<File = File>>(
     read_by_desk(&mut HostDesk::new(system.alloc(), system), said);
 }
 
-/// Makes the eight calls of `change` on a disk over a file in memory of three bytes, each whatever the one before gave. Of its writes, changes of its length and
-/// syncs those fail whose numbers come before a semicolon, and those writes take only half the bytes whose numbers come after it. Says how each call ended, the
-/// count of faults, what the file has, and what it had at its last sync.
+/// Appends to a file and puts a new one in its place, of which another was begun before, and appends to that, up to a call that fails. Whether none did.
+fn change_place<K: Desk>(desk: &mut K) -> bool {
+    desk.append(b"abcdef").is_ok()
+        && desk.sync().is_ok()
+        && desk.begin_aside().is_ok()
+        && desk.append_aside(b"lost").is_ok()
+        && desk.begin_aside().is_ok()
+        && desk.append_aside(b"VW").is_ok()
+        && desk.sync_aside().is_ok()
+        && desk.replace().is_ok()
+        && desk.sync().is_ok()
+        && desk.append(b"X").is_ok()
+        && desk.sync().is_ok()
+}
+
+/// Says how calls end that put a new file in the place of an open one, and those on a desk whose new file was removed. A folder then has the new file's name:
+/// says how one more is begun, and how a sync of the open file ends.
+fn write_places<K: Desk>(desk: &mut K, said: &mut Said) {
+    match desk.begin("place") {
+        Ok(()) => said.done(change_place(desk)),
+        Err(_) => said.word(b"no file"),
+    }
+    said.done(desk.begin_aside().is_ok());
+    desk.drop_aside();
+    said.done(desk.append_aside(b"Y").is_ok());
+    said.value(desk.faults());
+}
+
+/// Puts a new file in the place of an open one by a desk of the system; then another desk opens it and reads it. What is left of a new file is removed then;
+/// a folder isn't, and no new file is begun while it is there.
+pub fn replace_by_desk<R: AllocGlobal + Net + Clock + Files<File = File>>(
+    system: &R,
+    said: &mut Said,
+) {
+    write_places(&mut HostDesk::new(system.alloc(), system), said);
+    write_making(system, "place.new", said);
+    let mut desk = HostDesk::new(system.alloc(), system);
+    match desk.open("place") {
+        Ok(()) => write_reads(&mut desk, said),
+        Err(_) => said.word(b"no file"),
+    }
+    said.done(fs::create_dir(system, "place.new").is_ok());
+    said.done(desk.begin_aside().is_ok());
+    said.done(desk.replace().is_ok());
+    said.value(desk.faults());
+}
+
+/// Makes the eight calls of `change` on a disk over a file in memory of three bytes, each whatever the one before gave. Of its writes, changes of its length
+/// and syncs those fail whose numbers come before a semicolon, and those writes take only half the bytes whose numbers come after it. Says how each call
+/// ended, the count of faults, what the file has, and what it had at its last sync.
 pub fn change_short_file(alloc: Global, lists: &str, said: &mut Said) -> Result<(), NoMemory> {
     let (fails, halves) = lists.split_once(';').unwrap_or((lists, ""));
     let (fails, halves) = (numbers(alloc, fails)?, numbers(alloc, halves)?);
     let file = MemFile::new(alloc, b"abc".to_vec(alloc)?, fails, halves);
     match FileDisk::over(file) {
-        Ok(mut disk) => say_changes(&mut disk, said),
+        Ok(mut disk) => write_changes(&mut disk, said),
         Err(_) => said.word(b"no disk"),
     }
     Ok(())
 }
 
 /// Makes the calls of `change_short_file`.
-fn say_changes(disk: &mut FileDisk<MemFile>, said: &mut Said) {
+fn write_changes(disk: &mut FileDisk<MemFile>, said: &mut Said) {
     said.done(disk.append(b"XYZ").is_ok());
     said.done(disk.sync().is_ok());
     said.done(disk.put(1, b'!').is_ok());
@@ -162,7 +210,7 @@ fn bind_desk<K: Desk>(desk: &mut K) -> Option<Addr> {
 }
 
 /// Says what a receive gave.
-fn say_receive<K: Desk>(desk: &mut K, waits: bool, said: &mut Said) {
+fn write_receive<K: Desk>(desk: &mut K, waits: bool, said: &mut Said) {
     let mut buf = [0u8; 2048];
     let heard = if waits {
         desk.recv(&mut buf)
@@ -177,7 +225,7 @@ fn say_receive<K: Desk>(desk: &mut K, waits: bool, said: &mut Said) {
 }
 
 /// Says what calls give at a desk without a file and an address, with the counts of faults.
-fn say_unused<K: Desk>(desk: &mut K, said: &mut Said) {
+fn write_unused<K: Desk>(desk: &mut K, said: &mut Said) {
     said.done(desk.sync().is_ok());
     said.done(desk.send(Addr { ip: 1, port: 2 }, b"a").is_ok());
     said.done(desk.open("/").is_ok());
@@ -186,17 +234,17 @@ fn say_unused<K: Desk>(desk: &mut K, said: &mut Said) {
 }
 
 /// Says what receives give before and after two datagrams of another desk.
-fn say_exchange<K: Desk>(desk: &mut K, other: &mut K, said: &mut Said) {
+fn write_exchange<K: Desk>(desk: &mut K, other: &mut K, said: &mut Said) {
     let (Some(here), Some(_)) = (bind_desk(desk), bind_desk(other)) else {
         return said.word(b"no port is free");
     };
-    say_receive(desk, false, said);
-    say_receive(desk, true, said);
+    write_receive(desk, false, said);
+    write_receive(desk, true, said);
     said.done(other.send(here, b"abc").is_ok());
     said.done(other.send(here, b"defg").is_ok());
-    say_receive(desk, true, said);
-    say_receive(desk, false, said);
-    say_receive(desk, false, said);
+    write_receive(desk, true, said);
+    write_receive(desk, false, said);
+    write_receive(desk, false, said);
 }
 
 /// A sync, a send and the opening of a folder at a desk without a file and an address, with the counts of faults; then two datagrams from one desk to another:
@@ -204,6 +252,6 @@ fn say_exchange<K: Desk>(desk: &mut K, other: &mut K, said: &mut Said) {
 pub fn use_desks<R: AllocGlobal + Net + Clock + Files<File = File>>(system: &R, said: &mut Said) {
     let mut desk = HostDesk::new(system.alloc(), system);
     let mut other = HostDesk::new(system.alloc(), system);
-    say_unused(&mut desk, said);
-    say_exchange(&mut desk, &mut other, said);
+    write_unused(&mut desk, said);
+    write_exchange(&mut desk, &mut other, said);
 }

@@ -1,4 +1,5 @@
-//! Calls of each form of the outside, in memory and over the system, by the lines of a script: it is said what the calls returned. docs/FORMATS.md has the lines.
+//! Calls of each form of the outside, in memory and over the system, by the lines of a script: it is said what the calls returned.
+//! docs/FORMATS.md has the lines.
 #![tactic(auto)]
 
 use ft_io::NoMemory;
@@ -91,6 +92,7 @@ fn play_system<R: AllocGlobal + Net + Clock + Files<File = File>>(
         "names" => files::open_names(system, said),
         "desks" => files::use_desks(system, said),
         "kept" => files::keep_by_desk(system, said),
+        "replaced" => files::replace_by_desk(system, said),
         _ => said.word(b"no such line"),
     }
 }

@@ -33,7 +33,7 @@ fn come(bytes: Vec<u8>) -> Arrival {
 
 /// Says what a receive returned: the length of a datagram and its first five bytes, `silent` or `failed`; `elsewhere` where the
 /// datagram isn't from the peer.
-fn say_heard(heard: Result<Heard, Failed>, buf: &[u8], said: &mut Said) {
+fn write_received(heard: Result<Heard, Failed>, buf: &[u8], said: &mut Said) {
     match heard {
         Ok(Heard::Got { len, from }) if from == PEER => {
             said.value(len);
@@ -53,9 +53,9 @@ pub fn receive_five(alloc: Global, fails: &str, said: &mut Said) -> Result<(), N
     for _ in 0..5 {
         let mut buf = [1u8; 2048];
         let heard = link.recv(&mut buf);
-        say_heard(heard, &buf, said);
+        write_received(heard, &buf, said);
     }
-    say_counts(&link, said);
+    write_counts(&link, said);
     Ok(())
 }
 
@@ -71,7 +71,7 @@ pub fn send_two(
     said.done(link.bind(HOME).is_ok());
     said.done(link.send(PEER, b"abc").is_ok());
     said.done(link.send(PEER, b"").is_ok());
-    say_counts(&link, said);
+    write_counts(&link, said);
     Ok(())
 }
 
@@ -84,12 +84,12 @@ pub fn bind_three(alloc: Global, fails: &str, said: &mut Said) -> Result<(), NoM
     for _ in 0..3 {
         said.done(link.bind(HOME).is_ok());
     }
-    say_counts(&link, said);
+    write_counts(&link, said);
     Ok(())
 }
 
 /// Says the counts of faults, of failed binds, and of recorded calls.
-fn say_counts(link: &MemLink, said: &mut Said) {
+fn write_counts(link: &MemLink, said: &mut Said) {
     said.value(link.faults());
     said.value(link.bind_faults());
     said.value(link.told().map_or(0, |calls| calls.len() as u64));

@@ -38,7 +38,7 @@ fn send_round<L: Link>(link: &mut L, here: Addr, text: &[u8], said: &mut Said) {
 
 /// Datagrams of 5, 0, 2,048 and 3,000 bytes to itself, and a receive in silence; then another link asks for the same address, and sends. Says what each
 /// returned, and how many faults there were besides binds to other ports.
-fn say_rounds<L: Link>(link: &mut L, second: &mut L, here: Addr, said: &mut Said) {
+fn write_rounds<L: Link>(link: &mut L, second: &mut L, here: Addr, said: &mut Said) {
     let others = link.bind_faults();
     for text in [b"hello".as_slice(), b"", &[7; 2048], &[9; 3000]] {
         send_round(link, here, text, said);
@@ -53,14 +53,14 @@ fn say_rounds<L: Link>(link: &mut L, second: &mut L, here: Addr, said: &mut Said
     said.value(second.bind_faults());
 }
 
-/// A receive before the bind, and then what `say_rounds` does.
+/// A receive before the bind, and then what `write_rounds` does.
 pub fn send_to_itself<R: Net + Clock>(system: &R, said: &mut Said) {
     let mut link = UdpLink::new(system);
     let mut second = UdpLink::new(system);
     let mut buf = [0u8; 2048];
     said.done(link.recv(&mut buf).is_ok());
     match bind_somewhere(&mut link, PORT) {
-        Some(here) => say_rounds(&mut link, &mut second, here, said),
+        Some(here) => write_rounds(&mut link, &mut second, here, said),
         None => said.word(b"no port is free"),
     }
 }
@@ -90,7 +90,7 @@ fn bind_apart<L: Link>(near: &mut L, far: &mut L) -> Option<Addr> {
 }
 
 /// Says from which address a receive got a datagram.
-fn say_sender<L: Link>(link: &mut L, said: &mut Said) {
+fn write_sender<L: Link>(link: &mut L, said: &mut Said) {
     let mut buf = [b'.'; 2048];
     match await_datagram(link, &mut buf) {
         Ok(Heard::Got { len, from }) => {
@@ -115,7 +115,7 @@ pub fn send_apart<R: Net + Clock>(system: &R, said: &mut Said) {
         port: there.port,
     };
     said.done(near.send(there, b"to the second").is_ok());
-    say_sender(&mut far, said);
+    write_sender(&mut far, said);
     said.done(far.send(here, b"to the first").is_ok());
-    say_sender(&mut near, said);
+    write_sender(&mut near, said);
 }

@@ -21,7 +21,7 @@ fn listed(alloc: Global, times: &str) -> Result<Vec<Option<u64>>, NoMemory> {
 }
 
 /// Says what the link receives at each time but the first. A datagram is sent to it before: by itself where `+` follows the time, and else by the stranger.
-fn say_at_times<L: Link, M: Link>(link: &mut L, stranger: &mut M, times: &str, said: &mut Said) {
+fn write_at_times<L: Link, M: Link>(link: &mut L, stranger: &mut M, times: &str, said: &mut Said) {
     let (Some(here), Some(_)) = (bind_somewhere(link, PORT), bind_somewhere(stranger, PORT)) else {
         return said.word(b"no port is free");
     };
@@ -32,7 +32,7 @@ fn say_at_times<L: Link, M: Link>(link: &mut L, stranger: &mut M, times: &str, s
         } else {
             stranger.send(here, b"stray")
         };
-        say_receive(link, said);
+        write_receive(link, said);
     }
     said.value(link.faults().saturating_sub(link.bind_faults()));
 }
@@ -49,12 +49,12 @@ pub fn by_the_list<R: Net + Clock>(
     let listed = listed(alloc, times)?;
     let watch = Watch::new(system, listed.as_slice());
     let mut stranger = UdpLink::new(system);
-    say_at_times(&mut UdpLink::new(&watch), &mut stranger, times, said);
+    write_at_times(&mut UdpLink::new(&watch), &mut stranger, times, said);
     Ok(())
 }
 
 /// Receives once, and says what that gave.
-fn say_receive<L: Link>(link: &mut L, said: &mut Said) {
+fn write_receive<L: Link>(link: &mut L, said: &mut Said) {
     let mut buf = [0u8; 2048];
     said.word(match link.recv(&mut buf) {
         Ok(Heard::Got { .. }) => b"got",

@@ -6,3 +6,4 @@ pub mod Resting
 pub mod Saying
 pub mod Staying
 pub mod Stepping
+mod Replacing

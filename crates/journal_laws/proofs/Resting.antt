@@ -1,9 +1,9 @@
 -- After each round the file is at rest, and has the log.
 use Rattle.std.proofs.Common.{◌≡◌, ◌∙◌, ℕ, Bool, true, false, Some, ◌*◌, ◌≤◌, refl, sym, ap, ap₂, subst, List, [], ◌∷◌, ◌++◌, length, Result, Ok, Err, append-nil, length-append, arith}
-use Rattle.std.specs.List.{AllByRecursion}
 use Rattle.ft_io.proofs.Choices.{by_cases, if_false, if_true}
 use Rattle.seq_arith.specs.Message.{Message}
-use Rattle.seq_arith.specs.MessageGrammar.{reading}
+use Rattle.seq_arith.specs.MessageGrammar.{reading_by}
+use Rattle.seq_arith.specs.declared.kinds.Grammar.{Grammar}
 use Rattle.seq_arith.specs.declared.kinds.BadMsg.{BadMsg}
 use Rattle.ft_model.specs.Log.{Log, empty_log, log_after}
 use Rattle.ft_model.specs.Keys.{AreDistinct}
@@ -13,6 +13,7 @@ use Rattle.disk.specs.Remains.{LeftBy}
 use Rattle.disk.specs.CallRecord.{on_link, on_disk, disk_calls}
 use Rattle.disk.specs.declared.calls.DiskCall.{DiskCall}
 use Rattle.disk.proofs.Telling.{disk_calls_of_disk}
+use Rattle.kept_log.specs.Compaction.{replacing}
 use Rattle.kept_log.specs.Format.{tip_of, IsAtRest, keeping, making, seen_by}
 use Rattle.kept_log.specs.declared.tip.Tip.{Tip}
 use Rattle.kept_log.proofs.Deaths.{stays, left_append, seen_append}
@@ -23,7 +24,8 @@ use Rattle.kept_log.proofs.Lives.{opened_rests as whole_rests, made_rests}
 use Rattle.link_parts.specs.LoggerTurns.{log_with, log_then}
 use Rattle.link_parts.specs.Receipt.{Received, datagram, silence, failure}
 use Rattle.journal_parts.specs.LoggerLife.{Starts}
-use Rattle.journal_parts.specs.Rounds.{Place, Round, IsRound, received_in, log_behind, receives, change_in, change_by, changes_in, answers_in, round_calls, place_after, calls_of}
+use Rattle.journal_parts.specs.Rounds.{Place, Round, Step, AreSteps, IsRound, received_in, log_behind, receives, change_in, change_by, changes_in, answers_in, round_calls, place_after, calls_of}
+use Rattle.journal_parts.specs.Rounds.Step.{Turned, Compacted, Stayed}
 use Rattle.journal_laws.proofs.Saying.{disk_calls-append, disk_calls_of_link, log_said, said_by}
 use Rattle.journal_laws.proofs.Staying as change
 
@@ -46,70 +48,70 @@ none_more : (before log after : Log) (round more : List ℕ) → after ≡ log �
 none_more before log after round more same none w =
     subst (λ l. Waits before l after) (sym (ap (λ l. round ++ l) none ∙ append-nil round)) (subst (Waits before round) (sym same) w)
 
-waits_last : (before log : Log) (round bytes : List ℕ) (said : Result Message BadMsg) → reading bytes ≡ said → AreDistinct (entry_keys log) → Waits before round log
+waits_last : (grammar : Grammar) (before log : Log) (round bytes : List ℕ) (said : Result Message BadMsg) → reading_by grammar bytes ≡ said → AreDistinct (entry_keys log) → Waits before round log
     → Waits before (round ++ change_in log bytes said) (log_with log said)
-waits_last before log round bytes (Ok message) is d w =
+waits_last grammar before log round bytes (Ok message) is d w =
     by_cases (changes log message)
     (λ t. subst (λ l. Waits before (round ++ l) (log_after log message)) (sym (if_true (changes log message) bytes [] t))
-    (waits_more before log (log_after log message) round bytes message w is refl))
+    (waits_more before log (log_after log message) round bytes message w (record { grammar = grammar; reads = is }) refl))
     (λ t. none_more before log (log_after log message) round (kept_of log message bytes) (change.stays log message d t) (if_false (changes log message) bytes [] t) w)
-waits_last before log round bytes (Err bad) is d w = none_more before log log round [] refl refl w
+waits_last grammar before log round bytes (Err bad) is d w = none_more before log log round [] refl refl w
 
-waits : (log : Log) (received : List Received) → AreDistinct (entry_keys log) → Waits log (changes_in log received) (log_behind log received)
-waits log [] d = record { messages = []; says = refl; log_is = refl }
-waits log (last ∷ earlier) d = on last (waits log earlier d)
+waits : (grammar : Grammar) (log : Log) (received : List Received) → AreDistinct (entry_keys log) → Waits log (changes_in grammar log received) (log_behind grammar log received)
+waits grammar log [] d = record { messages = []; says = refl; log_is = refl }
+waits grammar log (last ∷ earlier) d = on last (waits grammar log earlier d)
   where
-    distinct : AreDistinct (entry_keys (log_behind log earlier))
-    distinct = subst (λ x. AreDistinct (entry_keys x)) (sym (log_said log earlier)) (change.distinct_all log (said_by earlier) d)
+    distinct : AreDistinct (entry_keys (log_behind grammar log earlier))
+    distinct = subst (λ x. AreDistinct (entry_keys x)) (sym (log_said grammar log earlier)) (change.distinct_all log (said_by grammar earlier) d)
 
-    on : (r : Received) → Waits log (changes_in log earlier) (log_behind log earlier)
-        → Waits log (changes_in log earlier ++ change_by (log_behind log earlier) r) (log_then (log_behind log earlier) r)
-    on (datagram from bytes) w = waits_last log (log_behind log earlier) (changes_in log earlier) bytes (reading bytes) refl distinct w
-    on silence w = none_more log (log_behind log earlier) (log_behind log earlier) (changes_in log earlier) [] refl refl w
-    on failure w = none_more log (log_behind log earlier) (log_behind log earlier) (changes_in log earlier) [] refl refl w
+    on : (r : Received) → Waits log (changes_in grammar log earlier) (log_behind grammar log earlier)
+        → Waits log (changes_in grammar log earlier ++ change_by grammar (log_behind grammar log earlier) r) (log_then grammar (log_behind grammar log earlier) r)
+    on (datagram from bytes) w = waits_last grammar log (log_behind grammar log earlier) (changes_in grammar log earlier) bytes (reading_by grammar bytes) refl distinct w
+    on silence w = none_more log (log_behind grammar log earlier) (log_behind grammar log earlier) (changes_in grammar log earlier) [] refl refl w
+    on failure w = none_more log (log_behind grammar log earlier) (log_behind grammar log earlier) (changes_in grammar log earlier) [] refl refl w
 
 -- a round fits a block
-few_last : (log : Log) (bytes : List ℕ) (said : Result Message BadMsg) → reading bytes ≡ said → length (change_in log bytes said) ≤ 1491
-few_last log bytes (Ok message) is =
+few_last : (grammar : Grammar) (log : Log) (bytes : List ℕ) (said : Result Message BadMsg) → reading_by grammar bytes ≡ said → length (change_in log bytes said) ≤ 1491
+few_last grammar log bytes (Ok message) is =
     by_cases (changes log message)
-    (λ t. subst (λ l. length l ≤ 1491) (sym (if_true (changes log message) bytes [] t)) (whole bytes message is).few)
+    (λ t. subst (λ l. length l ≤ 1491) (sym (if_true (changes log message) bytes [] t)) (whole bytes message (record { grammar = grammar; reads = is })).few)
     (λ t. subst (λ l. length l ≤ 1491) (sym (if_false (changes log message) bytes [] t)) (omega arith))
-few_last log bytes (Err bad) is = omega arith
+few_last grammar log bytes (Err bad) is = omega arith
 
-few_by : (log : Log) (r : Received) → length (change_by log r) ≤ 1491
-few_by log (datagram from bytes) = few_last log bytes (reading bytes) refl
-few_by log silence = omega arith
-few_by log failure = omega arith
+few_by : (grammar : Grammar) (log : Log) (r : Received) → length (change_by grammar log r) ≤ 1491
+few_by grammar log (datagram from bytes) = few_last grammar log bytes (reading_by grammar bytes) refl
+few_by grammar log silence = omega arith
+few_by grammar log failure = omega arith
 
-few_in : (log : Log) (received : List Received) → length (changes_in log received) ≤ 1491 * length received
-few_in log [] = omega arith
-few_in log (last ∷ earlier) =
-    let few = few_in log earlier in
-    let one = few_by (log_behind log earlier) last in
-    let sum = length-append (changes_in log earlier) (change_by (log_behind log earlier) last) in
+few_in : (grammar : Grammar) (log : Log) (received : List Received) → length (changes_in grammar log received) ≤ 1491 * length received
+few_in grammar log [] = omega arith
+few_in grammar log (last ∷ earlier) =
+    let few = few_in grammar log earlier in
+    let one = few_by grammar (log_behind grammar log earlier) last in
+    let sum = length-append (changes_in grammar log earlier) (change_by grammar (log_behind grammar log earlier) last) in
     omega (arith, few, one, sum)
 
-pub few_round : (log : Log) (received : List Received) → IsRound received → length (changes_in log received) ≤ 381696
-few_round log [] round = absurd round
-few_round log (last ∷ earlier) (few, all) = omega (arith, few, few_in log (last ∷ earlier))
+pub few_round : (grammar : Grammar) (log : Log) (received : List Received) → IsRound received → length (changes_in grammar log received) ≤ 381696
+few_round grammar log [] round = absurd round
+few_round grammar log (last ∷ earlier) (few, all) = omega (arith, few, few_in grammar log (last ∷ earlier))
 
 has_more : (made : List ℕ) (bodies : List (List ℕ)) (tip : Tip) (before log : Log) (round : List ℕ) → length round ≤ 381696 → HasLog made bodies tip before → Waits before round log
     → HasLog made (with_round bodies round) (tip_after tip round) log
 has_more made bodies tip before log [] few has w = kept_none made bodies [] tip before log refl has w
 has_more made bodies tip before log (byte ∷ round) few has w = kept_round made bodies (byte ∷ round) tip before log (λ e. cc) few has w
 
-pub has_round : (made : List ℕ) (bodies : List (List ℕ)) (tip : Tip) (log : Log) (received : List Received) → IsRound received → HasLog made bodies tip log
-    → HasLog made (with_round bodies (changes_in log received)) (tip_after tip (changes_in log received)) (log_behind log received)
-has_round made bodies tip log received round has =
+pub has_round : (grammar : Grammar) (made : List ℕ) (bodies : List (List ℕ)) (tip : Tip) (log : Log) (received : List Received) → IsRound received → HasLog made bodies tip log
+    → HasLog made (with_round bodies (changes_in grammar log received)) (tip_after tip (changes_in grammar log received)) (log_behind grammar log received)
+has_round grammar made bodies tip log received round has =
     let distinct : AreDistinct (entry_keys log) = subst (λ l. AreDistinct (entry_keys l)) (sym has.log_is) (change.distinct_all empty_log has.messages tt) in
-    has_more made bodies tip log (log_behind log received) (changes_in log received) (few_round log received round) has (waits log received distinct)
+    has_more made bodies tip log (log_behind grammar log received) (changes_in grammar log received) (few_round grammar log received round) has (waits grammar log received distinct)
 
-pub disk_calls_of_round : (at : Place) (round : Round) → disk_calls (round_calls at round) ≡ committing at.tip (changes_in at.log (received_in round))
+pub disk_calls_of_round : (at : Place) (round : Round) → disk_calls (round_calls at round) ≡ committing at.tip (changes_in at.grammar at.log (received_in round))
 disk_calls_of_round at round =
-    let calls = committing at.tip (changes_in at.log (received_in round)) in
-    disk_calls-append (on_link (receives (received_in round))) (on_disk calls ++ on_link (answers_in at.log round))
+    let calls = committing at.tip (changes_in at.grammar at.log (received_in round)) in
+    disk_calls-append (on_link (receives (received_in round))) (on_disk calls ++ on_link (answers_in at.grammar at.log round))
     ∙ (ap₂ (λ a b. a ++ b) (disk_calls_of_link (receives (received_in round)))
-    (disk_calls-append (on_disk calls) (on_link (answers_in at.log round)) ∙ ap₂ (λ a b. a ++ b) (disk_calls_of_disk calls) (disk_calls_of_link (answers_in at.log round)))
+    (disk_calls-append (on_disk calls) (on_link (answers_in at.grammar at.log round)) ∙ ap₂ (λ a b. a ++ b) (disk_calls_of_disk calls) (disk_calls_of_link (answers_in at.grammar at.log round)))
     ∙ append-nil calls)
 
 -- calls after which a file is at rest, from one that is at rest
@@ -122,13 +124,33 @@ rests_more file Held calls more made bodies rest = record {
   only = λ c l. rest.only c (left_append file Held calls more c l) ∙ sym (seen_append file calls more);
 }
 
-pub rests_on : (file : List ℕ) (Held : List ℕ → Type 0) (start : Place) (rounds : List Round) → AllByRecursion (λ round. IsRound (received_in round)) rounds → Rests file Held start
+-- a new file in the place of the old one
+pub replaced : (file : List ℕ) (Held : List ℕ → Type 0) (made : List ℕ) (bodies : List (List ℕ)) → length made ≡ 8
+    → IsAtRest (seen_by file (replacing made bodies)) (LeftBy file Held (replacing made bodies)) made bodies
+replaced file Held made bodies time = record { time = time; is = refl; only = λ c is. is }
+
+pub rests_on : (file : List ℕ) (Held : List ℕ → Type 0) (start : Place) (rounds : List Step) → AreSteps start rounds → Rests file Held start
     → Rests (seen_by file (disk_calls (calls_of start rounds))) (LeftBy file Held (disk_calls (calls_of start rounds))) (place_after start rounds)
 rests_on file Held start [] all r = r
-rests_on file Held start (last ∷ earlier) all r =
+rests_on file Held start (Compacted made bodies ∷ earlier) all r =
     let at = place_after start earlier in
     let before = rests_on file Held start earlier all.1 r in
-    let body = changes_in at.log (received_in last) in
+    let has = all.0 before.made before.bodies before.has_log in
+    let more : List DiskCall = replacing made bodies in
+    let calls : disk_calls (calls_of start earlier ++ on_disk more) ≡ disk_calls (calls_of start earlier) ++ more = disk_calls-append (calls_of start earlier) (on_disk more) in
+    let rest = rests_more file Held (disk_calls (calls_of start earlier)) more made bodies
+    (replaced (seen_by file (disk_calls (calls_of start earlier))) (LeftBy file Held (disk_calls (calls_of start earlier))) made bodies has.time) in
+    record {
+      made = made;
+      bodies = bodies;
+      rest = subst (λ l. IsAtRest (seen_by file l) (LeftBy file Held l) made bodies) (sym calls) rest;
+      has_log = has;
+    }
+rests_on file Held start (Stayed ∷ earlier) all r = rests_on file Held start earlier all r
+rests_on file Held start (Turned last ∷ earlier) all r =
+    let at = place_after start earlier in
+    let before = rests_on file Held start earlier all.1 r in
+    let body = changes_in at.grammar at.log (received_in last) in
     let calls : disk_calls (calls_of start earlier ++ round_calls at last) ≡ disk_calls (calls_of start earlier) ++ committing at.tip body =
     disk_calls-append (calls_of start earlier) (round_calls at last) ∙ ap (λ l. disk_calls (calls_of start earlier) ++ l) (disk_calls_of_round at last) in
     let rest = rests_more file Held (disk_calls (calls_of start earlier)) (committing at.tip body) before.made (with_round before.bodies body)
@@ -137,18 +159,18 @@ rests_on file Held start (last ∷ earlier) all r =
       made = before.made;
       bodies = with_round before.bodies body;
       rest = subst (λ l. IsAtRest (seen_by file l) (LeftBy file Held l) before.made (with_round before.bodies body)) (sym calls) rest;
-      has_log = has_round before.made before.bodies at.tip at.log (received_in last) all.0 before.has_log;
+      has_log = has_round at.grammar before.made before.bodies at.tip at.log (received_in last) all.0 before.has_log;
     }
 
-pub opened_rests : (begins : Bool) (file : List ℕ) (opening : List DiskCall) (torn : ℕ) (start : Place) → Starts begins (Some file) opening torn start → (begins ≡ true → file ≡ [])
+pub opened_rests : (grammar : Grammar) (begins : Bool) (file : List ℕ) (opening : List DiskCall) (torn : ℕ) (start : Place) → Starts grammar begins (Some file) opening torn start → (begins ≡ true → file ≡ [])
     → Rests (seen_by file opening) (LeftBy file (λ c. c ≡ file) opening) start
-opened_rests false file opening torn start opens empty = record {
+opened_rests grammar false file opening torn start opens empty = record {
   made = opens.made;
   bodies = opens.bodies;
   rest = whole_rests file opens.made opens.bodies opening (opens.finds file refl).0;
   has_log = opens.has_log;
 }
-opened_rests true file opening torn start makes empty = record {
+opened_rests grammar true file opening torn start makes empty = record {
   made = makes.made;
   bodies = [];
   rest = subst (λ l. IsAtRest (seen_by file l) (LeftBy file (λ c. c ≡ file) l) makes.made []) (sym makes.opening_is)

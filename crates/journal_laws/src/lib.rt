@@ -4,11 +4,11 @@
 #![tactic(auto)]
 
 ghost use Rattle.std.specs.Prelude.{◌≡◌, ℕ, Bool, true, Some, List, [], ◌∷◌, ◌++◌, map};
-ghost use Rattle.std.specs.List.{AllByRecursion};
 ghost use Rattle.std.specs.Option.{option_to_list, option_map};
 ghost use Rattle.ft_io.specs.declared.Addr.{Addr};
 ghost use Rattle.ft_io.specs.declared.link_call.LinkCall.TheVariants.{Bound};
 ghost use Rattle.seq_arith.specs.Message.{Message};
+ghost use Rattle.seq_arith.specs.declared.kinds.Grammar.{Grammar};
 ghost use Rattle.server_trait.specs.Service.{machine};
 ghost use Rattle.ft_model.specs.Log.{Log, log_after, answer_to};
 ghost use Rattle.ft_model.specs.Network.{packet_at};
@@ -24,50 +24,61 @@ ghost use Rattle.disk.specs.declared.calls.DiskCall.{DiskCall};
 ghost use Rattle.disk.specs.declared.calls.DeskCall.{DeskCall};
 ghost use Rattle.disk.specs.declared.calls.DeskCall.TheVariants.{OnLink};
 ghost use Rattle.kept_log.specs.JournaledLog.{HasLog};
-ghost use Rattle.kept_log.specs.Format.{BringsNone, seen_by};
+ghost use Rattle.kept_log.specs.Format.{BringsNone, BringsNoneBy, seen_by};
 ghost use Rattle.kept_log.specs.Startup.{IsWhole};
 ghost use Rattle.kept_log.specs.declared.tip.Tip.{Tip};
 ghost use Rattle.link_parts.specs.Receipt.{Received};
-ghost use Rattle.journal_parts.specs.Rounds.{Place, Round, IsRound, received_in, place_after, calls_of};
-ghost use Rattle.journal_parts.specs.LoggerLife.{Starts, IsUnanswered};
+ghost use Rattle.journal_parts.specs.Rounds.{Place, Step, AreSteps, place_after, calls_of};
+ghost use Rattle.journal_parts.specs.LoggerLife.{Starts, IsUnanswered, IsUnreplaced};
 ghost use Rattle.journal_laws.specs.Moments.{IsFront, ComesBack, Outlives, AreUnderWay};
 
 use server_trait::Service;
 
 /// Once a logger's file is open, or was made in an empty one, a death at any moment leaves a file that has all that was ever answered: the received messages up
-/// to the last answer, and maybe more, in their order. The premise on the death is that no whole block is in the file that wasn't written.
+/// to the last answer, and maybe more, in their order. So it is while a new file takes the old one's place, too. The premise on the death is that no whole
+/// block is in the file that wasn't written.
 pub fn what_was_answered_is_there()
-    ensures { (begins : Bool) (file : List ℕ) (opening : List DiskCall) (torn : ℕ) (start : Place) (local : Addr) (rounds : List Round) (done : List DeskCall) (left : List ℕ)
-        → Starts begins (Some file) opening torn start → (begins ≡ true → file ≡ []) → AllByRecursion (λ round. IsRound (received_in round)) rounds
+    ensures { (grammar : Grammar) (begins : Bool) (file : List ℕ) (opening : List DiskCall) (torn : ℕ) (start : Place) (local : Addr) (rounds : List Step)
+        (done : List DeskCall) (left : List ℕ)
+        → Starts grammar begins (Some file) opening torn start → (begins ≡ true → file ≡ []) → AreSteps start rounds
         → IsFront (OnLink (Bound local) ∷ calls_of start rounds) done → LeftBy file (λ c. c ≡ file) (disk_calls (on_disk opening ++ done)) left
-        → BringsNone (seen_by file (disk_calls (on_disk opening ++ done))) left → Outlives start.log done left }
+        → BringsNoneBy file (disk_calls (on_disk opening ++ done)) left → Outlives grammar start.log done left }
 {}
 
-/// A logger that stopped in a round, or after its last one, has made the calls of some moment of a run. So the law before this one holds however it stops.
+/// A logger that stopped in a round, or after its last one, or while a new file was to take its file's place, has made the calls of some moment of a run. So
+/// the law before this one holds however it stops.
 pub fn an_unanswered_round_is_a_moment()
-    ensures { (start : Place) (local : Addr) (rounds : List Round) (received : List Received) (cut : List DeskCall) → AllByRecursion (λ round. IsRound (received_in round)) rounds
+    ensures unanswered { (start : Place) (local : Addr) (rounds : List Step) (received : List Received) (cut : List DeskCall) → AreSteps start rounds
         → IsUnanswered (place_after start rounds) received cut
-        → (whole : List Round) × AllByRecursion (λ round. IsRound (received_in round)) whole
+        → (whole : List Step) × AreSteps start whole
+        × IsFront (OnLink (Bound local) ∷ calls_of start whole) (OnLink (Bound local) ∷ (calls_of start rounds ++ cut)) }
+    ensures unreplaced { (start : Place) (local : Addr) (rounds : List Step) (cut : List DeskCall) → AreSteps start rounds
+        → IsUnreplaced (place_after start rounds) cut
+        → (whole : List Step) × AreSteps start whole
         × IsFront (OnLink (Bound local) ∷ calls_of start whole) (OnLink (Bound local) ∷ (calls_of start rounds ++ cut)) }
 {}
 
 /// A death while a journal is opened leaves the log that the journal had.
 pub fn an_opening_takes_nothing()
-    ensures { (file made : List ℕ) (bodies : List (List ℕ)) (opening done : List DiskCall) (tip : Tip) (log : Log) (left : List ℕ) → IsWhole file made bodies opening
-        → HasLog made bodies tip log → IsFrontOf opening done → LeftBy file (λ c. c ≡ file) done left → BringsNone (seen_by file done) left → Outlives log (on_disk done) left }
+    ensures { (grammar : Grammar) (file made : List ℕ) (bodies : List (List ℕ)) (opening done : List DiskCall) (tip : Tip) (log : Log) (left : List ℕ)
+        → IsWhole file made bodies opening
+        → HasLog made bodies tip log → IsFrontOf opening done → LeftBy file (λ c. c ≡ file) done left → BringsNone (seen_by file done) left
+        → Outlives grammar log (on_disk done) left }
 {}
 
 /// In every world, receiving a message that was sent to the logger, and sending the log's answer to it, is the delivery of a packet.
 pub fn an_answer_is_a_delivery<S: Service>()
     ensures { (kind number : ℕ) (world : World) (message : Message) → packet_at world.packets number ≡ Some (To_logger message)
-        → MayHappen (machine (S.started kind) S.after) world (Calm (Deliver number)) (option_to_list (option_map From_logger (answer_to world.log message)))
+        → MayHappen (machine (S.started kind) S.after S.greeting) world (Calm (Deliver number))
+        (option_to_list (option_map From_logger (answer_to world.log message)))
         (record world { log = log_after world.log message; packets = world.packets ++ option_to_list (option_map From_logger (answer_to world.log message)) }) }
 {}
 
 /// A process has died, and after the restart its log may have messages that it hadn't answered. In a world this is a death of the logger, which then has this
 /// log.
 pub fn a_death_is_a_step<S: Service>()
-    ensures { (kind : ℕ) (world : World) (numbers : List ℕ) (before after : Log) (calls : List DeskCall) (back : ComesBack before after calls)
+    ensures { (grammar : Grammar) (kind : ℕ) (world : World) (numbers : List ℕ) (before after : Log) (calls : List DeskCall)
+        (back : ComesBack grammar before after calls)
         → world.log ≡ log_after_all before back.answered → AreUnderWay world.packets numbers back.kept
-        → MayHappen (machine (S.started kind) S.after) world (Dies numbers) [] (record world { log = after }) }
+        → MayHappen (machine (S.started kind) S.after S.greeting) world (Dies numbers) [] (record world { log = after }) }
 {}

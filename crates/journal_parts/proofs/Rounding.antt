@@ -1,5 +1,5 @@
 -- A round: its receives, the commit, and the answers. Rounds follow one another.
-use Rattle.std.proofs.Common.{◌≡◌, ◌∙◌, inl, inr, ℕ, Bool, false, ◌+◌, ◌*◌, ◌≤◌, refl, sym, ap, ap₂, subst, Option, None, Some, List, [], ◌∷◌, ◌++◌, length, append_assoc, append-nil, length-append, arith}
+use Rattle.std.proofs.Common.{◌≡◌, ◌∙◌, inl, inr, ℕ, Bool, true, false, ◌+◌, ◌*◌, ◌≤◌, refl, sym, ap, ap₂, subst, Option, None, Some, List, [], ◌∷◌, ◌++◌, length, append_assoc, append-nil, length-append, arith}
 use Rattle.std.proofs.lemmas.List.{length-map}
 use Rattle.ft_io.specs.declared.Addr.{Addr}
 use Rattle.ft_io.specs.declared.link_call.LinkCall.{LinkCall}
@@ -11,9 +11,13 @@ use Rattle.disk.specs.declared.calls.DiskCall.{DiskCall}
 use Rattle.disk.specs.declared.calls.DeskCall.{DeskCall}
 use Rattle.disk.specs.declared.calls.DeskCall.TheVariants.{OnLink, OnDisk}
 use Rattle.seq_arith.specs.Message.{Message}
-use Rattle.seq_arith.specs.MessageGrammar.{reading}
+use Rattle.seq_arith.specs.MessageGrammar.{reading_by}
+use Rattle.seq_arith.specs.declared.kinds.Grammar.{Grammar}
 use Rattle.ft_model.specs.Log.{Log}
-use Rattle.logger_store.specs.StoreState.{answer_bytes}
+use Rattle.logger_store.specs.StoreState.{answer_bytes_by}
+use Rattle.kept_log.specs.Compaction.{HasSameLog, replacing, IsCompacted}
+use Rattle.kept_log.specs.Format.{tip_of}
+use Rattle.kept_log.specs.declared.tip.Tip.{Tip}
 use Rattle.kept_log.specs.JournaledLog.{KeptState, committing, tip_after}
 use Rattle.link_parts.specs.declared.counts.Counts.{Counts}
 use Rattle.link_parts.specs.Counts.{counts_of, with_calls, no_calls, HasRoom}
@@ -24,8 +28,12 @@ use Rattle.link_parts.proofs.Calls.{counts_on, with_both, few_calls}
 use Rattle.link_parts.proofs.LoggerRun.{handing_is}
 use Rattle.journal_parts.specs.declared.answers.Answer.{Answer}
 use Rattle.journal_parts.specs.LoggerLife.{IsUnanswered}
-use Rattle.journal_parts.specs.Rounds.{Place, Round, IsRound, received_in, receives, changes_in, log_behind, answers_in, after_receives, round_calls, place_after, calls_of, turns_in}
-use Rattle.journal_parts.specs.RoundParts.{place_of, with_all_received, reply_to, replies_to, AreHanded, HasAnswered, HasGathered, IsCutGathering, HasTurned, IsCutRound, HasServed, IsCutServing}
+use Rattle.journal_parts.specs.declared.status.ProcessEnd.{ProcessEnd}
+use Rattle.journal_parts.specs.declared.status.ProcessEnd.TheVariants.{JournalFault}
+use Rattle.journal_parts.specs.Rounds.{Place, Round, Step, IsRound, received_in, receives, changes_in, log_behind, answers_in, after_receives, round_calls, place_after, calls_of, turns_in}
+use Rattle.journal_parts.specs.Rounds.Step.{Turned, Compacted, Stayed}
+use Rattle.journal_parts.specs.Due.{IsDue, IsDueAfter, last_length}
+use Rattle.journal_parts.specs.RoundParts.{place_of, with_all_received, reply_to, replies_to, AreHanded, HasAnswered, HasGathered, IsCutGathering, HasTurned, IsCutRound, HasServed, IsCutServing, IsCutReplacing, Stays, HasCompacted, FailsToCompact, HasEndedBy, IsServeEnd}
 use Rattle.journal_parts.specs.Waits.{HasReason}
 use Rattle.journal_parts.proofs.Gathering.{receives_count}
 use Rattle.link_parts.specs.Ranges.{most_turns}
@@ -70,73 +78,84 @@ split (x ∷ xs) ys calls (lost, later, is, h) =
       calls_are = is ∙ (ap (λ l. this ++ l) s.calls_are ∙ sym (append_assoc this s.first s.rest));
     }
 
-one_answered : (log : Log) (r : Received) (calls : List LinkCall) → AreHanded (reply_to log r) calls → (is_lost : Bool) × (calls ≡ answering log is_lost r)
-one_answered log (datagram from bytes) calls (lost, rest, is, none) =
-    let this = handing_bytes from lost (answer_bytes (answer_for log (reading bytes))) in
-    (lost, is ∙ (ap (λ l. this ++ l) none ∙ (append-nil this ∙ handing_is from lost (answer_for log (reading bytes)))))
-one_answered log silence calls none = (false, none)
-one_answered log failure calls none = (false, none)
+one_answered : (grammar : Grammar) (log : Log) (r : Received) (calls : List LinkCall) → AreHanded (reply_to grammar log r) calls → (is_lost : Bool) × (calls ≡ answering grammar log is_lost r)
+one_answered grammar log (datagram from bytes) calls (lost, rest, is, none) =
+    let this = handing_bytes from lost (answer_bytes_by grammar (answer_for log (reading_by grammar bytes))) in
+    (lost, is ∙ (ap (λ l. this ++ l) none ∙ (append-nil this ∙ handing_is grammar from lost (answer_for log (reading_by grammar bytes)))))
+one_answered grammar log silence calls none = (false, none)
+one_answered grammar log failure calls none = (false, none)
 
 -- the turns of a round whose answers were handed to send by these calls
-record Answers (log : Log) (received : List Received) (calls : List LinkCall) : Type 0 where
+record Answers (grammar : Grammar) (log : Log) (received : List Received) (calls : List LinkCall) : Type 0 where
   round : Round
   same : received_in round ≡ received
-  calls_are : calls ≡ answers_in log round
+  calls_are : calls ≡ answers_in grammar log round
 
-answers : (log : Log) (received : List Received) (calls : List LinkCall) → AreHanded (replies_to log received) calls → Answers log received calls
-answers log [] calls h = record { round = []; same = refl; calls_are = h }
-answers log (last ∷ earlier) calls h =
-    let s = split (replies_to log earlier) (reply_to (log_behind log earlier) last) calls h in
-    let before = answers log earlier s.first s.first_handed in
-    let (lost, is) = one_answered (log_behind log earlier) last s.rest s.rest_handed in
+answers : (grammar : Grammar) (log : Log) (received : List Received) (calls : List LinkCall) → AreHanded (replies_to grammar log received) calls → Answers grammar log received calls
+answers grammar log [] calls h = record { round = []; same = refl; calls_are = h }
+answers grammar log (last ∷ earlier) calls h =
+    let s = split (replies_to grammar log earlier) (reply_to grammar (log_behind grammar log earlier) last) calls h in
+    let before = answers grammar log earlier s.first s.first_handed in
+    let (lost, is) = one_answered grammar (log_behind grammar log earlier) last s.rest s.rest_handed in
     record {
       round = record { received = last; is_lost = lost } ∷ before.round;
       same = ap (λ l. last ∷ l) before.same;
-      calls_are = s.calls_are ∙ ap₂ (λ a b. a ++ b) before.calls_are (is ∙ ap (λ l. answering (log_behind log l) lost last) (sym before.same));
+      calls_are = s.calls_are ∙ ap₂ (λ a b. a ++ b) before.calls_are (is ∙ ap (λ l. answering grammar (log_behind grammar log l) lost last) (sym before.same));
     }
+
+-- a place is its three parts
+abbrev place_at : Tip → Log → Grammar → Place
+place_at tip log grammar = record { tip = tip; log = log; grammar = grammar }
+
+same_place : (t u : Tip) (k l : Log) (g h : Grammar) → t ≡ u → k ≡ l → g ≡ h → place_at t k g ≡ place_at u l h
+same_place t u k l g h tip log grammar = ap₂ (λ x y. place_at x y g) tip log ∙ ap (place_at u l) grammar
 
 -- what a round's receives leave to be committed
 record Waits (before mid : KeptState) (received : List Received) : Type 0 where
   tip : mid.tip ≡ before.tip
-  log : mid.log ≡ log_behind before.log received
-  round : mid.round ≡ changes_in before.log received
+  log : mid.log ≡ log_behind before.grammar before.log received
+  grammar : mid.grammar ≡ before.grammar
+  round : mid.round ≡ changes_in before.grammar before.log received
 
 waits : (before mid : KeptState) (received : List Received) → before.round ≡ [] → mid ≡ with_all_received before received → Waits before mid received
 waits before mid received idle is = record {
   tip = ap (λ (k : KeptState). k.tip) is;
   log = ap (λ (k : KeptState). k.log) is;
-  round = ap (λ (k : KeptState). k.round) is ∙ ap (λ l. l ++ changes_in before.log received) idle;
+  grammar = ap (λ (k : KeptState). k.grammar) is;
+  round = ap (λ (k : KeptState). k.round) is ∙ ap (λ l. l ++ changes_in before.grammar before.log received) idle;
 }
 
 pub turned : (count : ℕ) (before mid after : KeptState) (old t1 t2 new : Option (List DeskCall)) (c k counts : Counts) (replies : List Answer) → before.round ≡ []
-    → HasGathered count before mid old t1 c k replies → Tells t1 t2 (on_disk (committing mid.tip mid.round)) → after.round ≡ [] → after.log ≡ mid.log
+    → HasGathered count before mid old t1 c k replies → Tells t1 t2 (on_disk (committing mid.tip mid.round)) → after.round ≡ [] → after.log ≡ mid.log → after.grammar ≡ mid.grammar
     → after.tip ≡ tip_after mid.tip mid.round → HasAnswered replies t2 new k counts → HasTurned count before after old new c counts
-turned count before mid after old t1 t2 new c k counts replies idle g kept none log end a =
+turned count before mid after old t1 t2 new c k counts replies idle g kept none log same end a =
     let w = waits before mid g.received idle g.after_is in
-    let f = answers before.log g.received a.calls (subst (λ l. AreHanded l a.calls) g.answers_are a.handed) in
+    let f = answers before.grammar before.log g.received a.calls (subst (λ l. AreHanded l a.calls) g.answers_are a.handed) in
     let place = place_of before in
-    let commit : committing mid.tip mid.round ≡ committing before.tip (changes_in before.log (received_in f.round)) =
-    ap₂ (λ x y. committing x y) w.tip (w.round ∙ ap (changes_in before.log) (sym f.same)) in
+    let commit : committing mid.tip mid.round ≡ committing before.tip (changes_in before.grammar before.log (received_in f.round)) =
+    ap₂ (λ x y. committing x y) w.tip (w.round ∙ ap (changes_in before.grammar before.log) (sym f.same)) in
     let came : receives g.received ≡ receives (received_in f.round) = ap receives (sym f.same) in
-    let links = round_links (receives (received_in f.round)) (answers_in before.log f.round) (committing before.tip (changes_in before.log (received_in f.round))) in
+    let links = round_links (receives (received_in f.round)) (answers_in before.grammar before.log f.round) (committing before.tip (changes_in before.grammar before.log (received_in f.round))) in
     record {
       round = f.round;
       count_is = sym (length-map f.round (λ (t : LoggerTurn). t.received)) ∙ (ap length f.same ∙ g.count_is);
       is_round = subst IsRound (sym f.same) g.is_round;
-      tells = tells_on old t1 new (on_link (receives (received_in f.round))) (on_disk (committing before.tip (changes_in before.log (received_in f.round))) ++ on_link (answers_in before.log f.round))
+      tells = tells_on old t1 new (on_link (receives (received_in f.round))) (on_disk (committing before.tip (changes_in before.grammar before.log (received_in f.round))) ++ on_link (answers_in before.grammar before.log f.round))
           (subst (λ l. Tells old t1 (on_link l)) came g.tells)
-          (tells_on t1 t2 new (on_disk (committing before.tip (changes_in before.log (received_in f.round)))) (on_link (answers_in before.log f.round))
+          (tells_on t1 t2 new (on_disk (committing before.tip (changes_in before.grammar before.log (received_in f.round)))) (on_link (answers_in before.grammar before.log f.round))
           (subst (λ l. Tells t1 t2 (on_disk l)) commit kept) (subst (λ l. Tells t2 new (on_link l)) f.calls_are a.tells));
       counts_are = a.counts_are ∙ (ap₂ (λ x y. with_calls x y) (g.counts_are ∙ ap (with_calls c) came) f.calls_are
-          ∙ (with_both c (receives (received_in f.round)) (answers_in before.log f.round) ∙ ap (with_calls c) (sym links)));
-      place = ap₂ (λ x y. record { tip = x; log = y })
-          (end ∙ (ap₂ (λ x y. tip_after x y) w.tip (w.round ∙ ap (changes_in before.log) (sym f.same))))
-          (log ∙ (w.log ∙ ap (log_behind before.log) (sym f.same)));
+          ∙ (with_both c (receives (received_in f.round)) (answers_in before.grammar before.log f.round) ∙ ap (with_calls c) (sym links)));
+      place = same_place after.tip (tip_after before.tip (changes_in before.grammar before.log (received_in f.round))) after.log
+          (log_behind before.grammar before.log (received_in f.round)) after.grammar before.grammar
+          (end ∙ (ap₂ (λ x y. tip_after x y) w.tip (w.round ∙ ap (changes_in before.grammar before.log) (sym f.same))))
+          (log ∙ (w.log ∙ ap (log_behind before.grammar before.log) (sym f.same)))
+          (same ∙ w.grammar);
       idle = none;
     }
 
 -- a round that ends because memory runs out
-pub cut_by_memory : (most : ℕ) (at : Place) (old new : Option (List DeskCall)) → IsCutGathering most at.log old new → IsCutRound most at old new
+pub cut_by_memory : (most : ℕ) (at : Place) (old new : Option (List DeskCall)) → IsCutGathering most at.grammar at.log old new → IsCutRound most at old new
 cut_by_memory most at old new g = record {
   received = g.received;
   reason = inl g.wants;
@@ -166,18 +185,18 @@ cut_by_commit count most before mid old t1 new c k replies few idle g (done, fro
       tells = tells_on old t1 new (on_link (receives g.received)) (on_disk done) g.tells told;
     }
 
-replies_count : (log : Log) (received : List Received) → length (replies_to log received) ≤ length received
-replies_count log [] = omega arith
-replies_count log (last ∷ earlier) =
-    let few = replies_count log earlier in
-    let sum = length-append (replies_to log earlier) (reply_to (log_behind log earlier) last) in
-    let one = one_reply (log_behind log earlier) last in
+replies_count : (grammar : Grammar) (log : Log) (received : List Received) → length (replies_to grammar log received) ≤ length received
+replies_count grammar log [] = omega arith
+replies_count grammar log (last ∷ earlier) =
+    let few = replies_count grammar log earlier in
+    let sum = length-append (replies_to grammar log earlier) (reply_to grammar (log_behind grammar log earlier) last) in
+    let one = one_reply grammar (log_behind grammar log earlier) last in
     omega (arith, few, sum, one)
   where
-    one_reply : (log : Log) (r : Received) → length (reply_to log r) ≤ 1
-    one_reply log (datagram from bytes) = omega arith
-    one_reply log silence = omega arith
-    one_reply log failure = omega arith
+    one_reply : (grammar : Grammar) (log : Log) (r : Received) → length (reply_to grammar log r) ≤ 1
+    one_reply grammar log (datagram from bytes) = omega arith
+    one_reply grammar log silence = omega arith
+    one_reply grammar log failure = omega arith
 
 -- there is room for the counts of the answers
 pub room_to_answer : (count : ℕ) (before mid : KeptState) (old t1 : Option (List DeskCall)) (c k : Counts) (replies : List Answer) → HasRoom 512 c
@@ -185,8 +204,8 @@ pub room_to_answer : (count : ℕ) (before mid : KeptState) (old t1 : Option (Li
 room_to_answer count before mid old t1 c k replies room g few =
     let calls = few_calls (receives g.received) in
     let came : length (receives g.received) ≡ count = receives_count g.received ∙ g.count_is in
-    let wait : length replies ≡ length (replies_to before.log g.received) = ap length g.answers_are in
-    let most = replies_count before.log g.received in
+    let wait : length replies ≡ length (replies_to before.grammar before.log g.received) = ap length g.answers_are in
+    let most = replies_count before.grammar before.log g.received in
     let so : length replies ≤ 256 = omega (arith, wait, most, g.count_is) in
     subst (HasRoom (length replies)) (sym g.counts_are) (record {
       turns = omega (arith, room.turns, calls.turns, came, so);
@@ -197,84 +216,238 @@ room_to_answer count before mid old t1 c k replies room g few =
     })
 
 -- rounds so far
-pub served_none : (at : Place) (told : Option (List DeskCall)) (counts : Counts) → counts ≡ no_calls → HasServed 0 at at told told counts
-served_none at told counts none = record { rounds = []; are_rounds = tt; count_is = refl; tells = none_told told; counts_are = none; at_is = refl }
+pub served_none : (least : ℕ) (at : Place) (told : Option (List DeskCall)) (counts : Counts) → counts ≡ no_calls → HasServed least 0 at at told told counts
+served_none least at told counts none = record { rounds = []; are_rounds = (tt, tt); count_is = refl; tells = none_told told; counts_are = none; at_is = refl }
 
-pub served_on : (i count : ℕ) (start : Place) (before after : KeptState) (old mid new : Option (List DeskCall)) (c counts : Counts)
-    → HasServed i start (place_of before) old mid c → HasTurned count before after mid new c counts → HasServed (i + count) start (place_of after) old new counts
-served_on i count start before after old mid new c counts s t =
+-- a file isn't due right after the time at which it was to be replaced
+never_due : (least length : ℕ) → IsDue least length length → ⊥
+never_due least length due = omega (arith, due.1)
+
+-- rounds, and a file that isn't due
+pub record IsReady (least last count : ℕ) (start at : Place) (old new : Option (List DeskCall)) (counts : Counts) : Type 0 where
+  pub served : HasServed least count start at old new counts
+  pub last_is : last ≡ last_length start served.rounds
+  pub rests : IsDueAfter least start served.rounds → ⊥
+
+-- .. and those before it
+pub record IsServing (least last count : ℕ) (start at : Place) (old new : Option (List DeskCall)) (counts : Counts) : Type 0 where
+  pub served : HasServed least count start at old new counts
+  pub last_is : last ≡ last_length start served.rounds
+
+pub serving_none : (least : ℕ) (at : Place) (told : Option (List DeskCall)) (counts : Counts) → counts ≡ no_calls → IsServing least 0 0 at at told told counts
+unfolding served_none
+serving_none least at told counts none = record { served = served_none least at told counts none; last_is = refl }
+
+pub served_on : (least last i count : ℕ) (start : Place) (before after : KeptState) (old mid new : Option (List DeskCall)) (c counts : Counts)
+    → IsReady least last i start (place_of before) old mid c → HasTurned count before after mid new c counts → IsServing least last (i + count) start (place_of after) old new counts
+served_on least last i count start before after old mid new c counts ready t =
+    let s = ready.served in
     let calls : round_calls (place_of before) t.round ≡ round_calls (place_after start s.rounds) t.round = ap (λ p. round_calls p t.round) s.at_is in
     record {
-      rounds = t.round ∷ s.rounds;
-      are_rounds = (t.is_round, s.are_rounds);
-      count_is = ap₂ (λ x y. x + y) s.count_is t.count_is;
-      tells = tells_on old mid new (calls_of start s.rounds) (round_calls (place_after start s.rounds) t.round) s.tells (subst (Tells mid new) calls t.tells);
-      counts_are = t.counts_are ∙ (ap₂ (λ x y. with_calls x (link_calls y)) s.counts_are calls
-          ∙ (sym (counts_on (link_calls (calls_of start s.rounds)) (link_calls (round_calls (place_after start s.rounds) t.round)))
-          ∙ ap counts_of (sym (link_calls-append (calls_of start s.rounds) (round_calls (place_after start s.rounds) t.round)))));
-      at_is = t.place ∙ ap (λ p. after_receives p (received_in t.round)) s.at_is;
+      served = record {
+        rounds = Turned t.round ∷ s.rounds;
+        are_rounds = ((t.is_round, s.are_rounds.0), (ready.rests, s.are_rounds.1));
+        count_is = ap₂ (λ x y. x + y) s.count_is t.count_is;
+        tells = tells_on old mid new (calls_of start s.rounds) (round_calls (place_after start s.rounds) t.round) s.tells (subst (Tells mid new) calls t.tells);
+        counts_are = t.counts_are ∙ (ap₂ (λ x y. with_calls x (link_calls y)) s.counts_are calls
+            ∙ (sym (counts_on (link_calls (calls_of start s.rounds)) (link_calls (round_calls (place_after start s.rounds) t.round)))
+            ∙ ap counts_of (sym (link_calls-append (calls_of start s.rounds) (round_calls (place_after start s.rounds) t.round)))));
+        at_is = t.place ∙ ap (λ p. after_receives p (received_in t.round)) s.at_is;
+      };
+      last_is = ready.last_is;
     }
 
-pub serving_cut : (i most turns : ℕ) (start at : Place) (old mid new : Option (List DeskCall)) (c : Counts) → i + most ≤ turns → HasServed i start at old mid c
-    → IsCutRound most at mid new → IsCutServing turns start old new
-serving_cut i most turns start at old mid new c few s cut = record {
-  rounds = s.rounds;
-  received = cut.received;
-  reason = inr (subst (λ p. HasReason p.log cut.received) s.at_is cut.reason);
-  cut = cut.cut;
-  are_rounds = s.are_rounds;
-  unanswered = subst (λ p. IsUnanswered p cut.received cut.cut) s.at_is cut.unanswered;
-  within = omega (arith, s.count_is, cut.within);
-  tells = tells_on old mid new (calls_of start s.rounds) cut.cut s.tells cut.tells;
-}
+-- the file is due, by what the steps so far say of it
+due_after : (least last : ℕ) (start : Place) (before : KeptState) (rounds : List Step) → last ≡ last_length start rounds → place_of before ≡ place_after start rounds
+    → IsDue least last before.tip.end → IsDueAfter least start rounds
+due_after least last start before rounds last_is at_is due =
+    subst (λ p. IsDue least (last_length start rounds) p.tip.end) at_is (subst (λ n. IsDue least n before.tip.end) last_is due)
+
+-- a new file took the old one's place
+compacted_on : (least last next count : ℕ) (start : Place) (before after : KeptState) (made : List ℕ) (old mid new : Option (List DeskCall)) (counts : Counts)
+    → IsServing least last count start (place_of before) old mid counts → IsDue least last before.tip.end → next ≡ after.tip.end
+    → IsCompacted made before.tip before.log after.tip mid new → after.log ≡ before.log → after.grammar ≡ before.grammar → IsReady least next count start (place_of after) old new counts
+compacted_on least last next count start before after made old mid new counts serving due next_is k same grammar =
+    let s = serving.served in
+    let replaced : List DeskCall = on_disk (replacing made k.bodies) in
+    record {
+      served = record {
+        rounds = Compacted made k.bodies ∷ s.rounds;
+        are_rounds = (
+          (subst (λ p. HasSameLog p.tip p.log made k.bodies) s.at_is k.same_log, s.are_rounds.0),
+          (due_after least last start before s.rounds serving.last_is s.at_is due, s.are_rounds.1),
+        );
+        count_is = s.count_is;
+        tells = tells_on old mid new (calls_of start s.rounds) replaced s.tells k.tells;
+        counts_are = s.counts_are
+            ∙ ap counts_of (sym (link_calls-append (calls_of start s.rounds) replaced ∙ append-nil (link_calls (calls_of start s.rounds))));
+        at_is = same_place after.tip (tip_of made k.bodies) after.log (place_after start s.rounds).log after.grammar (place_after start s.rounds).grammar k.next_is (same ∙ ap (λ p. p.log) s.at_is) (grammar ∙ ap (λ p. p.grammar) s.at_is);
+      };
+      last_is = next_is ∙ ap (λ t. t.end) k.next_is;
+      rests = never_due least (tip_of made k.bodies).end;
+    }
+
+-- nothing was called
+same_served : (least count : ℕ) (start : Place) (before after : KeptState) (old mid new : Option (List DeskCall)) (counts : Counts) (s : HasServed least count start (place_of before) old mid counts)
+    → after.log ≡ before.log → after.grammar ≡ before.grammar → Stays before after mid new → (Tells old new (calls_of start s.rounds)) × (place_of after ≡ place_after start s.rounds)
+same_served least count start before after old mid new counts s log grammar (tip, none) = (
+  subst (Tells old new) (append-nil (calls_of start s.rounds)) (tells_on old mid new (calls_of start s.rounds) [] s.tells none),
+  same_place after.tip before.tip after.log before.log after.grammar before.grammar tip log grammar ∙ s.at_is,
+)
+
+-- the file was due, or not; it was replaced, or stays
+pub readied : (least last next count : ℕ) (start : Place) (before after : KeptState) (old mid new : Option (List DeskCall)) (counts : Counts)
+    → IsServing least last count start (place_of before) old mid counts → HasCompacted least last next before after mid new → IsReady least next count start (place_of after) old new counts
+readied least last next count start before after old mid new counts serving (log, grammar, idle, inl (rests, next_is, stays)) =
+    let s = serving.served in
+    let same = same_served least count start before after old mid new counts s log grammar stays in
+    record {
+      served = record {
+        rounds = s.rounds;
+        are_rounds = s.are_rounds;
+        count_is = s.count_is;
+        tells = same.0;
+        counts_are = s.counts_are;
+        at_is = same.1;
+      };
+      last_is = next_is ∙ serving.last_is;
+      rests = λ due. rests (subst (λ n. IsDue least n before.tip.end) (sym serving.last_is)
+          (subst (λ p. IsDue least (last_length start s.rounds) p.tip.end) (sym s.at_is) due));
+    }
+readied least last next count start before after old mid new counts serving (log, grammar, idle, inr (due, next_is, inl (made, k))) =
+    compacted_on least last next count start before after made old mid new counts serving due next_is k log grammar
+readied least last next count start before after old mid new counts serving (log, grammar, idle, inr (due, next_is, inr stays)) =
+    let s = serving.served in
+    let same = same_served least count start before after old mid new counts s log grammar stays in
+    record {
+      served = record {
+        rounds = Stayed ∷ s.rounds;
+        are_rounds = (s.are_rounds.0, (due_after least last start before s.rounds serving.last_is s.at_is due, s.are_rounds.1));
+        count_is = s.count_is;
+        tells = same.0;
+        counts_are = s.counts_are;
+        at_is = same.1;
+      };
+      last_is = next_is ∙ ap (λ p. p.tip.end) same.1;
+      rests = never_due least (place_after start s.rounds).tip.end;
+    }
+
+-- what was done before a round
+pub not_compacted : (least last : ℕ) (before : KeptState) (told : Option (List DeskCall)) → (IsDue least last before.tip.end → ⊥) → before.round ≡ []
+    → HasCompacted least last last before before told told
+not_compacted least last before told rests idle = (refl, refl, idle, inl (rests, refl, (refl, none_told told)))
+
+pub is_compacted : (least last next : ℕ) (done : Bool) (made : List ℕ) (before after : KeptState) (old new : Option (List DeskCall)) → IsDue least last before.tip.end → next ≡ after.tip.end
+    → after.log ≡ before.log → after.grammar ≡ before.grammar → after.round ≡ [] → (done ≡ true → IsCompacted made before.tip before.log after.tip old new) → (done ≡ false → Stays before after old new)
+    → HasCompacted least last next before after old new
+is_compacted least last next true made before after old new due next_is log grammar idle compacted stays = (log, grammar, idle, inr (due, next_is, inl (made, compacted refl)))
+is_compacted least last next false made before after old new due next_is log grammar idle compacted stays = (log, grammar, idle, inr (due, next_is, inr (stays refl)))
+
+-- a file that isn't due stays
+pub never_replaced : (least last next : ℕ) (before after : KeptState) (old new : Option (List DeskCall)) → (IsDue least last before.tip.end → ⊥)
+    → HasCompacted least last next before after old new → Tells old new []
+never_replaced least last next before after old new never (log, grammar, idle, inl (rests, next_is, (tip, none))) = none
+never_replaced least last next before after old new never (log, grammar, idle, inr (due, next_is, rest)) = absurd (never due)
+
+-- .. or that failed
+pub replacing_cut : (least last count most : ℕ) (start : Place) (before : KeptState) (old mid new : Option (List DeskCall)) (counts : Counts) → count ≤ most
+    → IsServing least last count start (place_of before) old mid counts → FailsToCompact least last before mid new → IsCutReplacing least most start old new
+replacing_cut least last count most start before old mid new counts few serving (due, (made, k)) =
+    let s = serving.served in
+    record {
+      rounds = s.rounds;
+      cut = on_disk k.done;
+      are_rounds = s.are_rounds;
+      due = due_after least last start before s.rounds serving.last_is s.at_is due;
+      unreplaced = record {
+        made = made;
+        bodies = k.bodies;
+        done = k.done;
+        same_log = subst (λ p. HasSameLog p.tip p.log made k.bodies) s.at_is k.same_log;
+        front = k.front;
+        calls_are = refl;
+      };
+      within = omega (arith, s.count_is, few);
+      tells = tells_on old mid new (calls_of start s.rounds) (on_disk k.done) s.tells k.tells;
+    }
+
+pub serving_cut : (least last i most turns : ℕ) (start at : Place) (old mid new : Option (List DeskCall)) (c : Counts) → i + most ≤ turns → IsReady least last i start at old mid c
+    → IsCutRound most at mid new → IsCutServing least turns start old new
+serving_cut least last i most turns start at old mid new c few ready cut =
+    let s = ready.served in
+    record {
+      rounds = s.rounds;
+      received = cut.received;
+      reason = inr (subst (λ p. HasReason p.grammar p.log cut.received) s.at_is cut.reason);
+      cut = cut.cut;
+      are_rounds = s.are_rounds;
+      unanswered = subst (λ p. IsUnanswered p cut.received cut.cut) s.at_is cut.unanswered;
+      within = omega (arith, s.count_is, cut.within, few);
+      tells = tells_on old mid new (calls_of start s.rounds) cut.cut s.tells cut.tells;
+    }
 
 -- none was begun
-pub unbegun : (turns : ℕ) (start : Place) (told : Option (List DeskCall)) → IsCutServing turns start told told
-unbegun turns start told = record {
+pub unbegun : (least turns : ℕ) (start : Place) (told : Option (List DeskCall)) → IsCutServing least turns start told told
+unbegun least turns start told = record {
   rounds = [];
   received = [];
   cut = [];
   reason = inl (refl, inl refl);
-  are_rounds = tt;
+  are_rounds = (tt, tt);
   unanswered = record { done = []; is_round = inl refl; front = tt; calls_are = refl };
   within = omega arith;
   tells = none_told told;
 }
 
-answers_few : (log : Log) (round : Round) → length (answers_in log round) ≤ length round
-answers_few log [] = omega arith
-answers_few log (last ∷ earlier) =
-    let few = answers_few log earlier in
-    let sum = length-append (answers_in log earlier) (answering (log_behind log (received_in earlier)) last.is_lost last.received) in
-    let one = one_answer (log_behind log (received_in earlier)) last.is_lost last.received in
+-- how steps end
+pub ended_by : (least most : ℕ) (start : Place) (old new : Option (List DeskCall)) (end : ProcessEnd) → IsServeEnd end → IsCutServing least most start old new
+    → HasEndedBy least most start old new end
+ended_by least most start old new end (inl is) s = subst (HasEndedBy least most start old new) (sym is) s
+ended_by least most start old new end (inr is) s = subst (HasEndedBy least most start old new) (sym is) (inl s)
+
+pub faulted_by : (least most : ℕ) (start : Place) (old new : Option (List DeskCall)) (end : ProcessEnd) → end ≡ JournalFault → IsCutReplacing least most start old new
+    → HasEndedBy least most start old new end
+faulted_by least most start old new end is s = subst (HasEndedBy least most start old new) (sym is) (inr s)
+
+answers_few : (grammar : Grammar) (log : Log) (round : Round) → length (answers_in grammar log round) ≤ length round
+answers_few grammar log [] = omega arith
+answers_few grammar log (last ∷ earlier) =
+    let few = answers_few grammar log earlier in
+    let sum = length-append (answers_in grammar log earlier) (answering grammar (log_behind grammar log (received_in earlier)) last.is_lost last.received) in
+    let one = one_answer grammar (log_behind grammar log (received_in earlier)) last.is_lost last.received in
     omega (arith, few, sum, one)
   where
-    one_handing : (to : Addr) (is_lost : Bool) (answer : Option Message) → length (handing to is_lost answer) ≤ 1
-    one_handing to is_lost None = omega arith
-    one_handing to is_lost (Some m) = omega arith
+    one_handing : (grammar : Grammar) (to : Addr) (is_lost : Bool) (answer : Option Message) → length (handing grammar to is_lost answer) ≤ 1
+    one_handing grammar to is_lost None = omega arith
+    one_handing grammar to is_lost (Some m) = omega arith
 
-    one_answer : (log : Log) (is_lost : Bool) (r : Received) → length (answering log is_lost r) ≤ 1
-    one_answer log is_lost (datagram from bytes) = one_handing from is_lost (answer_for log (reading bytes))
-    one_answer log is_lost silence = omega arith
-    one_answer log is_lost failure = omega arith
+    one_answer : (grammar : Grammar) (log : Log) (is_lost : Bool) (r : Received) → length (answering grammar log is_lost r) ≤ 1
+    one_answer grammar log is_lost (datagram from bytes) = one_handing grammar from is_lost (answer_for log (reading_by grammar bytes))
+    one_answer grammar log is_lost silence = omega arith
+    one_answer grammar log is_lost failure = omega arith
 
-links_few : (start : Place) (rounds : List Round) → length (link_calls (calls_of start rounds)) ≤ 2 * turns_in rounds
+links_few : (start : Place) (rounds : List Step) → length (link_calls (calls_of start rounds)) ≤ 2 * turns_in rounds
 links_few start [] = omega arith
-links_few start (last ∷ earlier) =
+links_few start (Compacted made bodies ∷ earlier) =
+    let few = links_few start earlier in
+    let same = ap length (link_calls-append (calls_of start earlier) (on_disk (replacing made bodies)) ∙ append-nil (link_calls (calls_of start earlier))) in
+    omega (arith, few, same)
+links_few start (Stayed ∷ earlier) = links_few start earlier
+links_few start (Turned last ∷ earlier) =
     let at = place_after start earlier in
     let few = links_few start earlier in
     let all : length (link_calls (calls_of start earlier ++ round_calls at last)) ≡ length (link_calls (calls_of start earlier)) + length (link_calls (round_calls at last)) =
     ap length (link_calls-append (calls_of start earlier) (round_calls at last)) ∙ length-append (link_calls (calls_of start earlier)) (link_calls (round_calls at last)) in
-    let this : length (link_calls (round_calls at last)) ≡ length (receives (received_in last)) + length (answers_in at.log last) =
-    ap length (round_links (receives (received_in last)) (answers_in at.log last) (committing at.tip (changes_in at.log (received_in last))))
-    ∙ length-append (receives (received_in last)) (answers_in at.log last) in
+    let this : length (link_calls (round_calls at last)) ≡ length (receives (received_in last)) + length (answers_in at.grammar at.log last) =
+    ap length (round_links (receives (received_in last)) (answers_in at.grammar at.log last) (committing at.tip (changes_in at.grammar at.log (received_in last))))
+    ∙ length-append (receives (received_in last)) (answers_in at.grammar at.log last) in
     let came : length (receives (received_in last)) ≡ length last = receives_count (received_in last) ∙ length-map last (λ (t : LoggerTurn). t.received) in
-    let told = answers_few at.log last in
+    let told = answers_few at.grammar at.log last in
     omega (arith, few, all, this, came, told)
 
 -- there is room for the counts of a round
-pub room_for_round : (i : ℕ) (start at : Place) (old new : Option (List DeskCall)) (c : Counts) → i ≤ most_turns → HasServed i start at old new c → HasRoom 512 c
-room_for_round i start at old new c le s =
+pub room_for_round : (least i : ℕ) (start at : Place) (old new : Option (List DeskCall)) (c : Counts) → i ≤ most_turns → HasServed least i start at old new c → HasRoom 512 c
+room_for_round least i start at old new c le s =
     let calls = few_calls (link_calls (calls_of start s.rounds)) in
     let few = links_few start s.rounds in
     let most : length (link_calls (calls_of start s.rounds)) ≤ 2 * most_turns = omega (arith, few, s.count_is) in

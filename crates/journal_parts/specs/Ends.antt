@@ -15,7 +15,7 @@ use Rattle.link_parts.specs.declared.status.NodeEnd.TheVariants as node_end
 use Rattle.journal_parts.specs.declared.status.ProcessEnd.{ProcessEnd}
 use Rattle.journal_parts.specs.declared.status.ProcessEnd.TheVariants.{Node, JournalFault, BadJournal, NoJournal, InUse}
 use Rattle.journal_parts.specs.declared.status.Lack.{Lack}
-use Rattle.journal_parts.specs.declared.status.Lack.TheVariants.{Missing, Present, Empty, Unfinished, Older}
+use Rattle.journal_parts.specs.declared.status.Lack.TheVariants.{Missing, Present, Empty, Unfinished, Older, OtherProfile}
 
 abbrev pub code_of : ProcessEnd → ℕ
 code_of (Node end) = node.code_of end
@@ -42,6 +42,7 @@ lack_text Present = codes "ftnode: journal: the file is there\n"
 lack_text Empty = codes "ftnode: journal: the file is empty\n"
 lack_text Unfinished = codes "ftnode: journal: the file ends in its header\n"
 lack_text Older = codes "ftnode: journal: version 1\n"
+lack_text OtherProfile = codes "ftnode: journal: another profile\n"
 
 -- the line of a start that has cut off so many bytes: none if there were none
 abbrev pub cut_line : (torn : ℕ) → List ℕ
@@ -76,6 +77,7 @@ from_open open_end.Failed = JournalFault
 from_open open_end.Empty = NoJournal Empty
 from_open open_end.Unfinished = NoJournal Unfinished
 from_open open_end.Older = NoJournal Older
+from_open open_end.OtherGrammar = NoJournal OtherProfile
 from_open (open_end.Wrong at) = BadJournal at
 
 abbrev pub from_keep : KeepEnd → ProcessEnd

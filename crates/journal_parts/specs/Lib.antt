@@ -5,3 +5,4 @@ pub mod Rounds
 pub mod RoundParts
 pub mod Words
 pub mod Waits
+pub mod Due

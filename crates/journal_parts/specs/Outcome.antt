@@ -8,7 +8,8 @@ use Rattle.journal_parts.specs.Ends.{code_of, text_of}
 use Rattle.journal_parts.specs.LoggerLife.{IsKeeper, KeeperStops}
 use Rattle.journal_parts.specs.declared.role.JournalRole.{JournalRole}
 
-abbrev pub KeepsJournal : JournalRole → Option (List ℕ) → Result (Unit {0}) ProcessEnd → (old new : Option (List DeskCall)) → (out_old out_new err_old err_new : Option (List ℕ)) → Type 0
+abbrev pub KeepsJournal : JournalRole → Option (List ℕ) → Result (Unit {0}) ProcessEnd → (old new : Option (List DeskCall))
+    → (out_old out_new err_old err_new : Option (List ℕ)) → Type 0
 KeepsJournal role file (Ok _) old new out_old out_new err_old err_new = IsKeeper role file old new (Appends out_old out_new) (Appends err_old err_new)
 KeepsJournal role file (Err end) old new out_old out_new err_old err_new = KeeperStops role file old new out_old out_new err_old err_new end
 

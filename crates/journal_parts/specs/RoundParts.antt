@@ -4,12 +4,14 @@ use Rattle.std.specs.List.{AllByRecursion}
 use Rattle.ft_io.specs.Sink.{AppendsFront}
 use Rattle.ft_io.specs.Told.{Tells}
 use Rattle.ft_io.specs.declared.link_call.LinkCall.{LinkCall}
-use Rattle.seq_arith.specs.MessageGrammar.{reading}
+use Rattle.seq_arith.specs.MessageGrammar.{reading_by}
+use Rattle.seq_arith.specs.declared.kinds.Grammar.{Grammar}
 use Rattle.ft_model.specs.Log.{Log}
 use Rattle.disk.specs.CallRecord.{on_link, link_calls}
 use Rattle.disk.specs.declared.calls.DeskCall.{DeskCall}
+use Rattle.kept_log.specs.Compaction.{IsCompacted, IsCutCompaction}
 use Rattle.kept_log.specs.JournaledLog.{KeptState}
-use Rattle.logger_store.specs.StoreState.{answer_bytes}
+use Rattle.logger_store.specs.StoreState.{answer_bytes_by}
 use Rattle.link_parts.specs.declared.counts.Counts.{Counts}
 use Rattle.link_parts.specs.Counts.{counts_of, with_calls, count_line}
 use Rattle.link_parts.specs.LoggerParts.{handing_bytes}
@@ -20,43 +22,52 @@ use Rattle.journal_parts.specs.declared.answers.Answer.{Answer}
 use Rattle.journal_parts.specs.declared.status.ProcessEnd.{ProcessEnd}
 use Rattle.journal_parts.specs.declared.status.ProcessEnd.TheVariants.{Node, JournalFault}
 use Rattle.journal_parts.specs.Ends.{cut_text}
-use Rattle.journal_parts.specs.LoggerLife.{IsStopped, IsUnanswered}
+use Rattle.journal_parts.specs.LoggerLife.{IsStopped, IsUnanswered, IsUnreplaced}
 use Rattle.journal_parts.specs.declared.role.JournalRole.{JournalRole}
 use Rattle.ft_io.specs.declared.link_call.LinkCall.TheVariants.{Bound}
 use Rattle.disk.specs.declared.calls.DeskCall.TheVariants.{OnLink}
 use Rattle.std.specs.Io.KnownBytes.{Appends}
-use Rattle.journal_parts.specs.Rounds.{Place, Round, IsDatagram, IsRound, received_in, log_behind, receives, change_in, change_by, changes_in, after_receives, round_calls, place_after, calls_of, turns_in}
+use Rattle.journal_parts.specs.Rounds.{Place, Round, Step, IsDatagram, IsRound, received_in, log_behind, receives, change_in, change_by, changes_in}
+use Rattle.journal_parts.specs.Rounds.{after_receives, round_calls, place_after, calls_of, turns_in}
+use Rattle.journal_parts.specs.Due.{IsDue, IsDueAfter, AreStepsBy}
 use Rattle.journal_parts.specs.Waits.{LastWants, HasReason}
 
 abbrev pub place_of : KeptState → Place
-place_of kept = record { tip = kept.tip; log = kept.log }
+place_of kept = record { tip = kept.tip; log = kept.log; grammar = kept.grammar }
 
 -- after a receive: its message is applied to the log, and waits for the commit if it has changed the log
 abbrev pub with_received : KeptState → Received → KeptState
-with_received kept r = record kept { log = log_then kept.log r; round = kept.round ++ change_by kept.log r }
+with_received kept r = record kept { log = log_then kept.grammar kept.log r; round = kept.round ++ change_by kept.grammar kept.log r }
 
 -- bytes arrived
 abbrev pub with_bytes : KeptState → List ℕ → KeptState
-with_bytes kept bytes = record kept { log = log_with kept.log (reading bytes); round = kept.round ++ change_in kept.log bytes (reading bytes) }
+with_bytes kept bytes = record kept {
+  log = log_with kept.log (reading_by kept.grammar bytes);
+  round = kept.round ++ change_in kept.log bytes (reading_by kept.grammar bytes);
+}
 
 -- .. after these receives, the newest first
 abbrev pub with_all_received : KeptState → List Received → KeptState
-with_all_received kept received = record kept { log = log_behind kept.log received; round = kept.round ++ changes_in kept.log received }
+with_all_received kept received = record kept {
+  log = log_behind kept.grammar kept.log received;
+  round = kept.round ++ changes_in kept.grammar kept.log received;
+}
 
 -- what waits to be sent because of a receive: an answer, or no bytes where there is none
-abbrev pub reply_to : Log → Received → List Answer
-reply_to log (datagram from bytes) = record { to = from; out = answer_bytes (answer_for log (reading bytes)) } ∷ []
-reply_to log silence = []
-reply_to log failure = []
+abbrev pub reply_to : Grammar → Log → Received → List Answer
+reply_to grammar log (datagram from bytes) = record { to = from; out = answer_bytes_by grammar (answer_for log (reading_by grammar bytes)) } ∷ []
+reply_to grammar log silence = []
+reply_to grammar log failure = []
 
-abbrev pub replies_to : Log → List Received → List Answer
-replies_to log [] = []
-replies_to log (last ∷ earlier) = replies_to log earlier ++ reply_to (log_behind log earlier) last
+abbrev pub replies_to : Grammar → Log → List Received → List Answer
+replies_to grammar log [] = []
+replies_to grammar log (last ∷ earlier) = replies_to grammar log earlier ++ reply_to grammar (log_behind grammar log earlier) last
 
 -- the calls by which answers are handed to send, in their order
 abbrev pub AreHanded : List Answer → List LinkCall → Type 0
 AreHanded [] calls = calls ≡ []
-AreHanded (answer ∷ answers) calls = (is_lost : Bool) × (rest : List LinkCall) × (calls ≡ handing_bytes answer.to is_lost answer.out ++ rest) × AreHanded answers rest
+AreHanded (answer ∷ answers) calls = (is_lost : Bool) × (rest : List LinkCall) × (calls ≡ handing_bytes answer.to is_lost answer.out ++ rest)
+    × AreHanded answers rest
 
 pub record HandsOver (answer : Answer) (old new : Option (List DeskCall)) (counted counts : Counts) : Type 0 where
   pub is_lost : Bool
@@ -70,38 +81,41 @@ pub record HasAnswered (answers : List Answer) (old new : Option (List DeskCall)
   pub counts_are : counts ≡ with_calls counted calls
 
 -- one receive, which gave a datagram if `is_more`
-pub record HasTaken (is_more : Bool) (before after : KeptState) (old new : Option (List DeskCall)) (counted counts : Counts) (waiting answers : List Answer) : Type 0 where
+pub record HasTaken (is_more : Bool) (before after : KeptState) (old new : Option (List DeskCall)) (counted counts : Counts)
+    (waiting answers : List Answer) : Type 0 where
   pub received : Received
   pub is_datagram : is_more ≡ true → IsDatagram received
   pub tells : Tells old new (on_link (received_as received ∷ []))
   pub counts_are : counts ≡ with_calls counted (received_as received ∷ [])
   pub after_is : after ≡ with_received before received
-  pub answers_are : answers ≡ waiting ++ reply_to before.log received
+  pub answers_are : answers ≡ waiting ++ reply_to before.grammar before.log received
 
 -- this many receives, each of which gave a datagram
-pub record IsGathering (count : ℕ) (before after : KeptState) (old new : Option (List DeskCall)) (counted counts : Counts) (answers : List Answer) : Type 0 where
+pub record IsGathering (count : ℕ) (before after : KeptState) (old new : Option (List DeskCall)) (counted counts : Counts)
+    (answers : List Answer) : Type 0 where
   pub received : List Received
   pub count_is : length received ≡ count
   pub are_datagrams : AllByRecursion IsDatagram received
   pub tells : Tells old new (on_link (receives received))
   pub counts_are : counts ≡ with_calls counted (receives received)
   pub after_is : after ≡ with_all_received before received
-  pub answers_are : answers ≡ replies_to before.log received
+  pub answers_are : answers ≡ replies_to before.grammar before.log received
 
 -- the receives of a round
-pub record HasGathered (count : ℕ) (before after : KeptState) (old new : Option (List DeskCall)) (counted counts : Counts) (answers : List Answer) : Type 0 where
+pub record HasGathered (count : ℕ) (before after : KeptState) (old new : Option (List DeskCall)) (counted counts : Counts)
+    (answers : List Answer) : Type 0 where
   pub received : List Received
   pub count_is : length received ≡ count
   pub is_round : IsRound received
   pub tells : Tells old new (on_link (receives received))
   pub counts_are : counts ≡ with_calls counted (receives received)
   pub after_is : after ≡ with_all_received before received
-  pub answers_are : answers ≡ replies_to before.log received
+  pub answers_are : answers ≡ replies_to before.grammar before.log received
 
 -- receives of a round that ended because an allocation failed: the last one gave a message for which the log needed memory
-pub record IsCutGathering (most : ℕ) (log : Log) (old new : Option (List DeskCall)) : Type 0 where
+pub record IsCutGathering (most : ℕ) (grammar : Grammar) (log : Log) (old new : Option (List DeskCall)) : Type 0 where
   pub received : List Received
-  pub wants : LastWants log received
+  pub wants : LastWants grammar log received
   pub within : length received ≤ most
   pub is_round : IsRound received
   pub tells : Tells old new (on_link (receives received))
@@ -120,45 +134,81 @@ pub record HasTurned (count : ℕ) (before after : KeptState) (old new : Option 
 pub record IsCutRound (most : ℕ) (at : Place) (old new : Option (List DeskCall)) : Type 0 where
   pub received : List Received
   pub cut : List DeskCall
-  pub reason : HasReason at.log received
+  pub reason : HasReason at.grammar at.log received
   pub within : length received ≤ most
   pub unanswered : IsUnanswered at received cut
   pub tells : Tells old new cut
 
+-- the file stays, and nothing is called on it
+abbrev pub Stays : (before after : KeptState) → (old new : Option (List DeskCall)) → Type 0
+Stays before after old new = (after.tip ≡ before.tip) × Tells old new []
+
+-- A file that is due is replaced, if the new one can be written; no other is. `last` is its length after the last time, and `next` that after this one
+abbrev pub HasCompacted : (least last next : ℕ) → (before after : KeptState) → (old new : Option (List DeskCall)) → Type 0
+HasCompacted least last next before after old new =
+    (after.log ≡ before.log) × (after.grammar ≡ before.grammar) × (after.round ≡ [])
+    × (((IsDue least last before.tip.end → ⊥) × (next ≡ last) × Stays before after old new)
+    ⊎ (IsDue least last before.tip.end × (next ≡ after.tip.end)
+    × (((made : List ℕ) × IsCompacted made before.tip before.log after.tip old new) ⊎ Stays before after old new)))
+
+-- .. or it was to be, and that failed
+abbrev pub FailsToCompact : (least last : ℕ) → (before : KeptState) → (old new : Option (List DeskCall)) → Type 0
+FailsToCompact least last before old new = IsDue least last before.tip.end × ((made : List ℕ) × IsCutCompaction made before.tip before.log old new)
+
 -- rounds of this many turns in all
-pub record HasServed (count : ℕ) (start at : Place) (old new : Option (List DeskCall)) (counts : Counts) : Type 0 where
-  pub rounds : List Round
-  pub are_rounds : AllByRecursion (λ round. IsRound (received_in round)) rounds
+pub record HasServed (least count : ℕ) (start at : Place) (old new : Option (List DeskCall)) (counts : Counts) : Type 0 where
+  pub rounds : List Step
+  pub are_rounds : AreStepsBy least start rounds
   pub count_is : turns_in rounds ≡ count
   pub tells : Tells old new (calls_of start rounds)
   pub counts_are : counts ≡ counts_of (link_calls (calls_of start rounds))
   pub at_is : at ≡ place_after start rounds
 
 -- rounds, and one that isn't answered
-pub record IsCutServing (most : ℕ) (start : Place) (old new : Option (List DeskCall)) : Type 0 where
-  pub rounds : List Round
+pub record IsCutServing (least most : ℕ) (start : Place) (old new : Option (List DeskCall)) : Type 0 where
+  pub rounds : List Step
   pub received : List Received
   pub cut : List DeskCall
   pub reason : IsStopped most start rounds received
-  pub are_rounds : AllByRecursion (λ round. IsRound (received_in round)) rounds
+  pub are_rounds : AreStepsBy least start rounds
   pub unanswered : IsUnanswered (place_after start rounds) received cut
   pub within : turns_in rounds + length received ≤ most
   pub tells : Tells old new (calls_of start rounds ++ cut)
 
+-- steps, and a new file that was to take the place of the old one
+pub record IsCutReplacing (least most : ℕ) (start : Place) (old new : Option (List DeskCall)) : Type 0 where
+  pub rounds : List Step
+  pub cut : List DeskCall
+  pub are_rounds : AreStepsBy least start rounds
+  pub due : IsDueAfter least start rounds
+  pub unreplaced : IsUnreplaced (place_after start rounds) cut
+  pub within : turns_in rounds ≤ most
+  pub tells : Tells old new (calls_of start rounds ++ cut)
+
+-- how steps end because a call on the file failed
+abbrev pub IsFaulted : (least most : ℕ) (start : Place) (old new : Option (List DeskCall)) → Type 0
+IsFaulted least most start old new = IsCutServing least most start old new ⊎ IsCutReplacing least most start old new
+
+-- .. or because memory ran out
+abbrev pub HasEndedBy : (least most : ℕ) (start : Place) (old new : Option (List DeskCall)) → ProcessEnd → Type 0
+HasEndedBy least most start old new (Node NoMemory) = IsCutServing least most start old new
+HasEndedBy least most start old new JournalFault = IsFaulted least most start old new
+HasEndedBy least most start old new _ = ⊥
+
 -- rounds of this many turns in all, whose counts are written
-pub record HasLived (count : ℕ) (start : Place) (old new : Option (List DeskCall)) (Writes : List ℕ → Type 0) : Type 0 where
-  pub rounds : List Round
-  pub are_rounds : AllByRecursion (λ round. IsRound (received_in round)) rounds
+pub record HasLived (least count : ℕ) (start : Place) (old new : Option (List DeskCall)) (Writes : List ℕ → Type 0) : Type 0 where
+  pub rounds : List Step
+  pub are_rounds : AreStepsBy least start rounds
   pub count_is : turns_in rounds ≡ count
   pub tells : Tells old new (calls_of start rounds)
   pub written : Writes (count_line (counts_of (link_calls (calls_of start rounds))))
 
 -- how rounds and their line stop
-abbrev pub ServingStops : ℕ → Place → (old new : Option (List DeskCall)) → (out_old out_new : Option (List ℕ)) → ProcessEnd → Type 0
-ServingStops most start old new out_old out_new (Node NoMemory) = IsCutServing most start old new × (out_new ≡ out_old)
-ServingStops most start old new out_old out_new (Node WriteFault) = HasLived most start old new (AppendsFront out_old out_new)
-ServingStops most start old new out_old out_new JournalFault = IsCutServing most start old new × (out_new ≡ out_old)
-ServingStops most start old new out_old out_new _ = ⊥
+abbrev pub ServingStops : (least most : ℕ) → Place → (old new : Option (List DeskCall)) → (out_old out_new : Option (List ℕ)) → ProcessEnd → Type 0
+ServingStops least most start old new out_old out_new (Node NoMemory) = IsCutServing least most start old new × (out_new ≡ out_old)
+ServingStops least most start old new out_old out_new (Node WriteFault) = HasLived least most start old new (AppendsFront out_old out_new)
+ServingStops least most start old new out_old out_new JournalFault = IsFaulted least most start old new × (out_new ≡ out_old)
+ServingStops least most start old new out_old out_new _ = ⊥
 
 -- how rounds may stop
 abbrev pub IsServeEnd : ProcessEnd → Type 0
@@ -166,8 +216,8 @@ IsServeEnd end = (end ≡ Node NoMemory) ⊎ (end ≡ JournalFault)
 
 -- the line of the opening, the bind, and rounds whose counts are written
 pub record HasServedNoted (role : JournalRole) (start : Place) (torn : ℕ) (old new : Option (List DeskCall)) (Writes Notes : List ℕ → Type 0) : Type 0 where
-  pub rounds : List Round
-  pub are_rounds : AllByRecursion (λ round. IsRound (received_in round)) rounds
+  pub rounds : List Step
+  pub are_rounds : AreStepsBy role.compact start rounds
   pub count_is : turns_in rounds ≡ role.logger.turns
   pub tells : Tells old new (OnLink (Bound role.logger.local) ∷ calls_of start rounds)
   pub written : Writes (count_line (counts_of (link_calls (calls_of start rounds))))
@@ -175,22 +225,38 @@ pub record HasServedNoted (role : JournalRole) (start : Place) (torn : ℕ) (old
 
 -- .. and one that isn't answered
 pub record IsCutServingNoted (role : JournalRole) (start : Place) (torn : ℕ) (old new : Option (List DeskCall)) (Notes : List ℕ → Type 0) : Type 0 where
-  pub rounds : List Round
+  pub rounds : List Step
   pub received : List Received
   pub cut : List DeskCall
   pub reason : IsStopped role.logger.turns start rounds received
-  pub are_rounds : AllByRecursion (λ round. IsRound (received_in round)) rounds
+  pub are_rounds : AreStepsBy role.compact start rounds
   pub unanswered : IsUnanswered (place_after start rounds) received cut
   pub within : turns_in rounds + length received ≤ role.logger.turns
   pub tells : Tells old new (OnLink (Bound role.logger.local) ∷ (calls_of start rounds ++ cut))
   pub noted : Notes (cut_text torn)
 
+-- .. and a new file that was to take the place of the old one
+pub record IsCutReplacingNoted (role : JournalRole) (start : Place) (torn : ℕ) (old new : Option (List DeskCall)) (Notes : List ℕ → Type 0) : Type 0 where
+  pub rounds : List Step
+  pub cut : List DeskCall
+  pub are_rounds : AreStepsBy role.compact start rounds
+  pub due : IsDueAfter role.compact start rounds
+  pub unreplaced : IsUnreplaced (place_after start rounds) cut
+  pub within : turns_in rounds ≤ role.logger.turns
+  pub tells : Tells old new (OnLink (Bound role.logger.local) ∷ (calls_of start rounds ++ cut))
+  pub noted : Notes (cut_text torn)
+
 -- how these stop
-abbrev pub ServingNotedStops : JournalRole → Place → (torn : ℕ) → (old new : Option (List DeskCall)) → (out_old out_new err_old err_new : Option (List ℕ)) → ProcessEnd → Type 0
-ServingNotedStops role start torn old new out_old out_new err_old err_new (Node LinkFault) = Tells old new [] × Appends err_old err_new (cut_text torn) × (out_new ≡ out_old)
+abbrev pub ServingNotedStops : JournalRole → Place → (torn : ℕ) → (old new : Option (List DeskCall)) → (out_old out_new err_old err_new : Option (List ℕ))
+    → ProcessEnd → Type 0
+ServingNotedStops role start torn old new out_old out_new err_old err_new (Node LinkFault) = Tells old new [] × Appends err_old err_new (cut_text torn)
+    × (out_new ≡ out_old)
 ServingNotedStops role start torn old new out_old out_new err_old err_new (Node WriteFault) =
     HasServedNoted role start torn old new (AppendsFront out_old out_new) (Appends err_old err_new)
     ⊎ (Tells old new [] × AppendsFront err_old err_new (cut_text torn) × (out_new ≡ out_old))
-ServingNotedStops role start torn old new out_old out_new err_old err_new (Node NoMemory) = IsCutServingNoted role start torn old new (Appends err_old err_new) × (out_new ≡ out_old)
-ServingNotedStops role start torn old new out_old out_new err_old err_new JournalFault = IsCutServingNoted role start torn old new (Appends err_old err_new) × (out_new ≡ out_old)
+ServingNotedStops role start torn old new out_old out_new err_old err_new (Node NoMemory) = IsCutServingNoted role start torn old new
+    (Appends err_old err_new) × (out_new ≡ out_old)
+ServingNotedStops role start torn old new out_old out_new err_old err_new JournalFault =
+    (IsCutServingNoted role start torn old new (Appends err_old err_new) ⊎ IsCutReplacingNoted role start torn old new (Appends err_old err_new))
+    × (out_new ≡ out_old)
 ServingNotedStops role start torn old new out_old out_new err_old err_new _ = ⊥

@@ -4,11 +4,14 @@ use Rattle.std.specs.Prelude.{◌≤◌, ℕ, ◌+◌, Result, Ok, Err, List, []
 use Rattle.std.specs.List.{AllByRecursion}
 use Rattle.ft_io.specs.declared.link_call.LinkCall.{LinkCall}
 use Rattle.seq_arith.specs.Message.{Message}
-use Rattle.seq_arith.specs.MessageGrammar.{reading}
+use Rattle.seq_arith.specs.MessageGrammar.{reading_by}
 use Rattle.seq_arith.specs.declared.kinds.BadMsg.{BadMsg}
+use Rattle.seq_arith.specs.declared.kinds.Grammar.{Grammar}
 use Rattle.ft_model.specs.Log.{Log}
 use Rattle.disk.specs.declared.calls.DeskCall.{DeskCall}
 use Rattle.disk.specs.CallRecord.{on_link, on_disk}
+use Rattle.kept_log.specs.Format.{tip_of}
+use Rattle.kept_log.specs.Compaction.{HasSameLog, replacing}
 use Rattle.kept_log.specs.JournaledLog.{kept_of, committing, tip_after}
 use Rattle.kept_log.specs.declared.tip.Tip.{Tip}
 use Rattle.link_parts.specs.LoggerTurns.{LoggerTurn, log_then, answering}
@@ -32,9 +35,9 @@ IsRound [] = ⊥
 IsRound (last ∷ earlier) = (length (last ∷ earlier) ≤ 256) × AllByRecursion IsDatagram earlier
 
 -- the log after receives, the newest first, from the log before them
-abbrev pub log_behind : Log → List Received → Log
-log_behind log [] = log
-log_behind log (last ∷ earlier) = log_then (log_behind log earlier) last
+abbrev pub log_behind : Grammar → Log → List Received → Log
+log_behind grammar log [] = log
+log_behind grammar log (last ∷ earlier) = log_then grammar (log_behind grammar log earlier) last
 
 abbrev pub receives : List Received → List LinkCall
 receives [] = []
@@ -45,45 +48,77 @@ abbrev pub change_in : Log → List ℕ → Result Message BadMsg → List ℕ
 change_in log bytes (Ok message) = kept_of log message bytes
 change_in log bytes (Err bad) = []
 
-abbrev pub change_by : Log → Received → List ℕ
-change_by log (datagram from bytes) = change_in log bytes (reading bytes)
-change_by log silence = []
-change_by log failure = []
+abbrev pub change_by : Grammar → Log → Received → List ℕ
+change_by grammar log (datagram from bytes) = change_in log bytes (reading_by grammar bytes)
+change_by grammar log silence = []
+change_by grammar log failure = []
 
 -- the messages that changed the log, each after those before it, one after the other as they arrived
-abbrev pub changes_in : Log → List Received → List ℕ
-changes_in log [] = []
-changes_in log (last ∷ earlier) = changes_in log earlier ++ change_by (log_behind log earlier) last
+abbrev pub changes_in : Grammar → Log → List Received → List ℕ
+changes_in grammar log [] = []
+changes_in grammar log (last ∷ earlier) = changes_in grammar log earlier ++ change_by grammar (log_behind grammar log earlier) last
 
 -- each answer is the log's at its message's place, and is sent to the message's sender
-abbrev pub answers_in : Log → Round → List LinkCall
-answers_in log [] = []
-answers_in log (last ∷ earlier) = answers_in log earlier ++ answering (log_behind log (received_in earlier)) last.is_lost last.received
+abbrev pub answers_in : Grammar → Log → Round → List LinkCall
+answers_in grammar log [] = []
+answers_in grammar log (last ∷ earlier) =
+    answers_in grammar log earlier ++ answering grammar (log_behind grammar log (received_in earlier)) last.is_lost last.received
 
--- a log, and where the next block begins in the file that has it
+-- a log, the grammar of its messages, and where the next block begins in the file that has it
 pub record Place : Type 0 where
   pub tip : Tip
   pub log : Log
+  pub grammar : Grammar
 
 abbrev pub after_receives : Place → List Received → Place
-after_receives at received = record { tip = tip_after at.tip (changes_in at.log received); log = log_behind at.log received }
+after_receives at received = record {
+  tip = tip_after at.tip (changes_in at.grammar at.log received);
+  log = log_behind at.grammar at.log received;
+  grammar = at.grammar;
+}
 
 -- the calls of a round: its receives, then those that commit exactly the messages that changed the log (none if there are none), then its answers
 abbrev pub round_calls : Place → Round → List DeskCall
 round_calls at round =
-    on_link (receives (received_in round)) ++ (on_disk (committing at.tip (changes_in at.log (received_in round))) ++ on_link (answers_in at.log round))
+    on_link (receives (received_in round))
+    ++ (on_disk (committing at.tip (changes_in at.grammar at.log (received_in round))) ++ on_link (answers_in at.grammar at.log round))
 
--- log and place after rounds, the newest first
-abbrev pub place_after : Place → List Round → Place
+-- A step of such a logger's life: a round; a new file, made at this time and with these blocks, takes the place of the old one; or such a file couldn't be
+-- written, and the old one stays
+pub data Step : Type 0 where
+  Turned : Round → Step
+  Compacted : (made : List ℕ) → (bodies : List (List ℕ)) → Step
+  Stayed : Step
+
+-- log and place after steps, the newest first
+abbrev pub place_after : Place → List Step → Place
 place_after start [] = start
-place_after start (last ∷ earlier) = after_receives (place_after start earlier) (received_in last)
+place_after start (Turned last ∷ earlier) = after_receives (place_after start earlier) (received_in last)
+place_after start (Compacted made bodies ∷ earlier) = record {
+  tip = tip_of made bodies;
+  log = (place_after start earlier).log;
+  grammar = (place_after start earlier).grammar;
+}
+place_after start (Stayed ∷ earlier) = place_after start earlier
 
--- their calls, the oldest call first
-abbrev pub calls_of : Place → List Round → List DeskCall
+-- Their calls, the oldest call first. Between a new file's taking the name and the folder's sync there is no other call, so nothing is answered there
+abbrev pub calls_of : Place → List Step → List DeskCall
 calls_of start [] = []
-calls_of start (last ∷ earlier) = calls_of start earlier ++ round_calls (place_after start earlier) last
+calls_of start (Turned last ∷ earlier) = calls_of start earlier ++ round_calls (place_after start earlier) last
+calls_of start (Compacted made bodies ∷ earlier) = calls_of start earlier ++ on_disk (replacing made bodies)
+calls_of start (Stayed ∷ earlier) = calls_of start earlier
 
 -- how many turns they have
-abbrev pub turns_in : List Round → ℕ
+abbrev pub turns_in : List Step → ℕ
 turns_in [] = 0
-turns_in (last ∷ earlier) = turns_in earlier + length last
+turns_in (Turned last ∷ earlier) = turns_in earlier + length last
+turns_in (Compacted made bodies ∷ earlier) = turns_in earlier
+turns_in (Stayed ∷ earlier) = turns_in earlier
+
+-- the rounds among them are such, and each new file has the log of the old one
+abbrev pub AreSteps : Place → List Step → Type 0
+AreSteps start [] = Unit {0}
+AreSteps start (Turned last ∷ earlier) = IsRound (received_in last) × AreSteps start earlier
+AreSteps start (Compacted made bodies ∷ earlier) = HasSameLog (place_after start earlier).tip (place_after start earlier).log made bodies
+    × AreSteps start earlier
+AreSteps start (Stayed ∷ earlier) = AreSteps start earlier

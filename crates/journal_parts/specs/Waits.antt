@@ -1,6 +1,7 @@
 -- Which receives of a round wait for a datagram, and why a round may end unanswered.
 use Rattle.std.specs.Prelude.{◌≡◌, ◌⊎◌, ℕ, zero, suc, Bool, true, false, List, [], ◌∷◌, replicate}
-use Rattle.seq_arith.specs.MessageGrammar.{reading}
+use Rattle.seq_arith.specs.MessageGrammar.{reading_by}
+use Rattle.seq_arith.specs.declared.kinds.Grammar.{Grammar}
 use Rattle.ft_model.specs.Log.{Log}
 use Rattle.link_parts.specs.LoggerTurns.{wants_in}
 use Rattle.link_parts.specs.Receipt.{Received, datagram, silence, failure}
@@ -12,16 +13,16 @@ waits_in zero = []
 waits_in (suc more) = true ∷ replicate more false
 
 -- whether the log may need memory for what a receive gave
-abbrev pub wants_then : Log → Received → Bool
-wants_then log (datagram from bytes) = wants_in log (reading bytes)
-wants_then log silence = false
-wants_then log failure = false
+abbrev pub wants_then : Grammar → Log → Received → Bool
+wants_then grammar log (datagram from bytes) = wants_in log (reading_by grammar bytes)
+wants_then grammar log silence = false
+wants_then grammar log failure = false
 
 -- .. for the last of these receives, the newest first
-abbrev pub LastWants : Log → List Received → Type 0
-LastWants log [] = ⊥
-LastWants log (last ∷ earlier) = wants_then (log_behind log earlier) last ≡ true
+abbrev pub LastWants : Grammar → Log → List Received → Type 0
+LastWants grammar log [] = ⊥
+LastWants grammar log (last ∷ earlier) = wants_then grammar (log_behind grammar log earlier) last ≡ true
 
 -- Why a round ends unanswered: the log needed memory for the last message, or the round had something to commit
-abbrev pub HasReason : Log → List Received → Type 0
-HasReason log received = LastWants log received ⊎ (changes_in log received ≡ [] → ⊥)
+abbrev pub HasReason : Grammar → Log → List Received → Type 0
+HasReason grammar log received = LastWants grammar log received ⊎ (changes_in grammar log received ≡ [] → ⊥)

@@ -1,7 +1,7 @@
-//! Wrong results that the contracts of this crate exclude. Each function calls another one of the crate, and promises of its result what a wrong body would make
-//! false. It is proved from the other's contract alone, so it is no longer proved once that contract lets the wrong body pass.
+//! Wrong results that the contracts of this crate exclude. Each function calls another one of the crate, and promises of its result what a wrong body would
+//! make false. It is proved from the other's contract alone, so it is no longer proved once that contract lets the wrong body pass.
 
-ghost use Rattle.std.specs.Prelude.{List, ◌≡◌, ◌≤◌, [], ◌++◌, OnOk, ◌∷◌, true, None, OnErr, vec_capacity};
+ghost use Rattle.std.specs.Prelude.{List, ◌≡◌, ◌≤◌, ◌*◌, [], ◌++◌, OnOk, ◌∷◌, true, None, OnErr, vec_capacity};
 ghost use Rattle.disk.specs.CallRecord.{on_disk, on_link};
 ghost use Rattle.disk.specs.declared.calls.DiskCall.{DiskCall};
 ghost use Rattle.ft_io.specs.Told.{Tells};
@@ -12,7 +12,7 @@ ghost use Rattle.link_parts.specs.Receipt.{Received};
 ghost use Rattle.journal_parts.specs.Rounds.{changes_in, receives};
 
 use crate::answers::Answer;
-use crate::rounds::take_round;
+use crate::rounds::{Compaction, compact_if_due, take_round};
 use crate::status::ProcessEnd;
 use disk::Desk;
 use kept_log::KeptLog;
@@ -32,7 +32,8 @@ fn a_full_disk_answers<K: Desk>(
     requires idle { kept.old.round ≡ [] }
     requires counts { HasRoom 512 counts.old }
     requires room { 256 ≤ vec_capacity answers.old }
-    ensures { OnErr result ((received : List Received) × (done : List DiskCall) × Tells (K.told desk.old) (K.told desk.new) (on_link (receives received) ++ on_disk done)) }
+    ensures { OnErr result ((received : List Received) × (done : List DiskCall)
+        × Tells (K.told desk.old) (K.told desk.new) (on_link (receives received) ++ on_disk done)) }
 {
     take_round(alloc, desk, kept, counts, answers, most)
 }
@@ -67,7 +68,35 @@ fn answers_before_the_commit<K: Desk>(
     requires counts { HasRoom 512 counts.old }
     requires room { 256 ≤ vec_capacity answers.old }
     ensures { OnOk result ((received : List Received) × (answered : List LinkCall) × Tells (K.told desk.old) (K.told desk.new)
-        (on_link (receives received) ++ (on_disk (committing kept.old.tip (changes_in kept.old.log received)) ++ on_link answered))) }
+        (on_link (receives received) ++ (on_disk (committing kept.old.tip (changes_in kept.old.grammar kept.old.log received)) ++ on_link answered))) }
 {
     take_round(alloc, desk, kept, counts, answers, most)
+}
+
+/// A file that isn't longer than the least one stays: the clause `done` of `compact_if_due`.
+fn a_short_file_is_replaced<K: Desk>(
+    alloc: Global,
+    desk: &mut K,
+    kept: &mut KeptLog,
+    compaction: &mut Compaction,
+) -> Result<(), ProcessEnd>
+    requires idle { kept.old.round ≡ [] }
+    requires short { kept.old.tip.end ≤ compaction.old.least }
+    ensures { OnOk result (Tells (K.told desk.old) (K.told desk.new) []) }
+{
+    compact_if_due(alloc, desk, kept, compaction)
+}
+
+/// .. and so does one that has at most twice the length after the last time: the clause `done` of `compact_if_due`.
+fn a_file_is_replaced_again_and_again<K: Desk>(
+    alloc: Global,
+    desk: &mut K,
+    kept: &mut KeptLog,
+    compaction: &mut Compaction,
+) -> Result<(), ProcessEnd>
+    requires idle { kept.old.round ≡ [] }
+    requires short { kept.old.tip.end ≤ 2 * compaction.old.last }
+    ensures { OnOk result (Tells (K.told desk.old) (K.told desk.new) []) }
+{
+    compact_if_due(alloc, desk, kept, compaction)
 }

@@ -4,6 +4,7 @@ ghost use Rattle.std.specs.Prelude.{◌≡◌, ◌≤◌, ◌⊎◌, ℕ, List, 
 ghost use Rattle.std.specs.Io.KnownBytes.{Appends};
 ghost use Rattle.ft_io.specs.Faults.{Rose};
 ghost use Rattle.journal_parts.specs.Ends.{UnlessFault};
+ghost use Rattle.link_parts.specs.LoggerParts.{grammar_for};
 ghost use Rattle.journal_parts.specs.LoggerLife.{IsKeeper, KeeperStops, IsOpen, OpeningStops};
 ghost use Rattle.journal_parts.specs.RoundParts.{place_of, HasLived, ServingStops, HasServedNoted, ServingNotedStops};
 ghost use Rattle.link_parts.specs.Ranges.{most_turns};
@@ -14,7 +15,8 @@ use crate::status::{Lack, ProcessEnd, note_cut};
 use disk::Desk;
 use ft_io::{Failed, Sink};
 use kept_log::KeptLog;
-use link_parts::{NodeEnd, tell_counts};
+use link_parts::{NodeEnd, write_counts};
+use logger_wire::Grammar;
 use std::alloc::Global;
 
 /// Opens the journal of a role, or makes it. Returns how many bytes were cut off, too.
@@ -23,9 +25,11 @@ fn open_log<K: Desk>(
     desk: &mut K,
     role: &JournalRole,
 ) -> Result<(KeptLog, usize), ProcessEnd>
-    ensures opened { IfOk result (λ r. IsOpen role.now.begins (K.file_of desk.old role.now.journal) r.1 (place_of r.0) (K.told desk.old) (K.told desk.new)) }
+    ensures opened { IfOk result (λ r. IsOpen (grammar_for role.now.logger) role.now.begins (K.file_of desk.old role.now.journal) r.1 (place_of r.0)
+        (K.told desk.old) (K.told desk.new)) }
     ensures idle { IfOk result (λ r. r.0.round ≡ []) }
-    ensures stops { IfErr result (OpeningStops role.now.begins (K.file_of desk.old role.now.journal) (K.told desk.old) (K.told desk.new)) }
+    ensures stops { IfErr result (OpeningStops (grammar_for role.now.logger) role.now.begins (K.file_of desk.old role.now.journal) (K.told desk.old)
+        (K.told desk.new)) }
     ensures cause { IsErrOf result ProcessEnd.JournalFault → Rose (K.fault_count desk.old) (K.fault_count desk.new) }
     ensures in_use { IsErrOf result ProcessEnd.InUse → Rose (K.beside desk.old).refusals (K.beside desk.new).refusals }
     ensures missing { result ≡ Err (ProcessEnd.NoJournal Lack.Missing) → Rose (K.beside desk.old).refusals (K.beside desk.new).refusals }
@@ -33,22 +37,24 @@ fn open_log<K: Desk>(
     ensures never_falls { K.fault_count desk.old ≤ K.fault_count desk.new }
     ensures no_bind_fault { (K.beside desk.new).bind_faults ≡ (K.beside desk.old).bind_faults }
 {
+    let grammar = role.logger.profile.grammar();
     if role.begins {
-        make_log(alloc, desk, role.journal.as_str())
+        make_log(alloc, grammar, desk, role.journal.as_str())
     } else {
-        find_log(alloc, desk, role.journal.as_str())
+        find_log(alloc, grammar, desk, role.journal.as_str())
     }
 }
 
 /// Opens the journal of this name.
 fn find_log<K: Desk>(
     alloc: Global,
+    grammar: Grammar,
     desk: &mut K,
     name: &str,
 ) -> Result<(KeptLog, usize), ProcessEnd>
-    ensures opened { IfOk result (λ r. IsOpen false (K.file_of desk.old name.now) r.1 (place_of r.0) (K.told desk.old) (K.told desk.new)) }
+    ensures opened { IfOk result (λ r. IsOpen grammar false (K.file_of desk.old name.now) r.1 (place_of r.0) (K.told desk.old) (K.told desk.new)) }
     ensures idle { IfOk result (λ r. r.0.round ≡ []) }
-    ensures stops { IfErr result (OpeningStops false (K.file_of desk.old name.now) (K.told desk.old) (K.told desk.new)) }
+    ensures stops { IfErr result (OpeningStops grammar false (K.file_of desk.old name.now) (K.told desk.old) (K.told desk.new)) }
     ensures cause { IsErrOf result ProcessEnd.JournalFault → Rose (K.fault_count desk.old) (K.fault_count desk.new) }
     ensures in_use { IsErrOf result ProcessEnd.InUse → Rose (K.beside desk.old).refusals (K.beside desk.new).refusals }
     ensures missing { result ≡ Err (ProcessEnd.NoJournal Lack.Missing) → Rose (K.beside desk.old).refusals (K.beside desk.new).refusals }
@@ -57,18 +63,19 @@ fn find_log<K: Desk>(
     ensures no_bind_fault { (K.beside desk.new).bind_faults ≡ (K.beside desk.old).bind_faults }
 {
     desk.open(name)?;
-    Ok(KeptLog::open(alloc, desk)?)
+    Ok(KeptLog::open(alloc, grammar, desk)?)
 }
 
 /// Makes a journal of this name, at the time of the desk's clock.
 fn make_log<K: Desk>(
     alloc: Global,
+    grammar: Grammar,
     desk: &mut K,
     name: &str,
 ) -> Result<(KeptLog, usize), ProcessEnd>
-    ensures opened { IfOk result (λ r. (file : Option (List ℕ)) → IsOpen true file r.1 (place_of r.0) (K.told desk.old) (K.told desk.new)) }
+    ensures opened { IfOk result (λ r. (file : Option (List ℕ)) → IsOpen grammar true file r.1 (place_of r.0) (K.told desk.old) (K.told desk.new)) }
     ensures idle { IfOk result (λ r. r.0.round ≡ []) }
-    ensures stops { IfErr result (λ end. (file : Option (List ℕ)) → OpeningStops true file (K.told desk.old) (K.told desk.new) end) }
+    ensures stops { IfErr result (λ end. (file : Option (List ℕ)) → OpeningStops grammar true file (K.told desk.old) (K.told desk.new) end) }
     ensures cause { IsErrOf result ProcessEnd.JournalFault → Rose (K.fault_count desk.old) (K.fault_count desk.new) }
     ensures in_use { IsErrOf result ProcessEnd.InUse → Rose (K.beside desk.old).refusals (K.beside desk.new).refusals }
     ensures present { result ≡ Err (ProcessEnd.NoJournal Lack.Present) → Rose (K.beside desk.old).refusals (K.beside desk.new).refusals }
@@ -78,29 +85,31 @@ fn make_log<K: Desk>(
 {
     desk.begin(name)?;
     let made = desk.time();
-    let kept = KeptLog::begin(alloc, desk, made)?;
+    let kept = KeptLog::begin(alloc, grammar, desk, made)?;
     Ok((kept, 0))
 }
 
+#[tactic(auto, using(crate::proofs::Living::ended_stops))]
 /// Runs a logger after its bind: takes its rounds, and writes the line of the counts.
 fn serve_and_tell<K: Desk, O: Sink>(
     alloc: Global,
     turns: u64,
+    compact: u64,
     desk: &mut K,
     kept: &mut KeptLog,
     out: &mut O,
 ) -> Result<(), ProcessEnd>
     requires within { turns ≤ most_turns }
     requires idle { kept.old.round ≡ [] }
-    ensures done { OnOk result (HasLived turns (place_of kept.old) (K.told desk.old) (K.told desk.new) (Appends (O.taken out.old) (O.taken out.new))) }
-    ensures stops { IfErr result (ServingStops turns (place_of kept.old) (K.told desk.old) (K.told desk.new) (O.taken out.old) (O.taken out.new)) }
+    ensures done { OnOk result (HasLived compact turns (place_of kept.old) (K.told desk.old) (K.told desk.new) (Appends (O.taken out.old) (O.taken out.new))) }
+    ensures stops { IfErr result (ServingStops compact turns (place_of kept.old) (K.told desk.old) (K.told desk.new) (O.taken out.old) (O.taken out.new)) }
     ensures cause { IsErrOf result ProcessEnd.JournalFault → Rose (K.fault_count desk.old) (K.fault_count desk.new) }
     ensures write_cause { result ≡ Err (ProcessEnd.Node NodeEnd.WriteFault) → Rose (O.fault_count out.old) (O.fault_count out.new) }
     ensures no_write_fault { UnlessFault result (O.fault_count out.new ≡ O.fault_count out.old) }
     ensures no_bind_fault { (K.beside desk.new).bind_faults ≡ (K.beside desk.old).bind_faults }
 {
-    let counts = serve(alloc, desk, kept, turns)?;
-    Ok(tell_counts(alloc, &counts, out)?)
+    let counts = serve(alloc, desk, kept, turns, compact)?;
+    Ok(write_counts(alloc, &counts, out)?)
 }
 
 #[tactic(auto, using(crate::proofs::Living::served_noted, crate::proofs::Living::serving_stops))]
@@ -116,11 +125,14 @@ fn bind_and_serve<K: Desk, O: Sink, E: Sink>(
 ) -> Result<(), ProcessEnd>
     requires within { role.now.logger.turns ≤ most_turns }
     requires idle { kept.old.round ≡ [] }
-    ensures done { OnOk result (HasServedNoted role.now (place_of kept.old) torn (K.told desk.old) (K.told desk.new) (Appends (O.taken out.old) (O.taken out.new)) (Appends (E.taken err.old) (E.taken err.new))) }
-    ensures stops { IfErr result (ServingNotedStops role.now (place_of kept.old) torn (K.told desk.old) (K.told desk.new) (O.taken out.old) (O.taken out.new) (E.taken err.old) (E.taken err.new)) }
+    ensures done { OnOk result (HasServedNoted role.now (place_of kept.old) torn (K.told desk.old) (K.told desk.new)
+        (Appends (O.taken out.old) (O.taken out.new)) (Appends (E.taken err.old) (E.taken err.new))) }
+    ensures stops { IfErr result (ServingNotedStops role.now (place_of kept.old) torn (K.told desk.old) (K.told desk.new) (O.taken out.old)
+        (O.taken out.new) (E.taken err.old) (E.taken err.new)) }
     ensures cause { IsErrOf result ProcessEnd.JournalFault → Rose (K.fault_count desk.old) (K.fault_count desk.new) }
     ensures bind_cause { result ≡ Err (ProcessEnd.Node NodeEnd.LinkFault) → Rose (K.beside desk.old).bind_faults (K.beside desk.new).bind_faults }
-    ensures write_cause { result ≡ Err (ProcessEnd.Node NodeEnd.WriteFault) → Rose (O.fault_count out.old) (O.fault_count out.new) ⊎ Rose (E.fault_count err.old) (E.fault_count err.new) }
+    ensures write_cause { result ≡ Err (ProcessEnd.Node NodeEnd.WriteFault) → Rose (O.fault_count out.old) (O.fault_count out.new)
+        ⊎ Rose (E.fault_count err.old) (E.fault_count err.new) }
     ensures no_write_fault { UnlessFault result (O.fault_count out.new ≡ O.fault_count out.old) }
     ensures no_error { UnlessFault result (E.fault_count err.new ≡ E.fault_count err.old) }
     ensures errors_never_fall { E.fault_count err.old ≤ E.fault_count err.new }
@@ -131,7 +143,7 @@ fn bind_and_serve<K: Desk, O: Sink, E: Sink>(
     }
     match desk.bind(role.logger.local) {
         Err(Failed) => Err(ProcessEnd::Node(NodeEnd::LinkFault)),
-        Ok(()) => serve_and_tell(alloc, role.logger.turns, desk, kept, out),
+        Ok(()) => serve_and_tell(alloc, role.logger.turns, role.compact, desk, kept, out),
     }
 }
 
@@ -154,7 +166,8 @@ pub fn run_keeper<K: Desk, O: Sink, E: Sink>(
     ensures missing { result ≡ Err (ProcessEnd.NoJournal Lack.Missing) → Rose (K.beside desk.old).refusals (K.beside desk.new).refusals }
     ensures present { result ≡ Err (ProcessEnd.NoJournal Lack.Present) → Rose (K.beside desk.old).refusals (K.beside desk.new).refusals }
     ensures bind_cause { result ≡ Err (ProcessEnd.Node NodeEnd.LinkFault) → Rose (K.beside desk.old).bind_faults (K.beside desk.new).bind_faults }
-    ensures write_cause { result ≡ Err (ProcessEnd.Node NodeEnd.WriteFault) → Rose (O.fault_count out.old) (O.fault_count out.new) ⊎ Rose (E.fault_count err.old) (E.fault_count err.new) }
+    ensures write_cause { result ≡ Err (ProcessEnd.Node NodeEnd.WriteFault) → Rose (O.fault_count out.old) (O.fault_count out.new)
+        ⊎ Rose (E.fault_count err.old) (E.fault_count err.new) }
     ensures no_write_fault { UnlessFault result (O.fault_count out.new ≡ O.fault_count out.old) }
     ensures no_error { UnlessFault result (E.fault_count err.new ≡ E.fault_count err.old) }
     ensures errors_never_fall { E.fault_count err.old ≤ E.fault_count err.new }

@@ -3,7 +3,7 @@
 
 pub use keeper::run_keeper;
 pub use role::{FileName, JournalRole, read_journal_role};
-pub use status::{Lack, ProcessEnd, tell};
+pub use status::{Lack, ProcessEnd, report_end};
 
 mod answers;
 mod excluded;

@@ -4,22 +4,31 @@ ghost use Rattle.std.specs.Prelude.{◌≡◌, ◌≤◌, List, map, string_byte
 ghost use Rattle.link_parts.specs.Options.{Use, HasValues};
 ghost use Rattle.link_parts.specs.Options.{value_of};
 ghost use Rattle.link_parts.specs.declared.options.OptionName.TheVariants as option;
-ghost use Rattle.journal_parts.specs.Words.{file_of, begins_by, journal_in, journal_of};
+ghost use Rattle.journal_parts.specs.Words.{file_of, begins_by, compact_by, journal_in, journal_of};
 ghost use Rattle.link_parts.specs.Ranges.{most_turns};
 
 use clap::ArgMatches;
 use ft_io::NoMemory;
-use link_parts::{LoggerRole, OptionName, is_name, logger_role, read_options};
+use link_parts::{LoggerRole, OptionName, is_name, logger_role, number_or, read_options};
 use std::alloc::Global;
 use std::marker::Model;
 
-const JOURNAL_OPTIONS: [OptionName; 5] = [
+const JOURNAL_OPTIONS: [OptionName; 7] = [
     OptionName::Local,
     OptionName::Turns,
     OptionName::Times,
     OptionName::Journal,
     OptionName::Begin,
+    OptionName::Compact,
+    OptionName::Profile,
 ];
+
+/// The bounds of what the words may say of a file's length, in bytes, and what holds where they say nothing.
+const LEAST_COMPACT: u64 = 4_096;
+
+const MOST_COMPACT: u64 = 1 << 40;
+
+const USUAL_COMPACT: u64 = 64 << 20;
 
 /// The name of a file. It isn't empty and doesn't begin with `-`.
 #[derive(Drop)]
@@ -64,6 +73,8 @@ pub struct JournalRole {
     pub journal: FileName,
     /// Whether it makes that file.
     pub begins: bool,
+    /// The longest file that isn't replaced by a shorter one, in bytes.
+    pub compact: u64,
 }
 
 /// Whether a logger makes its file, or `None` where its option has another value than `yes`.
@@ -75,6 +86,19 @@ fn begins_at(matches: &ArgMatches<'_>) -> Option<bool>
         Some(word) if word == "yes" => Some(true),
         Some(_) => None,
     }
+}
+
+/// The longest file that isn't replaced by a shorter one: 4,096 to 2^40 bytes, and 64 MiB without the option. `None` where it has another value.
+fn compact_at(matches: &ArgMatches<'_>) -> Option<u64>
+    ensures { (uses : List Use) → HasValues uses matches.now → result ≡ compact_by (value_of uses option.Compact) }
+{
+    number_or(
+        matches,
+        OptionName::Compact,
+        LEAST_COMPACT,
+        MOST_COMPACT,
+        USUAL_COMPACT,
+    )
 }
 
 fn journal_role(alloc: Global, matches: &ArgMatches<'_>) -> Result<Option<JournalRole>, NoMemory>
@@ -90,11 +114,15 @@ fn journal_role(alloc: Global, matches: &ArgMatches<'_>) -> Result<Option<Journa
     let Some(begins) = begins_at(matches) else {
         return Ok(None);
     };
+    let Some(compact) = compact_at(matches) else {
+        return Ok(None);
+    };
     match FileName::read(alloc, word)? {
         Some(journal) => Ok(Some(JournalRole {
             logger,
             journal,
             begins,
+            compact,
         })),
         None => Ok(None),
     }

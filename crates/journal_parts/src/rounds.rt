@@ -1,27 +1,32 @@
 //! Rounds: receives, the commit of what they changed, and then their answers.
 
-ghost use Rattle.std.specs.Prelude.{◌≡◌, ◌≤◌, ◌<◌, ◌+◌, [], ◌∷◌, take, length, true, false, vec_len, vec_capacity, IfOk, IfErr, OnOk, OnErr, IsErrOf, MatchOption};
+ghost use Rattle.std.specs.Prelude.{◌≡◌, ◌≤◌, ◌<◌, ◌+◌, [], ◌∷◌, take, length, true, false, vec_len, vec_capacity, IfOk, IfErr, OnOk, OnErr, IsErrOf};
+ghost use Rattle.std.specs.Prelude.{MatchOption};
+ghost use Rattle.std.specs.Bool.{OnTrue, OnFalse};
 ghost use Rattle.ft_io.specs.Faults.{Rose};
 ghost use Rattle.ft_io.specs.Told.{Tells};
 ghost use Rattle.disk.specs.CallRecord.{on_link};
 ghost use Rattle.link_parts.specs.Counts.{HasRoom, with_calls};
 ghost use Rattle.link_parts.specs.Receipt.{Received, datagram, received_as, IsQuiet};
-ghost use Rattle.seq_arith.specs.MessageGrammar.{reading};
-ghost use Rattle.logger_store.specs.StoreState.{answer_bytes};
+ghost use Rattle.seq_arith.specs.MessageGrammar.{reading_by};
+ghost use Rattle.logger_store.specs.StoreState.{answer_bytes_by};
 ghost use Rattle.kept_log.specs.JournaledLog.{is_full};
 ghost use Rattle.link_parts.specs.LoggerTurns.{answer_for, wants_in};
-ghost use Rattle.journal_parts.specs.RoundParts.{place_of, with_bytes, HasTaken, HasGathered, IsCutGathering, HasTurned, IsCutRound, HasServed, IsCutServing, IsServeEnd};
+ghost use Rattle.journal_parts.specs.RoundParts.{place_of, with_bytes, HasTaken, HasGathered, IsCutGathering, HasTurned, IsCutRound, HasCompacted};
+ghost use Rattle.journal_parts.specs.RoundParts.{FailsToCompact, HasServed, HasEndedBy, IsServeEnd};
+ghost use Rattle.journal_parts.specs.Due.{IsDue};
 ghost use Rattle.journal_parts.specs.Waits.{waits_in, wants_then};
+ghost use Rattle.journal_parts.specs.declared.status.ProcessEnd.TheVariants as ends;
 ghost use Rattle.link_parts.specs.Ranges.{most_turns};
 
 use crate::answers::{Answer, reply_to_all};
 use crate::status::ProcessEnd;
 use disk::Desk;
-use ft_io::{Addr, Heard, NoMemory};
+use ft_io::{Addr, Failed, Heard, NoMemory};
 use kept_log::KeptLog;
 use link_parts::Counts;
 use logger_store::MsgOut;
-use logger_wire::read_msg;
+use logger_wire::read_msg_by;
 use std::alloc::Global;
 
 /// The length of the buffer for a datagram, in bytes: no message is longer.
@@ -58,15 +63,16 @@ fn receive<K: Desk>(
     }
 }
 
-/// Applies to the log the message that the bytes spell, and returns the answer. Returns no bytes if there is no answer or the bytes are no message.
+/// Applies to the log the message that the bytes spell in its grammar, and returns the answer. Returns no bytes if there is no answer or the bytes are no such
+/// message.
 fn answer(alloc: Global, kept: &mut KeptLog, bytes: &[u8]) -> Result<MsgOut, NoMemory>
     requires { is_full kept.old ≡ false }
     ensures next { OnOk result (kept.new ≡ with_bytes kept.old bytes.now) }
-    ensures answer { IfOk result (λ out. out ≡ answer_bytes (answer_for kept.old.log (reading bytes.now))) }
-    ensures memory { OnErr result (wants_in kept.old.log (reading bytes.now) ≡ true) }
+    ensures answer { IfOk result (λ out. out ≡ answer_bytes_by kept.old.grammar (answer_for kept.old.log (reading_by kept.old.grammar bytes.now))) }
+    ensures memory { OnErr result (wants_in kept.old.log (reading_by kept.old.grammar bytes.now) ≡ true) }
 {
     let mut out = MsgOut::new();
-    if let Ok(m) = read_msg(bytes) {
+    if let Ok(m) = read_msg_by(kept.grammar(), bytes) {
         kept.take(alloc, bytes, &m, &mut out)?;
     }
     Ok(out)
@@ -84,8 +90,10 @@ fn take_next<K: Desk>(
     requires counts { HasRoom 1 counts.old }
     requires room { is_full kept.old ≡ false }
     requires space { vec_len answers.old < vec_capacity answers.old }
-    ensures taken { IfOk result (λ more. HasTaken more kept.old kept.new (K.told desk.old) (K.told desk.new) counts.old counts.new answers.old.items answers.new.items) }
-    ensures cut_off { OnErr result ((r : Received) × (wants_then kept.old.log r ≡ true) × Tells (K.told desk.old) (K.told desk.new) (on_link (received_as r ∷ []))) }
+    ensures taken { IfOk result (λ more. HasTaken more kept.old kept.new (K.told desk.old)
+        (K.told desk.new) counts.old counts.new answers.old.items answers.new.items) }
+    ensures cut_off { OnErr result ((r : Received) × (wants_then kept.old.grammar kept.old.log r ≡ true)
+        × Tells (K.told desk.old) (K.told desk.new) (on_link (received_as r ∷ []))) }
     ensures waited { Tells (K.beside desk.old).waits (K.beside desk.new).waits (waits ∷ []) }
     ensures few { vec_len answers.new ≤ vec_len answers.old + 1 }
     ensures capacity { vec_capacity answers.new ≡ vec_capacity answers.old }
@@ -118,7 +126,7 @@ fn gather<K: Desk>(
     requires room { 256 ≤ vec_capacity answers.old }
     ensures count { IfOk result (λ count. (1 ≤ count) × (count ≤ most)) }
     ensures gathered { IfOk result (λ count. HasGathered count kept.old kept.new (K.told desk.old) (K.told desk.new) counts.old counts.new answers.new.items) }
-    ensures cut_off { OnErr result (IsCutGathering most kept.old.log (K.told desk.old) (K.told desk.new)) }
+    ensures cut_off { OnErr result (IsCutGathering most kept.old.grammar kept.old.log (K.told desk.old) (K.told desk.new)) }
     ensures waited { IfOk result (λ count. Tells (K.beside desk.old).waits (K.beside desk.new).waits (waits_in count)) }
     ensures capacity { vec_capacity answers.new ≡ vec_capacity answers.old }
     ensures no_disk_fault { K.fault_count desk.new ≡ K.fault_count desk.old }
@@ -174,17 +182,70 @@ fn room_for_answers(alloc: Global) -> Result<Vec<Answer>, NoMemory>
     Ok(answers)
 }
 
-/// Takes this many turns, in rounds, and returns the counts of their calls.
+/// When the file of a logger is replaced by a new one with a snapshot of its log.
+#[derive(Clone, Copy)]
+pub(crate) struct Compaction {
+    /// No file of at most this many bytes is.
+    pub least: u64,
+    /// The length of the file after the last time, and 0 before the first.
+    pub last: u64,
+}
+
+impl Compaction {
+    /// Whether a file of this length is replaced: it is longer than `least`, and than twice its length after the last time.
+    pub(crate) fn is_due(&self, len: u64) -> bool
+        ensures due { OnTrue result (IsDue self.now.least self.now.last len) }
+        ensures not_due { OnFalse result (IsDue self.now.least self.now.last len → ⊥) }
+    {
+        len > self.least && len.saturating_sub(self.last) > self.last
+    }
+}
+
+#[tactic(auto, using(crate::proofs::Rounding::not_compacted, crate::proofs::Rounding::is_compacted))]
+/// Replaces the file if it has grown so much. If the new file can't be written, the old one stays, until it has grown twice as long.
+pub(crate) fn compact_if_due<K: Desk>(
+    alloc: Global,
+    desk: &mut K,
+    kept: &mut KeptLog,
+    compaction: &mut Compaction,
+) -> Result<(), ProcessEnd>
+    requires idle { kept.old.round ≡ [] }
+    ensures done { OnOk result (HasCompacted compaction.old.least compaction.old.last compaction.new.last kept.old kept.new (K.told desk.old)
+        (K.told desk.new)) }
+    ensures least { compaction.new.least ≡ compaction.old.least }
+    ensures stopped { OnErr result (FailsToCompact compaction.old.least compaction.old.last kept.old (K.told desk.old) (K.told desk.new)) }
+    ensures fault { IfErr result (λ end. end ≡ ends.JournalFault) }
+    ensures cause { OnErr result (Rose (K.fault_count desk.old) (K.fault_count desk.new)) }
+    ensures never_falls { K.fault_count desk.old ≤ K.fault_count desk.new }
+    ensures beside { K.beside desk.new ≡ K.beside desk.old }
+{
+    if !compaction.is_due(kept.tip().end) {
+        return Ok(());
+    }
+    let made = desk.time();
+    match kept.compact(alloc, desk, made) {
+        Ok(_) => {
+            compaction.last = kept.tip().end;
+            Ok(())
+        }
+        Err(Failed) => Err(ProcessEnd::JournalFault),
+    }
+}
+
+#[tactic(auto, using(crate::proofs::Rounding::ended_by, crate::proofs::Rounding::faulted_by, crate::proofs::Rounding::readied, crate::proofs::Rounding::serving_cut, crate::proofs::Rounding::replacing_cut, crate::proofs::Rounding::serving_none, crate::proofs::Rounding::unbegun))]
+/// Takes this many turns, in rounds, and returns the counts of their calls. Before each round the file is replaced if it is longer than `compact`, and than
+/// twice its length after the last time.
 pub(crate) fn serve<K: Desk>(
     alloc: Global,
     desk: &mut K,
     kept: &mut KeptLog,
     turns: u64,
+    compact: u64,
 ) -> Result<Counts, ProcessEnd>
     requires within { turns ≤ most_turns }
     requires idle { kept.old.round ≡ [] }
-    ensures served { IfOk result (λ counts. HasServed turns (place_of kept.old) (place_of kept.new) (K.told desk.old) (K.told desk.new) counts) }
-    ensures stopped { OnErr result (IsCutServing turns (place_of kept.old) (K.told desk.old) (K.told desk.new)) }
+    ensures served { IfOk result (λ counts. HasServed compact turns (place_of kept.old) (place_of kept.new) (K.told desk.old) (K.told desk.new) counts) }
+    ensures stopped { IfErr result (HasEndedBy compact turns (place_of kept.old) (K.told desk.old) (K.told desk.new)) }
     ensures ends { IfErr result IsServeEnd }
     ensures cause { IsErrOf result ProcessEnd.JournalFault → Rose (K.fault_count desk.old) (K.fault_count desk.new) }
     ensures never_falls { K.fault_count desk.old ≤ K.fault_count desk.new }
@@ -192,8 +253,13 @@ pub(crate) fn serve<K: Desk>(
 {
     let mut counts = Counts::new();
     let mut answers = room_for_answers(alloc)?;
+    let mut compaction = Compaction {
+        least: compact,
+        last: 0,
+    };
     let mut left = turns;
     while left > 0 {
+        compact_if_due(alloc, desk, kept, &mut compaction)?;
         left -= take_round(alloc, desk, kept, &mut counts, &mut answers, left.min(MOST))?;
     }
     Ok(counts)

@@ -28,6 +28,8 @@ pub enum Lack {
     Unfinished,
     /// It is of the first version.
     Older,
+    /// Its messages are of the other profile's grammar.
+    OtherProfile,
 }
 
 /// How a logger with a journal ends before its turns are done.
@@ -39,7 +41,7 @@ pub enum ProcessEnd {
     JournalFault,
     /// The file is no journal, or is damaged: `at`, in bytes, is where something begins that is neither a block nor what a death leaves.
     BadJournal { at: u64 },
-    /// The file isn't there, is empty, ends too early or is of the first version, and wasn't to be made; or it is there, and was.
+    /// The file isn't there, is empty, ends too early, is of the first version or of another profile, and wasn't to be made; or it is there, and was.
     NoJournal(Lack),
     /// Another process has the file open.
     InUse,
@@ -84,6 +86,7 @@ impl From<OpenEnd> for ProcessEnd {
             OpenEnd::Empty => ProcessEnd::NoJournal(Lack::Empty),
             OpenEnd::Unfinished => ProcessEnd::NoJournal(Lack::Unfinished),
             OpenEnd::Older => ProcessEnd::NoJournal(Lack::Older),
+            OpenEnd::OtherGrammar => ProcessEnd::NoJournal(Lack::OtherProfile),
             OpenEnd::Wrong(at) => ProcessEnd::BadJournal { at },
         }
     }
@@ -123,6 +126,7 @@ fn line_of<'a>(lack: Lack) -> &'a [u8]
         Lack::Empty => b"ftnode: journal: the file is empty\n",
         Lack::Unfinished => b"ftnode: journal: the file ends in its header\n",
         Lack::Older => b"ftnode: journal: version 1\n",
+        Lack::OtherProfile => b"ftnode: journal: another profile\n",
     }
 }
 
@@ -165,7 +169,7 @@ fn status_of(code: u8, written: Result<(), Failed>) -> Status
 }
 
 /// Writes the line of an end, and returns its status: 5 if that write failed.
-pub fn tell<E: Sink>(err: &mut E, end: ProcessEnd) -> Status
+pub fn report_end<E: Sink>(err: &mut E, end: ProcessEnd) -> Status
     ensures told { TellsEnd end (E.taken err.old) (E.taken err.new) (E.fault_count err.old) (E.fault_count err.new) result.code }
     ensures early { result.code ≡ 0 → ⊥ }
     ensures fault { is_fault_status result.code ≡ false → is_fault end ≡ false }
@@ -174,7 +178,7 @@ pub fn tell<E: Sink>(err: &mut E, end: ProcessEnd) -> Status
 {
     match end {
         ProcessEnd::Node(NodeEnd::WriteFault) => Status { code: 5 },
-        ProcessEnd::Node(end) => link_parts::tell(err, end),
+        ProcessEnd::Node(end) => link_parts::report_end(err, end),
         ProcessEnd::JournalFault => status_of(11, write_all(err, b"ftnode: journal fault\n")),
         ProcessEnd::BadJournal { at } => status_of(12, write_place(err, at)),
         ProcessEnd::NoJournal(lack) => status_of(12, write_all(err, line_of(lack))),

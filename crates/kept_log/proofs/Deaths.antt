@@ -83,7 +83,8 @@ module _ (file : List ℕ) (Held : List ℕ → Type 0) (made : List ℕ) (bodie
   P left seen = BringsNone seen left → HasBlocks made bodies left ⊎ HasBlocks made (bodies ++ body ∷ []) left
 
   appended : (f : _) (c : List ℕ) → IsRound body → MayLeave file Held (Appended new f) c → P c (file ++ new)
-  appended f c small (d, held, same) brings =
+  appended f c small (d, held, inl same) brings = inl (rest_has file Held made bodies rest c (subst Held (sym same) held))
+  appended f c small (d, held, inr same) brings =
       one_more made bodies body c (drop (length file) c) rest.time small
       (sym (take-append-drop (length file) c) ∙ ap (λ (l : List ℕ). l ++ drop (length file) c) (same ∙ (rest.only d held ∙ rest.is)))
       (subst (λ s. BringsNone s c) wrote brings)

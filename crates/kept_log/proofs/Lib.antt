@@ -1,5 +1,6 @@
 pub mod Blocks
 mod Files
+mod Grammars
 mod Headers
 pub mod Lives
 pub mod Logs
@@ -12,3 +13,5 @@ mod Steps
 mod Whole
 pub mod Deaths
 pub mod OneReading
+pub mod Drafts
+pub mod Said

@@ -1,22 +1,21 @@
 -- The log of blocks, and of one block more.
-use Rattle.std.proofs.Common.{◌≡◌, ◌∙◌, ℕ, List, [], ◌∷◌, ◌++◌, length, refl, sym, ap, subst, Ok, arith, append_assoc, append-nil, length-append}
+use Rattle.std.proofs.Common.{◌≡◌, ◌∙◌, ℕ, List, [], ◌∷◌, ◌++◌, length, refl, sym, ap, subst, arith, append_assoc, append-nil, length-append}
 use Rattle.std.specs.List.{AllByRecursion}
 use Rattle.seq_arith.specs.Message.{Message}
-use Rattle.seq_arith.specs.MessageGrammar.{reading}
 use Rattle.ft_model.specs.Log.{Log, log_after, empty_log}
 use Rattle.trace_laws.specs.NeededMessages.{log_after_all}
 use Rattle.kept_log.specs.Format.{first_tip, next_tip, IsRound}
 use Rattle.kept_log.specs.declared.tip.Tip.{Tip}
 use Rattle.kept_log.proofs.Blocks.{tip_push}
-use Rattle.kept_log.specs.MessageList.{Says, AllSay}
+use Rattle.kept_log.specs.MessageList.{IsSpelling, Says, AllSay}
 use Rattle.kept_log.specs.JournaledLog.{HasLog, Waits, with_round}
 use Rattle.kept_log.proofs.Messages.{whole}
 
-small_push : (bodies : List (List ℕ)) (body : List ℕ) → AllByRecursion IsRound bodies → IsRound body → AllByRecursion IsRound (bodies ++ body ∷ [])
+pub small_push : (bodies : List (List ℕ)) (body : List ℕ) → AllByRecursion IsRound bodies → IsRound body → AllByRecursion IsRound (bodies ++ body ∷ [])
 small_push [] body small is = (is, tt)
 small_push (b ∷ bodies) body small is = (small.0, small_push bodies body small.1 is)
 
-say_push : (bodies : List (List ℕ)) (messages : List Message) (body : List ℕ) (news : List Message) → AllSay bodies messages → Says body news → AllSay (bodies ++ body ∷ []) (messages ++ news)
+pub say_push : (bodies : List (List ℕ)) (messages : List Message) (body : List ℕ) (news : List Message) → AllSay bodies messages → Says body news → AllSay (bodies ++ body ∷ []) (messages ++ news)
 say_push [] messages body news say says = (news, [], ap (λ (l : List Message). l ++ news) say ∙ sym (append-nil news), says, refl)
 say_push (b ∷ bodies) messages body news (first, rest, is, own, say) says =
     (first, rest ++ news, ap (λ (l : List Message). l ++ news) is ∙ append_assoc first rest news, own, say_push bodies rest body news say says)
@@ -39,12 +38,12 @@ block_more made bodies tip before log body has few waits = record {
 }
 
 -- a message that waits last
-pub says_push : (bytes last : List ℕ) (messages : List Message) (message : Message) → Says bytes messages → reading last ≡ Ok message → Says (bytes ++ last) (messages ++ message ∷ [])
+pub says_push : (bytes last : List ℕ) (messages : List Message) (message : Message) → Says bytes messages → IsSpelling last message → Says (bytes ++ last) (messages ++ message ∷ [])
 says_push bytes last [] message none reads = (last, [], ap (λ (l : List ℕ). l ++ last) none ∙ sym (append-nil last), reads, refl)
 says_push bytes last (m ∷ messages) message (first, rest, is, own, says) reads =
     (first, rest ++ last, ap (λ (l : List ℕ). l ++ last) is ∙ append_assoc first rest last, own, says_push rest last messages message says reads)
 
-pub waits_more : (before log after : Log) (round bytes : List ℕ) (message : Message) → Waits before round log → reading bytes ≡ Ok message → after ≡ log_after log message
+pub waits_more : (before log after : Log) (round bytes : List ℕ) (message : Message) → Waits before round log → IsSpelling bytes message → after ≡ log_after log message
     → Waits before (round ++ bytes) after
 waits_more before log after round bytes message waits reads next = record {
   messages = waits.messages ++ message ∷ [];

@@ -6,17 +6,19 @@ use Rattle.std.proofs.lemmas.List.{get_or_append_left, take_at, drop_at, take-ap
 use Rattle.ft_io.proofs.Booleans.{left_false, right_false}
 use Rattle.seq_arith.specs.declared.kinds.BadMsg.{BadMsg}
 use Rattle.seq_arith.specs.declared.kinds.BadMsg.TheVariants as bad
+use Rattle.seq_arith.specs.declared.kinds.Grammar.{Grammar}
+use Rattle.seq_arith.specs.declared.kinds.Grammar.TheVariants as grammars
 use Rattle.seq_arith.specs.declared.kinds.Kind.{Kind}
 use Rattle.seq_arith.specs.Bytes.{word_at}
 use Rattle.seq_arith.specs.Checksum.{checksum}
 use Rattle.seq_arith.specs.Message.{Message}
-use Rattle.seq_arith.specs.MessageGrammar.{kind_numbered, has_length, is_sound_in, message_in, reading_of, reading_if, reading}
+use Rattle.seq_arith.specs.MessageGrammar.{kind_numbered, has_length, is_sound_in, message_in, version, reading_of, reading_if, reading_by}
 use Rattle.seq_arith.proofs.Passing.{same_from}
-use Rattle.seq_arith.proofs.Refused.{goes_on, accepted}
+use Rattle.seq_arith.proofs.Refused.{goes_on, accepted, no_grammar_reads_the_other}
 use Rattle.seq_arith.proofs.MessageSpelling.{bounded, room}
 use Rattle.ft_model.specs.Log.{Log, log_after}
 use Rattle.trace_laws.specs.NeededMessages.{log_after_all}
-use Rattle.kept_log.specs.MessageList.{Says}
+use Rattle.kept_log.specs.MessageList.{IsSpelling, Says}
 use Rattle.kept_log.specs.JournaledLog.{Waits}
 
 -- what acceptance says of a message's length
@@ -25,33 +27,34 @@ pub record IsWhole (bytes : List ℕ) : Type 0 where
   pub few : length bytes ≤ 1491
   pub counted : word_at bytes 4 ≡ length bytes
 
-whole_of : (kind : Kind) (bytes : List ℕ) → IsOk (reading_of kind bytes) → (word_at bytes 4 ≡ length bytes) × (length bytes ≤ 1491)
+whole_of : (grammar : Grammar) (kind : Kind) (bytes : List ℕ) → IsOk (reading_of grammar kind bytes) → (word_at bytes 4 ≡ length bytes) × (length bytes ≤ 1491)
 unfolding reading_of
-whole_of kind bytes ok =
+whole_of grammar kind bytes ok =
     let counted : Bool = not (nat_eq (word_at bytes 4) (length bytes)) in
     let sized : Bool = not (has_length kind (length bytes)) in
     let sum : Bool = not (nat_eq (checksum bytes) 0) in
-    let last : Result Message BadMsg = if not (is_sound_in kind bytes) then Err bad.Field else Ok (message_in kind bytes) in
+    let last : Result Message BadMsg = if not (is_sound_in grammar kind bytes) then Err bad.Field else Ok (message_in kind bytes) in
     let passes : ((counted || sized) ≡ false) × IsOk (if sum then Err bad.Sum else last) = goes_on (counted || sized) bad.Length (if sum then Err bad.Sum else last) ok in
     let has : has_length kind (length bytes) ≡ true = not-false _ (right_false counted sized passes.0) in
     (same_from _ _ (left_false counted sized passes.0), omega (arith, (bounded kind (length bytes) has).1, room kind))
 
-whole_if : (kind : Option Kind) (bytes : List ℕ) → IsOk (reading_if kind bytes) → (word_at bytes 4 ≡ length bytes) × (length bytes ≤ 1491)
-whole_if None bytes ok = absurd (cc)
-whole_if (Some kind) bytes ok = whole_of kind bytes ok
+whole_if : (grammar : Grammar) (kind : Option Kind) (bytes : List ℕ) → IsOk (reading_if grammar kind bytes) → (word_at bytes 4 ≡ length bytes) × (length bytes ≤ 1491)
+whole_if grammar None bytes ok = absurd (cc)
+whole_if grammar (Some kind) bytes ok = whole_of grammar kind bytes ok
 
-pub whole : (bytes : List ℕ) (message : Message) → reading bytes ≡ Ok message → IsWhole bytes
-unfolding reading
-whole bytes message is =
-    let ok : IsOk (reading bytes) = accepted is in
+pub whole : (bytes : List ℕ) (message : Message) → IsSpelling bytes message → IsWhole bytes
+unfolding reading_by
+whole bytes message s =
+    let grammar : Grammar = s.grammar in
+    let ok : IsOk (reading_by grammar bytes) = accepted s.reads in
     let short : Bool = nat_lt (length bytes) 16 in
     let magic : Bool = not (nat_eq (word_at bytes 0) 18004) in
-    let version : Bool = not (nat_eq (slice_index bytes 2) 1) in
-    let last : Result Message BadMsg = reading_if (kind_numbered (slice_index bytes 3)) bytes in
+    let version : Bool = not (nat_eq (slice_index bytes 2) (version grammar)) in
+    let last : Result Message BadMsg = reading_if grammar (kind_numbered (slice_index bytes 3)) bytes in
     let third : Result Message BadMsg = if version then Err bad.Version else last in
     let second : Result Message BadMsg = if magic then Err bad.Magic else third in
     let long : (short ≡ false) × IsOk second = goes_on short bad.Short second ok in
-    let rest = whole_if (kind_numbered (slice_index bytes 3)) bytes (goes_on version bad.Version last (goes_on magic bad.Magic third long.1).1).1 in
+    let rest = whole_if grammar (kind_numbered (slice_index bytes 3)) bytes (goes_on version bad.Version last (goes_on magic bad.Magic third long.1).1).1 in
     record { long = ltb-false (length bytes) 16 long.0; few = rest.1; counted = rest.0 }
 
 word_in_front : (bytes behind : List ℕ) → 5 < length bytes → word_at (bytes ++ behind) 4 ≡ word_at bytes 4
@@ -67,7 +70,7 @@ pub record IsFirst (bytes first : List ℕ) : Type 0 where
   pub within : length first ≤ length bytes
   pub length_is : length first ≡ word_at bytes 4
 
-pub first_is : (bytes first rest : List ℕ) (message : Message) → bytes ≡ first ++ rest → reading first ≡ Ok message → IsFirst bytes first
+pub first_is : (bytes first rest : List ℕ) (message : Message) → bytes ≡ first ++ rest → IsSpelling first message → IsFirst bytes first
 first_is bytes first rest message is reads =
     let w = whole first message reads in
     let count : length bytes ≡ length first + length rest = ap length is ∙ length-append first rest in
@@ -91,7 +94,7 @@ none_short bytes (message ∷ messages) short (first, rest, is, reads, says) =
 pub record BeginsWithMessage (bytes : List ℕ) (n : ℕ) : Type 0 where
   pub first : Message
   pub others : List Message
-  pub reads : reading (take n bytes) ≡ Ok first
+  pub reads : IsSpelling (take n bytes) first
   pub says : Says (drop n bytes) others
 
 pub first_read : (bytes : List ℕ) (n : ℕ) (messages : List Message) → (bytes ≡ [] → ⊥) → n ≡ word_at bytes 4 → Says bytes messages → BeginsWithMessage bytes n
@@ -104,7 +107,7 @@ first_read bytes n (message ∷ messages) some at (first, rest, is, reads, says)
     record {
       first = message;
       others = messages;
-      reads = ap reading front ∙ reads;
+      reads = subst (λ b. IsSpelling b message) (sym front) reads;
       says = subst (λ b. Says b messages) (sym behind) says;
     }
 
@@ -116,7 +119,7 @@ pub record Left (body rest : List ℕ) (before after : Log) : Type 0 where
 pub left_all : (body : List ℕ) (log : Log) → Left body body log log
 left_all body log = record { forwards = λ more says. (more, says, refl); backwards = λ all says. (all, says) }
 
-pub left_less : (body rest : List ℕ) (before after : Log) (n : ℕ) (message : Message) → (rest ≡ [] → ⊥) → n ≡ word_at rest 4 → reading (take n rest) ≡ Ok message
+pub left_less : (body rest : List ℕ) (before after : Log) (n : ℕ) (message : Message) → (rest ≡ [] → ⊥) → n ≡ word_at rest 4 → IsSpelling (take n rest) message
     → Left body rest before after → Left body (drop n rest) before (log_after after message)
 left_less body rest before after n message some at reads left = record {
   forwards = λ more says. left.forwards (message ∷ more) (take n rest, drop n rest, sym (take-append-drop n rest), reads, says);
@@ -132,7 +135,7 @@ left_none body rest before after none left =
     record { messages = all.0; says = all.1; log_is = all.2 }
 
 -- the next is no message
-pub left_wrong : (body rest : List ℕ) (before after : Log) (n : ℕ) → (rest ≡ [] → ⊥) → n ≡ word_at rest 4 → ((message : Message) → reading (take n rest) ≡ Ok message → ⊥)
+pub left_wrong : (body rest : List ℕ) (before after : Log) (n : ℕ) → (rest ≡ [] → ⊥) → n ≡ word_at rest 4 → ((message : Message) → IsSpelling (take n rest) message → ⊥)
     → Left body rest before after → (all : List Message) → Says body all → ⊥
 left_wrong body rest before after n some at bad left all says =
     let now = left.backwards all says in
@@ -152,9 +155,32 @@ pub is_empty : (bytes : List ℕ) (b : Bool) → b ≡ (length bytes == 0) → b
 is_empty [] b is none = refl
 is_empty (byte ∷ bytes) b is none = absurd (omega (arith, eqb-true (length (byte ∷ bytes)) 0 (sym is ∙ none)))
 
--- two readings that differ
-pub not_both : (bytes : List ℕ) (bad : BadMsg) (message : Message) → Err bad ≡ reading bytes → reading bytes ≡ Ok message → ⊥
-not_both bytes bad message refused accepted = err_ok bad message (refused ∙ accepted)
+-- what neither grammar reads is no message
+pub not_read : (bytes : List ℕ) (bad other : BadMsg) (message : Message) → reading_by grammars.Plain bytes ≡ Err bad → reading_by grammars.Wide bytes ≡ Err other → IsSpelling bytes message → ⊥
+not_read bytes bad other message plain wide s = go s.grammar s.reads
   where
     err_ok : (b : BadMsg) (m : Message) → Err b ≡ Ok m → ⊥
     err_ok b m e = cc
+
+    go : (grammar : Grammar) → reading_by grammar bytes ≡ Ok message → ⊥
+    go grammars.Plain is = err_ok bad message (sym plain ∙ is)
+    go grammars.Wide is = err_ok other message (sym wide ∙ is)
+
+-- bytes spell one message
+pub one_message : (bytes : List ℕ) (message other : Message) → IsSpelling bytes message → IsSpelling bytes other → message ≡ other
+one_message bytes message other a b = go a.grammar b.grammar a.reads b.reads
+  where
+    same_ok : (r : Result Message BadMsg) (x y : Message) → r ≡ Ok x → r ≡ Ok y → x ≡ y
+    same_ok r x y a b = cc
+
+    apart : grammars.Plain ≡ grammars.Wide → ⊥
+    apart e = cc
+
+    err_ok : (b : BadMsg) (m : Message) → Err b ≡ Ok m → ⊥
+    err_ok b m e = cc
+
+    go : (g h : Grammar) → reading_by g bytes ≡ Ok message → reading_by h bytes ≡ Ok other → message ≡ other
+    go grammars.Plain grammars.Plain is also = same_ok (reading_by grammars.Plain bytes) message other is also
+    go grammars.Wide grammars.Wide is also = same_ok (reading_by grammars.Wide bytes) message other is also
+    go grammars.Plain grammars.Wide is also = absurd (err_ok bad.Version other (sym (no_grammar_reads_the_other grammars.Plain grammars.Wide bytes message is apart) ∙ also))
+    go grammars.Wide grammars.Plain is also = absurd (err_ok bad.Version other (sym (no_grammar_reads_the_other grammars.Wide grammars.Plain bytes message is (λ e. apart (sym e))) ∙ also))

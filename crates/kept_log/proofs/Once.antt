@@ -1,23 +1,18 @@
 -- A file says one thing: bytes are one list of messages, and a file one list of blocks.
-use Rattle.std.proofs.Common.{◌≡◌, ◌∙◌, inl, inr, ℕ, List, [], ◌∷◌, ◌++◌, length, take, drop, refl, sym, ap, ap₂, subst, Result, Ok, arith, append_assoc, length-append}
+use Rattle.std.proofs.Common.{◌≡◌, ◌∙◌, inl, inr, ℕ, List, [], ◌∷◌, ◌++◌, length, take, drop, refl, sym, ap, ap₂, subst, arith, append_assoc, length-append}
 use Rattle.std.specs.List.{AllByRecursion}
 use Rattle.std.proofs.lemmas.List.{take_at, drop_at}
-use Rattle.seq_arith.specs.declared.kinds.BadMsg.{BadMsg}
 use Rattle.seq_arith.specs.Message.{Message}
-use Rattle.seq_arith.specs.MessageGrammar.{reading}
 use Rattle.disk.specs.declared.calls.DiskCall.{DiskCall}
 use Rattle.kept_log.specs.Format.{header, block, first_tip, next_tip, tip_behind, chain, HasBlocks, IsRound}
 use Rattle.kept_log.specs.declared.tip.Tip.{Tip}
 use Rattle.kept_log.proofs.Blocks.{salt_long, header_long, block_once}
 use Rattle.kept_log.proofs.OneReading.{header_once, reads_once}
-use Rattle.kept_log.specs.MessageList.{Says, AllSay, AreKept}
+use Rattle.kept_log.specs.MessageList.{IsSpelling, Says, AllSay, AreKept}
 use Rattle.kept_log.specs.Startup.{IsTorn, IsWhole, IsDamaged, IsUnfinished, HasNoBlock}
-use Rattle.kept_log.proofs.Messages.{first_is}
+use Rattle.kept_log.proofs.Messages.{first_is, one_message}
 
-same_ok : (r : Result Message BadMsg) (x y : Message) → r ≡ Ok x → r ≡ Ok y → x ≡ y
-same_ok r x y a b = cc
-
-empty_says : (bytes first rest : List ℕ) (message : Message) → bytes ≡ [] → bytes ≡ first ++ rest → reading first ≡ Ok message → ⊥
+empty_says : (bytes first rest : List ℕ) (message : Message) → bytes ≡ [] → bytes ≡ first ++ rest → IsSpelling first message → ⊥
 empty_says bytes first rest message none is reads =
     let f = first_is bytes first rest message is reads in
     omega (arith, f.long, f.within, ap length none)
@@ -32,7 +27,7 @@ says_once bytes (message ∷ messages) (other ∷ others) (first, rest, is, read
     let long : length first ≡ length first_2 = f.length_is ∙ sym g.length_is in
     let same : first ≡ first_2 = sym (take_at first rest (length first) refl) ∙ (ap (take (length first)) (sym is ∙ is_2) ∙ take_at first_2 rest_2 (length first) (sym long)) in
     let behind : rest_2 ≡ rest = sym (drop_at first_2 rest_2 (length first) (sym long)) ∙ (ap (drop (length first)) (sym is_2 ∙ is) ∙ drop_at first rest (length first) refl) in
-    ap₂ (λ (x : Message) (xs : List Message). x ∷ xs) (same_ok (reading first) message other reads (ap reading same ∙ reads_2))
+    ap₂ (λ (x : Message) (xs : List Message). x ∷ xs) (one_message first message other reads (subst (λ b. IsSpelling b other) (sym same) reads_2))
     (says_once rest messages others says (subst (λ r. Says r others) behind says_2))
 
 pub all_say_once : (bodies : List (List ℕ)) (messages others : List Message) → AllSay bodies messages → AllSay bodies others → messages ≡ others

@@ -29,7 +29,7 @@ pub has_first : (old new : Option (List ℕ)) (empty window : List ℕ) → (byt
 has_first old new empty window (bytes, took, is) none end = record { bytes = bytes; took = took; are = is ∙ ap (λ (l : List ℕ). l ++ bytes) none; end = end }
 
 -- what the file has
-whole_is : (old new : Option (List ℕ)) (window file : List ℕ) → HasFirst old new window → old ≡ Some file → (left : List ℕ) × (new ≡ Some left) × (file ≡ window ++ left)
+pub whole_is : (old new : Option (List ℕ)) (window file : List ℕ) → HasFirst old new window → old ≡ Some file → (left : List ℕ) × (new ≡ Some left) × (file ≡ window ++ left)
 whole_is old new window file has is =
     let rest = consumed old new has.bytes file has.took is in
     (rest.0, rest.1, rest.2 ∙ ap (λ (l : List ℕ). l ++ rest.0) (sym has.are))
@@ -97,6 +97,7 @@ found_whole old new made window log has (time, (rest, begins)) (finds.Wrong at) 
 found_whole old new made window log has begins finds.Empty never = absurd never
 found_whole old new made window log has begins finds.Unfinished never = absurd never
 found_whole old new made window log has begins finds.Older never = absurd never
+found_whole old new made window log has begins finds.OtherGrammar never = absurd never
 
 -- after the last block
 module _ (made first : List ℕ) (old mid new : Option (List ℕ)) (window more tail : List ℕ) (tip : Tip) (log : Log) (reached : Reaches made first old mid window log (reaches.End tip))
@@ -144,3 +145,4 @@ module _ (made first : List ℕ) (old mid new : Option (List ℕ)) (window more 
   found_behind finds.Empty never = absurd never
   found_behind finds.Unfinished never = absurd never
   found_behind finds.Older never = absurd never
+  found_behind finds.OtherGrammar never = absurd never

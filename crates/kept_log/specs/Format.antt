@@ -1,11 +1,11 @@
 -- A journal's file, version 2: a header, then blocks, of which each has a digest of all that comes before it, and after them whatever a death has left there.
 -- The header has the time at which the file was made, and a digest of it, which is the journal's salt. The salt is in each block, so a block is recognised
 -- wherever it is, and no block of another journal passes for one of this.
-use Rattle.std.specs.Prelude.{◌≡◌, ℕ, ◌+◌, ◌≤◌, false, List, [], ◌∷◌, ◌++◌, length, take, codes}
+use Rattle.std.specs.Prelude.{◌≡◌, ℕ, ◌+◌, ◌≤◌, Bool, true, false, List, [], ◌∷◌, ◌++◌, length, take, codes}
 use Rattle.sha2.specs.Sha256.{sha256}
 use Rattle.seq_arith.specs.MessageGrammar.{number_bytes}
 use Rattle.disk.specs.declared.calls.DiskCall.{DiskCall}
-use Rattle.disk.specs.declared.calls.DiskCall.TheVariants.{Appended, Cut, Synced}
+use Rattle.disk.specs.declared.calls.DiskCall.TheVariants.{Appended, Cut, Synced, Replaced}
 use Rattle.disk.specs.Remains.{seen_after}
 use Rattle.kept_log.specs.declared.tip.Tip.{Tip}
 
@@ -82,7 +82,8 @@ pub record IsAtRest (file : List ℕ) (Held : List ℕ → Type 0) (made : List 
 -- The one premise on what a death leaves, where a read before it gave `seen`: all whole blocks that the file begins with were written. So what is behind
 -- the last synced byte doesn't begin with a whole block, unless that is the one which was being written. Of a digest nothing else is assumed
 abbrev pub BringsNone : (seen left : List ℕ) → Type 0
-BringsNone seen left = (made : List ℕ) (bodies : List (List ℕ)) (rest : List ℕ) → left ≡ front made bodies ++ rest → (more : List ℕ) × (seen ≡ front made bodies ++ more)
+BringsNone seen left = (made : List ℕ) (bodies : List (List ℕ)) (rest : List ℕ) → left ≡ front made bodies ++ rest → (more : List ℕ)
+    × (seen ≡ front made bodies ++ more)
 
 -- the calls that append a block
 abbrev pub keeping : Tip → (body : List ℕ) → List DiskCall
@@ -105,3 +106,14 @@ all_kept tip (body ∷ bodies) = keeping tip body ++ all_kept (next_tip tip body
 abbrev pub seen_by : List ℕ → List DiskCall → List ℕ
 seen_by file [] = file
 seen_by file (call ∷ calls) = seen_by (seen_after file call) calls
+
+-- a new file took the old one's name, and no sync has followed: then a death leaves the one or the other
+abbrev pub is_unsettled : Bool → List DiskCall → Bool
+is_unsettled unsettled [] = unsettled
+is_unsettled unsettled (Replaced bytes failed ∷ calls) = is_unsettled true calls
+is_unsettled unsettled (Synced false ∷ calls) = is_unsettled false calls
+is_unsettled unsettled (_ ∷ calls) = is_unsettled unsettled calls
+
+-- the premise after calls. While two files may have the name it asks nothing, since neither has anything unsynced
+abbrev pub BringsNoneBy : (file : List ℕ) → List DiskCall → (left : List ℕ) → Type 0
+BringsNoneBy file calls left = is_unsettled false calls ≡ false → BringsNone (seen_by file calls) left

@@ -1,6 +1,7 @@
 -- A log whose changes are in a journal, except for those of the round that isn't committed yet.
 use Rattle.std.specs.Prelude.{◌≡◌, ℕ, Bool, List, [], ◌∷◌, ◌++◌, length, nat_lt, if◌then◌else◌}
 use Rattle.seq_arith.specs.Message.{Message}
+use Rattle.seq_arith.specs.declared.kinds.Grammar.{Grammar}
 use Rattle.ft_model.specs.Log.{Log, empty_log}
 use Rattle.trace_laws.specs.NeededMessages.{log_after_all}
 use Rattle.logger_store.specs.Changes.{changes}
@@ -11,6 +12,7 @@ use Rattle.kept_log.specs.declared.tip.Tip.{Tip}
 
 pub record KeptState : Type 0 where
   pub log : Log
+  pub grammar : Grammar  -- of all its messages
   pub tip : Tip  -- where the next block begins in the file
   pub round : List ℕ  -- the messages that have changed the log since the last commit, byte for byte as they came
 

@@ -4,3 +4,5 @@ pub mod Startup
 pub mod ReadSteps
 pub mod MessageList
 pub mod Format
+pub mod Draft
+pub mod Compaction

@@ -1,13 +1,19 @@
--- The messages that bytes spell, one after the other. Each has its length in its header.
+-- The messages that bytes spell, one after the other. Each has its length in its header, and its version, which says its grammar.
 use Rattle.std.specs.Prelude.{◌≡◌, ℕ, List, [], ◌∷◌, ◌++◌, Ok}
 use Rattle.std.specs.List.{AllByRecursion}
 use Rattle.seq_arith.specs.Message.{Message}
-use Rattle.seq_arith.specs.MessageGrammar.{reading}
+use Rattle.seq_arith.specs.MessageGrammar.{reading_by}
+use Rattle.seq_arith.specs.declared.kinds.Grammar.{Grammar}
 use Rattle.kept_log.specs.Format.{IsRound}
+
+-- these bytes spell a message in one of the grammars: no two read the same bytes
+pub record IsSpelling (bytes : List ℕ) (message : Message) : Type 0 where
+  pub grammar : Grammar
+  pub reads : reading_by grammar bytes ≡ Ok message
 
 abbrev pub Says : List ℕ → List Message → Type 0
 Says bytes [] = bytes ≡ []
-Says bytes (message ∷ messages) = (first : List ℕ) × (rest : List ℕ) × (bytes ≡ first ++ rest) × (reading first ≡ Ok message) × Says rest messages
+Says bytes (message ∷ messages) = (first : List ℕ) × (rest : List ℕ) × (bytes ≡ first ++ rest) × IsSpelling first message × Says rest messages
 
 -- .. and those that the bodies of blocks spell
 abbrev pub AllSay : List (List ℕ) → List Message → Type 0

@@ -6,7 +6,8 @@ use Rattle.ft_model.specs.Log.{Log}
 use Rattle.kept_log.specs.Format.{header, seal, block, first_tip, next_tip, tip_of, chain, IsRound, BeginsNone}
 use Rattle.kept_log.specs.MessageList.{AreKept}
 use Rattle.kept_log.specs.JournaledLog.{HasLog, Waits}
-use Rattle.kept_log.specs.Startup.{IsFollowed, IsTorn, HasNoBlock, IsOlder, IsUnfinished, HasNoHeader, IsDamaged}
+use Rattle.kept_log.specs.Startup.{IsFollowed, IsTorn, HasNoBlock, IsOlder, IsUnfinished, HasNoHeader, IsDamaged, HasGrammar, HasOtherGrammar}
+use Rattle.seq_arith.specs.declared.kinds.Grammar.{Grammar}
 use Rattle.seq_arith.specs.Message.{Message}
 use Rattle.kept_log.specs.declared.tip.Tip.{Tip}
 use Rattle.kept_log.specs.declared.header.Begin.{Begin}
@@ -92,7 +93,15 @@ abbrev pub FindsAs : Option (List ℕ) → Log → Found → Type 0
 FindsAs left log finds.Empty = (file : List ℕ) → left ≡ Some file → file ≡ []
 FindsAs left log finds.Unfinished = (file : List ℕ) → left ≡ Some file → IsUnfinished file
 FindsAs left log finds.Older = (file : List ℕ) → left ≡ Some file → IsOlder file
+FindsAs left log finds.OtherGrammar = Unit {0}
 FindsAs left log (finds.Whole tip tail) =
     (made : List ℕ) × (bodies : List (List ℕ)) × HasLog made bodies tip log × (tip.end ≤ 2 ^ 62) × (tip.number ≤ 2 ^ 62)
-    × ((file : List ℕ) → left ≡ Some file → (torn : List ℕ) × (file ≡ header made ++ (chain (first_tip made) bodies ++ torn)) × (length torn ≡ tail) × IsTorn tip torn)
+    × ((file : List ℕ) → left ≡ Some file → (torn : List ℕ) × (file ≡ header made ++ (chain (first_tip made) bodies ++ torn)) × (length torn ≡ tail)
+    × IsTorn tip torn)
 FindsAs left log (finds.Wrong at) = (file : List ℕ) → left ≡ Some file → IsDamaged at file
+
+-- .. and whether its first message is of this grammar
+abbrev pub FindsIn : Grammar → Option (List ℕ) → Found → Type 0
+FindsIn grammar left finds.OtherGrammar = HasOtherGrammar grammar left
+FindsIn grammar left (finds.Whole tip tail) = HasGrammar grammar left
+FindsIn grammar left _ = Unit {0}

@@ -1,22 +1,23 @@
 -- How a journal's file is opened: which files can be read, and which calls leave nothing after their blocks.
-use Rattle.std.specs.Prelude.{◌≡◌, ◌⊎◌, ◌≤◌, ◌<◌, ℕ, List, [], ◌∷◌, ◌++◌, length, codes, Some}
+use Rattle.std.specs.Prelude.{◌≡◌, ◌⊎◌, ◌≤◌, ◌<◌, ℕ, List, [], ◌∷◌, ◌++◌, length, codes, Some, Ok}
 use Rattle.std.specs.declared.option.Option.{Option}
 use Rattle.seq_arith.specs.Message.{Message}
-use Rattle.seq_arith.specs.MessageGrammar.{number_in}
+use Rattle.seq_arith.specs.MessageGrammar.{number_in, reading_by}
+use Rattle.seq_arith.specs.declared.kinds.Grammar.{Grammar}
 use Rattle.ft_model.specs.Log.{Log}
 use Rattle.ft_io.specs.Told.{Tells}
 use Rattle.disk.specs.declared.calls.DiskCall.{DiskCall}
 use Rattle.disk.specs.declared.calls.DeskCall.{DeskCall}
 use Rattle.disk.specs.Remains.{IsFrontOf}
 use Rattle.disk.specs.CallRecord.{on_disk}
-use Rattle.kept_log.specs.Format.{magic, header, block, front, tip_of, mending, making, IsRound, BeginsNone}
+use Rattle.kept_log.specs.Format.{magic, header, block, front, first_tip, tip_of, mending, making, IsRound, BeginsNone}
 use Rattle.kept_log.specs.declared.tip.Tip.{Tip}
 use Rattle.kept_log.specs.declared.journal.KeepEnd.{KeepEnd}
 use Rattle.kept_log.specs.declared.journal.KeepEnd.TheVariants as reads
 use Rattle.kept_log.specs.MessageList.{Says, AreKept}
 use Rattle.kept_log.specs.JournaledLog.{HasLog}
 use Rattle.kept_log.specs.declared.opening.OpenEnd.{OpenEnd}
-use Rattle.kept_log.specs.declared.opening.OpenEnd.TheVariants.{NoMemory, Failed, Empty, Unfinished, Older, Wrong}
+use Rattle.kept_log.specs.declared.opening.OpenEnd.TheVariants.{NoMemory, Failed, Empty, Unfinished, Older, OtherGrammar, Wrong}
 
 -- the calls that cut off what a death has left after the blocks: none if nothing is there
 abbrev pub cutting : ℕ → List ℕ → List DiskCall
@@ -56,6 +57,38 @@ pub record HasNoBlock (tip : Tip) (bytes : List ℕ) : Type 0 where
 -- a file of the first version
 abbrev pub IsOlder : (file : List ℕ) → Type 0
 IsOlder file = (rest : List ℕ) × (file ≡ codes "ftlog 1\n" ++ rest)
+
+-- these bytes begin with a message of another grammar
+pub record IsOtherwise (grammar : Grammar) (bytes : List ℕ) : Type 0 where
+  pub other : Grammar
+  pub first : List ℕ
+  pub rest : List ℕ
+  pub message : Message
+  pub is : bytes ≡ first ++ rest
+  pub reads : reading_by other first ≡ Ok message
+  pub differs : other ≡ grammar → ⊥
+
+-- .. and so does the first block of a journal that was made at this time, which has these bytes after its header
+pub record BeginsOtherwise (grammar : Grammar) (made bytes : List ℕ) : Type 0 where
+  pub body : List ℕ
+  pub rest : List ℕ
+  pub small : IsRound body
+  pub is : bytes ≡ block (first_tip made) body ++ rest
+  pub otherwise : IsOtherwise grammar body
+
+-- a journal of another grammar: its first message says so
+pub record IsOfOther (grammar : Grammar) (file : List ℕ) : Type 0 where
+  pub made : List ℕ
+  pub rest : List ℕ
+  pub time : length made ≡ 8
+  pub is : file ≡ header made ++ rest
+  pub begins : BeginsOtherwise grammar made rest
+
+abbrev pub HasOtherGrammar : Grammar → Option (List ℕ) → Type 0
+HasOtherGrammar grammar left = (file : List ℕ) → left ≡ Some file → IsOfOther grammar file
+
+abbrev pub HasGrammar : Grammar → Option (List ℕ) → Type 0
+HasGrammar grammar left = (file : List ℕ) → left ≡ Some file → IsOfOther grammar file → ⊥
 
 -- a part of a header and nothing more: of a file whose making wasn't finished, or that was cut
 abbrev pub IsUnfinished : (file : List ℕ) → Type 0
@@ -112,6 +145,7 @@ HasStopped left old new NoMemory = Tells old new []
 HasStopped left old new Empty = Tells old new [] × ((file : List ℕ) → left ≡ Some file → file ≡ [])
 HasStopped left old new Unfinished = Tells old new [] × ((file : List ℕ) → left ≡ Some file → IsUnfinished file)
 HasStopped left old new Older = Tells old new [] × ((file : List ℕ) → left ≡ Some file → IsOlder file)
+HasStopped left old new OtherGrammar = Tells old new []
 HasStopped left old new (Wrong at) = Tells old new [] × ((file : List ℕ) → left ≡ Some file → IsDamaged at file)
 HasStopped left old new Failed = Tells old new [] ⊎ IsCutShort left old new
 

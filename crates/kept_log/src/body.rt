@@ -1,20 +1,22 @@
 //! The messages of a block.
 
-ghost use Rattle.std.specs.Prelude.{◌≡◌, ◌≤◌, ◌++◌, List, ℕ, Ok, true, false, length, IfOk, IfSome, IfNone, []};
+ghost use Rattle.std.specs.Prelude.{◌≡◌, ◌⊎◌, ◌<◌, ◌≤◌, List, ℕ, Ok, true, false, length, IfOk, IfSome, IfNone, []};
 ghost use Rattle.seq_arith.specs.Bytes.{word_at as word_at_lem};
 ghost use Rattle.seq_arith.specs.Message.{Message};
-ghost use Rattle.seq_arith.specs.MessageGrammar.{reading};
-ghost use Rattle.kept_log.specs.MessageList.{Says};
+ghost use Rattle.seq_arith.specs.MessageGrammar.{reading_by};
+ghost use Rattle.logger_wire.specs.Value.{message_of, IsSendableBy};
+ghost use Rattle.kept_log.specs.MessageList.{IsSpelling, Says};
 ghost use Rattle.kept_log.specs.JournaledLog.{Waits};
 
 use ft_io::NoMemory;
 use logger_store::{LogStore, MsgOut};
-use logger_wire::{read_msg, word_at};
+use logger_wire::{Grammar, Msg, read_msg, read_wide_msg, word_at};
 use std::alloc::Global;
 
 /// Returns the length of the first message in these bytes, by its header. `None` if there are fewer bytes.
-fn first_length(bytes: &[u8]) -> Option<usize>
+pub fn first_length(bytes: &[u8]) -> Option<usize>
     ensures some { IfSome result (λ n. (6 ≤ length bytes.now) × (n ≤ length bytes.now) × (n ≡ word_at_lem bytes.now 4)) }
+    ensures few { IfNone result ((length bytes.now < 6) ⊎ (length bytes.now < word_at_lem bytes.now 4)) }
     ensures none { IfNone result ((messages : List Message) → Says bytes.now messages → bytes.now ≡ []) }
 {
     if bytes.len() < 6 {
@@ -22,6 +24,21 @@ fn first_length(bytes: &[u8]) -> Option<usize>
     }
     let n = usize::from(word_at(bytes, 4));
     if n <= bytes.len() { Some(n) } else { None }
+}
+
+/// Reads a message in the grammar that its version says.
+pub fn read_any(bytes: &[u8]) -> Option<(Grammar, Msg<'_>)>
+    ensures read { IfSome result (λ r. reading_by r.0 bytes.now ≡ Ok (message_of r.1)) }
+    ensures sendable { IfSome result (λ r. IsSendableBy r.0 r.1) }
+    ensures none { IfNone result ((message : Message) → IsSpelling bytes.now message → ⊥) }
+{
+    if let Ok(m) = read_msg(bytes) {
+        return Some((Grammar::Plain, m));
+    }
+    match read_wide_msg(bytes) {
+        Ok(m) => Some((Grammar::Wide, m)),
+        Err(_) => None,
+    }
 }
 
 /// Applies the messages of a block's body to the log. Returns false if the body isn't a sequence of messages; then some of them may be in the log.
@@ -35,10 +52,10 @@ pub fn take_body(alloc: Global, body: &[u8], store: &mut LogStore) -> Result<boo
         let Some(n) = first_length(rest) else {
             return Ok(false);
         };
-        let Ok(m) = read_msg(&rest[..n]) else {
+        let Some((grammar, m)) = read_any(&rest[..n]) else {
             return Ok(false);
         };
-        store.answer(alloc, &m, &mut out)?;
+        store.answer_by(alloc, grammar, &m, &mut out)?;
         rest = &rest[n..];
     }
     Ok(true)

@@ -1,26 +1,30 @@
-//! Wrong results that the contracts of this crate exclude. Each function calls another one of the crate, and promises of its result what a wrong body would make
-//! false. It is proved from the other's contract alone, so it is no longer proved once that contract lets the wrong body pass.
+//! Wrong results that the contracts of this crate exclude. Each function calls another one of the crate, and promises of its result what a wrong body would
+//! make false. It is proved from the other's contract alone, so it is no longer proved once that contract lets the wrong body pass.
 
-ghost use Rattle.std.specs.Prelude.{◌≡◌, ◌<◌, ◌^◌, [], ◌∷◌, ◌++◌, List, Some, Ok, true, false, length, drop, IfOk, OnOk};
+ghost use Rattle.std.specs.Prelude.{◌≡◌, ◌≤◌, ◌<◌, ◌^◌, ℕ, [], ◌∷◌, ◌++◌, List, Some, Ok, true, false, length, drop, IfOk, OnOk};
 ghost use Rattle.disk.specs.declared.calls.DeskCall.{DeskCall};
 ghost use Rattle.disk.specs.declared.calls.DeskCall.TheVariants.{OnDisk};
-ghost use Rattle.disk.specs.declared.calls.DiskCall.TheVariants.{Synced};
-ghost use Rattle.kept_log.specs.Format.{digest, BeginsNone};
+ghost use Rattle.disk.specs.declared.calls.DiskCall.TheVariants.{Synced, Replaced};
+ghost use Rattle.disk.specs.Aside.{HasAside};
+ghost use Rattle.ft_io.specs.Told.{Tells};
+ghost use Rattle.kept_log.specs.Format.{digest, front, tip_of, BeginsNone};
 ghost use Rattle.kept_log.specs.JournaledLog.{is_full};
-ghost use Rattle.kept_log.specs.Startup.{IsFollowed};
+ghost use Rattle.kept_log.specs.Startup.{IsFollowed, IsOfOther};
 ghost use Rattle.logger_store.specs.Changes.{changes};
-ghost use Rattle.logger_wire.specs.Value.{message_of, IsSendable};
-ghost use Rattle.seq_arith.specs.MessageGrammar.{number_bytes, reading};
+ghost use Rattle.logger_wire.specs.Value.{message_of, IsSendableBy};
+ghost use Rattle.seq_arith.specs.MessageGrammar.{number_bytes, reading_by};
 
+use crate::header::TIME;
 use crate::journal::KeepEnd;
 use crate::kept::KeptLog;
 use crate::reading::{Found, Taken, tail_of, take_block};
+use crate::snapshot::write_snapshot;
 use crate::tip::{DIGEST, Tip, seal_of};
 use crate::window::Window;
-use disk::Disk;
-use ft_io::NoMemory;
+use disk::{Desk, Disk};
+use ft_io::{Failed, NoMemory};
 use logger_store::{LogStore, MsgOut};
-use logger_wire::Msg;
+use logger_wire::{Grammar, Msg};
 use std::alloc::Global;
 
 /// A block that isn't the next one isn't taken: the contract of `take_block`.
@@ -90,11 +94,52 @@ fn a_short_message_is_not_kept(
     m: &Msg<'_>,
     out: &mut MsgOut,
 ) -> Result<(), NoMemory>
-    requires sendable { IsSendable m.now }
-    requires read { reading bytes.now ≡ Ok (message_of m.now) }
+    requires sendable { IsSendableBy kept.old.grammar m.now }
+    requires read { reading_by kept.old.grammar bytes.now ≡ Ok (message_of m.now) }
     requires room { is_full kept.old ≡ false }
     requires changes { changes kept.old.log (message_of m.now) ≡ true }
     ensures { OnOk result (kept.new.round ≡ kept.old.round ++ bytes.now) }
 {
     kept.take(alloc, bytes, m, out)
+}
+
+/// A new file is on the disk before it takes the old one's name: the clause `written` of `write_snapshot`.
+fn renamed_before_the_sync<K: Desk>(
+    alloc: Global,
+    desk: &mut K,
+    store: &LogStore,
+    grammar: Grammar,
+    made: &[u8; TIME],
+) -> Result<Tip, KeepEnd>
+    requires boot { 1 ≤ store.now.boot }
+    requires time { length made.now ≡ 8 }
+    ensures { IfOk result (λ tip. (bodies : List (List ℕ)) × (tip ≡ tip_of made.now bodies) × HasAside (K.aside_synced desk.new) (front made.now bodies)) }
+{
+    write_snapshot(alloc, desk, store, grammar, made)
+}
+
+/// Once a new file has the name, the folder is synced before anything else is done: the clause `compacted` of `KeptLog::compact`.
+fn answered_before_the_folder_is_synced<K: Desk>(
+    kept: &mut KeptLog,
+    alloc: Global,
+    desk: &mut K,
+    made: u64,
+) -> Result<bool, Failed>
+    requires { kept.old.round ≡ [] }
+    ensures { IfOk result (λ done. done ≡ true → (bytes : List ℕ)
+        × Tells (K.told desk.old) (K.told desk.new) (OnDisk (Replaced bytes false) ∷ OnDisk (Synced false) ∷ [])) }
+{
+    kept.compact(alloc, desk, made)
+}
+
+/// A journal of another grammar isn't opened: the clause `has_grammar` of `KeptLog::open`.
+fn a_journal_of_another_grammar_is_opened<D: Disk>(
+    alloc: Global,
+    grammar: Grammar,
+    disk: &mut D,
+) -> bool
+    requires { (file : List ℕ) × (D.left disk.old ≡ Some file) × IsOfOther grammar file }
+    ensures { result ≡ false }
+{
+    KeptLog::open(alloc, grammar, disk).is_ok()
 }

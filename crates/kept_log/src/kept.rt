@@ -1,30 +1,32 @@
 //! The log with its journal.
 
-ghost use Rattle.std.specs.Prelude.{[], ◌≡◌, ◌≤◌, List, ℕ, Ok, false, length, IfOk, IfErr, OnOk, OnErr, IsOk, IsErrOf};
+ghost use Rattle.std.specs.Prelude.{[], ◌≡◌, ◌≤◌, List, ℕ, Ok, true, false, length, IfOk, IfErr, OnOk, OnErr, IsOk, IsErrOf};
 ghost use Rattle.seq_arith.specs.MessageGrammar.{number_bytes};
 ghost use Rattle.kept_log.specs.Format.{making};
 ghost use Rattle.ft_io.specs.Faults.{Rose};
 ghost use Rattle.ft_io.specs.Told.{Tells};
-ghost use Rattle.seq_arith.specs.MessageGrammar.{reading};
+ghost use Rattle.seq_arith.specs.MessageGrammar.{reading_by};
 ghost use Rattle.ft_model.specs.Log.{Log, log_after, answer_to};
-ghost use Rattle.logger_wire.specs.Value.{message_of, IsSendable};
-ghost use Rattle.logger_store.specs.StoreState.{answer_bytes, wants_memory};
+ghost use Rattle.logger_wire.specs.Value.{message_of, IsSendableBy};
+ghost use Rattle.logger_store.specs.StoreState.{answer_bytes_by, wants_memory};
 ghost use Rattle.disk.specs.declared.calls.DiskCall.{DiskCall};
 ghost use Rattle.disk.specs.Remains.{IsFrontOf};
 ghost use Rattle.disk.specs.CallRecord.{on_disk};
+ghost use Rattle.kept_log.specs.Compaction.{IsCompacted, IsCutCompaction};
 ghost use Rattle.kept_log.specs.JournaledLog.{is_full, kept_of, committing, tip_after, with_round, HasLog, Waits};
-ghost use Rattle.kept_log.specs.Startup.{IsOpened, HasStopped, HasNotBegun};
+ghost use Rattle.kept_log.specs.Startup.{IsOpened, HasGrammar, HasOtherGrammar, HasStopped, HasNotBegun};
 ghost use Rattle.std.specs.Prelude.{◌++◌};
 
 use crate::block::MOST_BODY;
 use crate::journal::KeepEnd;
 use crate::opening::{OpenEnd, make, open_file};
+use crate::snapshot::replace_file;
 use crate::tip::Tip;
-use disk::Disk;
-use ft_io::NoMemory;
+use disk::{Desk, Disk};
+use ft_io::{Failed, NoMemory};
 use limits::MESSAGE;
 use logger_store::{LogStore, MsgOut};
-use logger_wire::Msg;
+use logger_wire::{Grammar, Msg};
 use std::alloc::Global;
 use std::marker::Model;
 
@@ -33,6 +35,8 @@ use std::marker::Model;
 #[derive(Drop)]
 pub struct KeptLog {
     store: LogStore,
+    /// The grammar of all its messages.
+    grammar: Grammar,
     /// Where the next block begins in the journal.
     tip: Tip,
     /// Its room is allocated once.
@@ -45,17 +49,24 @@ impl Model for KeptLog {
 
     ghost Value = { KeptState };
 
-    ghost view = { λ k. record { log = k.store; tip = k.tip; round = k.round.items } };
+    ghost view = { λ k. record { log = k.store; grammar = k.grammar; tip = k.tip; round = k.round.items } };
 
     ghost invariant = { λ k. (length k.round.items ≤ 381696) × (381696 ≤ vec_capacity k.round) };
 }
 
 impl KeptLog {
     /// Reads the journal in a file that was opened just now into a log, and cuts off what a death has left after its blocks. Returns how many bytes that were
-    /// too. A file that isn't a whole journal stays as it is.
-    pub fn open<D: Disk>(alloc: Global, disk: &mut D) -> Result<(KeptLog, usize), OpenEnd>
+    /// too. A file that isn't a whole journal of this grammar stays as it is.
+    pub fn open<D: Disk>(
+        alloc: Global,
+        grammar: Grammar,
+        disk: &mut D,
+    ) -> Result<(KeptLog, usize), OpenEnd>
         ensures opened { IfOk result (λ r. IsOpened (D.left disk.old) (D.told disk.old) (D.told disk.new) r.0.tip r.1 r.0.log) }
         ensures none_waits { IfOk result (λ r. r.0.round ≡ []) }
+        ensures grammar { IfOk result (λ r. r.0.grammar ≡ grammar) }
+        ensures has_grammar { OnOk result (HasGrammar grammar (D.left disk.old)) }
+        ensures other { IsErrOf result OpenEnd.OtherGrammar → HasOtherGrammar grammar (D.left disk.old) }
         ensures stopped { IfErr result (HasStopped (D.left disk.old) (D.told disk.old) (D.told disk.new)) }
         ensures cause { IsErrOf result OpenEnd.Failed → Rose (D.fault_count disk.old) (D.fault_count disk.new) }
         ensures never_falls { D.fault_count disk.old ≤ D.fault_count disk.new }
@@ -63,16 +74,28 @@ impl KeptLog {
     {
         let mut store = LogStore::new(alloc);
         let round = Vec::with_capacity(alloc, MOST_BODY).map_err(|_| OpenEnd::NoMemory)?;
-        let (tip, cut) = open_file(alloc, disk, &mut store)?;
-        Ok((KeptLog { store, tip, round }, cut))
+        let (tip, cut) = open_file(alloc, grammar, disk, &mut store)?;
+        let kept = KeptLog {
+            store,
+            grammar,
+            tip,
+            round,
+        };
+        Ok((kept, cut))
     }
 
-    /// Makes a journal in a file that is empty, at this time: nanoseconds since 1970. Its log is empty.
+    /// Makes a journal of this grammar in a file that is empty, at this time: nanoseconds since 1970. Its log is empty.
     #[tactic(auto, unfolding(seq_arith::specs::MessageGrammar::number_bytes))]
-    pub fn begin<D: Disk>(alloc: Global, disk: &mut D, made: u64) -> Result<KeptLog, KeepEnd>
+    pub fn begin<D: Disk>(
+        alloc: Global,
+        grammar: Grammar,
+        disk: &mut D,
+        made: u64,
+    ) -> Result<KeptLog, KeepEnd>
         ensures begun { IfOk result (λ k. HasLog (number_bytes 8 made) [] k.tip k.log) }
         ensures told { OnOk result (Tells (D.told disk.old) (D.told disk.new) (on_disk (making (number_bytes 8 made)))) }
         ensures none_waits { IfOk result (λ k. k.round ≡ []) }
+        ensures grammar { IfOk result (λ k. k.grammar ≡ grammar) }
         ensures stopped { IfErr result (HasNotBegun (number_bytes 8 made) (D.told disk.old) (D.told disk.new)) }
         ensures cause { IsErrOf result KeepEnd.Failed → Rose (D.fault_count disk.old) (D.fault_count disk.new) }
         ensures never_falls { D.fault_count disk.old ≤ D.fault_count disk.new }
@@ -81,7 +104,12 @@ impl KeptLog {
         let store = LogStore::new(alloc);
         let round = Vec::with_capacity(alloc, MOST_BODY)?;
         let tip = make(alloc, disk, &made.to_be_bytes())?;
-        Ok(KeptLog { store, tip, round })
+        Ok(KeptLog {
+            store,
+            grammar,
+            tip,
+            round,
+        })
     }
 
     /// The log, with the uncommitted round applied.
@@ -89,6 +117,13 @@ impl KeptLog {
         ensures { result.now ≡ self.now.log }
     {
         &self.store
+    }
+
+    /// The grammar of its messages.
+    pub fn grammar(&self) -> Grammar
+        ensures { result ≡ self.now.grammar }
+    {
+        self.grammar
     }
 
     /// Where the next block begins: its number, and its place, which is the length of the file.
@@ -105,8 +140,8 @@ impl KeptLog {
         self.round.len() > MOST_BODY - MESSAGE
     }
 
-    /// Applies a message to the log, and replaces the content of `out` by the answer, or by nothing if there is none. If the message changes the log, its bytes
-    /// join the uncommitted round. The answer may be sent only once the round is committed. Only `LogStore::answer` allocates here.
+    /// Applies a message of its grammar to the log, and replaces the content of `out` by the answer, or by nothing if there is none. If the message changes the
+    /// log, its bytes join the uncommitted round. The answer may be sent only once the round is committed. Only `LogStore::answer_by` allocates here.
     pub fn take(
         &mut self,
         alloc: Global,
@@ -114,25 +149,60 @@ impl KeptLog {
         m: &Msg<'_>,
         out: &mut MsgOut,
     ) -> Result<(), NoMemory>
-        requires sendable { IsSendable m.now }
-        requires read { reading bytes.now ≡ Ok (message_of m.now) }
+        requires sendable { IsSendableBy self.old.grammar m.now }
+        requires read { reading_by self.old.grammar bytes.now ≡ Ok (message_of m.now) }
         requires room { is_full self.old ≡ false }
         ensures next { OnOk result (self.new.log ≡ log_after self.old.log (message_of m.now)) }
-        ensures answer { OnOk result (out.new ≡ answer_bytes (answer_to self.old.log (message_of m.now))) }
+        ensures answer { OnOk result (out.new ≡ answer_bytes_by self.old.grammar (answer_to self.old.log (message_of m.now))) }
         ensures round { OnOk result (self.new.round ≡ self.old.round ++ kept_of self.old.log (message_of m.now) bytes.now) }
         ensures tip { self.new.tip ≡ self.old.tip }
+        ensures grammar { self.new.grammar ≡ self.old.grammar }
         // The uncommitted round has all changes of the log.
         ensures waits { OnOk result ((before : Log) → Waits before self.old.round self.old.log → Waits before self.new.round self.new.log) }
         ensures refused { OnErr result (self.new ≡ self.old) }
         ensures empty { OnErr result (out.new ≡ []) }
         ensures memory { wants_memory self.old.log (message_of m.now) ≡ false → IsOk result }
     {
-        let changes = self.store.changes(m);
-        self.store.answer(alloc, m, out)?;
+        let changes = self.store.changes_by(self.grammar, m);
+        self.store.answer_by(alloc, self.grammar, m, out)?;
         if changes {
             self.round.extend_from_slice(bytes).unwrap();
         }
         Ok(())
+    }
+
+    /// Writes a new file with a snapshot of the log, of a journal that is made at this time, puts it in the place of the file, and syncs the folder. Returns
+    /// false if it couldn't be written, or the log has no boot number yet: then the old file and the log are as before. After an error the log may only be
+    /// dropped.
+    #[tactic(auto, using(ft_io::proofs::Tellings::none_told), unfolding(seq_arith::specs::MessageGrammar::number_bytes))]
+    pub fn compact<K: Desk>(
+        &mut self,
+        alloc: Global,
+        desk: &mut K,
+        made: u64,
+    ) -> Result<bool, Failed>
+        requires idle { self.old.round ≡ [] }
+        ensures log { self.new.log ≡ self.old.log }
+        ensures grammar { self.new.grammar ≡ self.old.grammar }
+        ensures round { self.new.round ≡ [] }
+        ensures compacted { IfOk result (λ done. done ≡ true
+            → IsCompacted (number_bytes 8 made) self.old.tip self.old.log self.new.tip (K.told desk.old) (K.told desk.new)) }
+        ensures kept { IfOk result (λ done. done ≡ false → (self.new.tip ≡ self.old.tip) × Tells (K.told desk.old) (K.told desk.new) []) }
+        ensures failed { OnErr result (IsCutCompaction (number_bytes 8 made) self.old.tip self.old.log (K.told desk.old) (K.told desk.new)) }
+        ensures cause { OnErr result (Rose (K.fault_count desk.old) (K.fault_count desk.new)) }
+        ensures never_falls { K.fault_count desk.old ≤ K.fault_count desk.new }
+        ensures beside { K.beside desk.new ≡ K.beside desk.old }
+    {
+        if self.store.boot() == 0 {
+            return Ok(false);
+        }
+        match replace_file(alloc, desk, &self.store, self.grammar, &made.to_be_bytes())? {
+            Some(tip) => {
+                self.tip = tip;
+                Ok(true)
+            }
+            None => Ok(false),
+        }
     }
 
     /// Appends the uncommitted round as a block of the journal. After `Ok` the round is empty, and every death leaves a file that has the log. After an error
@@ -141,6 +211,7 @@ impl KeptLog {
         ensures kept { OnOk result (Tells (D.told disk.old) (D.told disk.new) (on_disk (committing self.old.tip self.old.round))) }
         ensures round { OnOk result (self.new.round ≡ []) }
         ensures log { self.new.log ≡ self.old.log }
+        ensures grammar { self.new.grammar ≡ self.old.grammar }
         ensures tip { OnOk result (self.new.tip ≡ tip_after self.old.tip self.old.round) }
         // The blocks with the round have the log.
         ensures has_log { OnOk result ((made : List ℕ) (bodies : List (List ℕ)) (before : Log) → HasLog made bodies self.old.tip before

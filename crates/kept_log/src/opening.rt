@@ -8,7 +8,7 @@ ghost use Rattle.disk.specs.Remains.{IsFrontOf};
 ghost use Rattle.disk.specs.CallRecord.{on_disk};
 ghost use Rattle.ft_model.specs.Log.{empty_log};
 ghost use Rattle.kept_log.specs.Format.{header, making, first_tip};
-ghost use Rattle.kept_log.specs.Startup.{cutting, IsOpened, HasStopped, HasNotBegun};
+ghost use Rattle.kept_log.specs.Startup.{cutting, IsOpened, HasGrammar, HasOtherGrammar, HasStopped, HasNotBegun};
 ghost use Rattle.kept_log.specs.declared.opening.OpenEnd.TheVariants as ends;
 
 use crate::header::{MAGIC, TIME, first_of};
@@ -18,6 +18,7 @@ use crate::tip::Tip;
 use disk::Disk;
 use ft_io::Failed;
 use logger_store::LogStore;
+use logger_wire::Grammar;
 use std::alloc::{AllocError, Global};
 
 /// Why a journal wasn't opened. No call has changed the file, unless one of those failed that cut off what a death has left.
@@ -33,6 +34,8 @@ pub enum OpenEnd {
     Unfinished,
     /// The file is a journal of the first version.
     Older,
+    /// The file is a journal whose first message is of another grammar.
+    OtherGrammar,
     /// The file is damaged, or is no journal: the place, in bytes, where neither a block follows nor what a death leaves.
     Wrong(u64),
 }
@@ -59,7 +62,7 @@ impl From<KeepEnd> for OpenEnd {
 }
 
 /// The header of a journal that is made at this time.
-fn header_of(alloc: Global, made: &[u8; TIME], tip: &Tip) -> Result<Vec<u8>, AllocError>
+pub(crate) fn header_of(alloc: Global, made: &[u8; TIME], tip: &Tip) -> Result<Vec<u8>, AllocError>
     requires { tip.now ≡ first_tip made.now }
     ensures { IfOk result (λ bytes. bytes.items ≡ header made.now) }
 {
@@ -106,17 +109,20 @@ fn cut_tail<D: Disk>(disk: &mut D, end: u64, tail: usize) -> Result<(), Failed>
 /// were cut off.
 pub fn open_file<D: Disk>(
     alloc: Global,
+    grammar: Grammar,
     disk: &mut D,
     store: &mut LogStore,
 ) -> Result<(Tip, usize), OpenEnd>
     requires { store.old ≡ empty_log }
     ensures opened { IfOk result (λ found. IsOpened (D.left disk.old) (D.told disk.old) (D.told disk.new) found.0 found.1 store.new) }
+    ensures grammar { OnOk result (HasGrammar grammar (D.left disk.old)) }
     ensures stopped { IfErr result (HasStopped (D.left disk.old) (D.told disk.old) (D.told disk.new)) }
+    ensures other { IsErrOf result OpenEnd.OtherGrammar → HasOtherGrammar grammar (D.left disk.old) }
     ensures cause { IsErrOf result OpenEnd.Failed → Rose (D.fault_count disk.old) (D.fault_count disk.new) }
     ensures never_falls { D.fault_count disk.old ≤ D.fault_count disk.new }
     ensures beside { D.beside disk.new ≡ D.beside disk.old }
 {
-    match read_file(alloc, disk, store)? {
+    match read_file(alloc, grammar, disk, store)? {
         Found::Whole(tip, tail) => {
             cut_tail(disk, tip.end, tail)?;
             Ok((tip, tail))
@@ -124,6 +130,7 @@ pub fn open_file<D: Disk>(
         Found::Empty => Err(OpenEnd::Empty),
         Found::Unfinished => Err(OpenEnd::Unfinished),
         Found::Older => Err(OpenEnd::Older),
+        Found::OtherGrammar => Err(OpenEnd::OtherGrammar),
         Found::Wrong(at) => Err(OpenEnd::Wrong(at)),
     }
 }

@@ -5,10 +5,11 @@ ghost use Rattle.std.specs.Io.KnownBytes.{Consumes, IsAtEnd};
 ghost use Rattle.ft_io.specs.Faults.{Rose};
 ghost use Rattle.ft_io.specs.Told.{Tells};
 ghost use Rattle.ft_model.specs.Log.{empty_log};
-ghost use Rattle.kept_log.specs.ReadSteps.{Takes, Steps, Reaches, IsTail, FindsBehind, FindsAs};
+ghost use Rattle.kept_log.specs.ReadSteps.{Takes, Steps, Reaches, IsTail, FindsBehind, FindsAs, FindsIn};
 
 use crate::block::{MOST_BODY, Start, is_followed, start_of};
 use crate::body::take_body;
+use crate::grammar::has_other_grammar;
 use crate::header::{Begin, HEADER, TIME, begin_of, first_of};
 use crate::journal::KeepEnd;
 use crate::tip::{HEAD, Tip};
@@ -16,6 +17,7 @@ use crate::window::{Window, fill};
 use disk::Disk;
 use ft_io::NoMemory;
 use logger_store::LogStore;
+use logger_wire::Grammar;
 use std::alloc::Global;
 
 /// The bytes that one read may move.
@@ -55,6 +57,8 @@ pub enum Found {
     Unfinished,
     /// It is of the first version.
     Older,
+    /// Its first message is of another grammar.
+    OtherGrammar,
     /// Where the next block begins, and how many bytes come after the last one.
     Whole(Tip, usize),
     /// The place where neither a block follows nor what a death leaves; 0 if the header isn't whole.
@@ -220,15 +224,18 @@ pub(crate) fn tail_of(tip: &Tip, tail: &[u8]) -> Found
     Found::Whole(*tip, tail.len())
 }
 
-/// Reads a file that was opened just now to its end, and takes its blocks into the empty log. It changes nothing of the file.
+/// Reads a file that was opened just now to its end, and takes its blocks into the empty log, if its messages are of this grammar. It changes
+/// nothing of the file.
 #[tactic(auto, using(crate::proofs::Files::quiet_on, crate::proofs::Files::rose_later, ft_io::proofs::Tellings::none_told))]
 pub fn read_file<D: Disk>(
     alloc: Global,
+    grammar: Grammar,
     disk: &mut D,
     store: &mut LogStore,
 ) -> Result<Found, KeepEnd>
     requires { store.old ≡ empty_log }
     ensures found { IfOk result (FindsAs (D.left disk.old) store.new) }
+    ensures grammar { IfOk result (FindsIn grammar (D.left disk.old)) }
     ensures told { Tells (D.told disk.old) (D.told disk.new) [] }
     ensures cause { IsErrOf result KeepEnd.Failed → Rose (D.fault_count disk.old) (D.fault_count disk.new) }
     ensures never_falls { D.fault_count disk.old ≤ D.fault_count disk.new }
@@ -236,7 +243,7 @@ pub fn read_file<D: Disk>(
 {
     let mut window = Window::new(alloc);
     let mut chunk = vec![in alloc; 0u8; CHUNK]?;
-    fill_up(disk, &mut window, &mut chunk, HEADER - 1)?;
+    fill_up(disk, &mut window, &mut chunk, HEADER + MOST_TORN)?;
     match begin_of(window.bytes()) {
         Begin::Empty => Ok(Found::Empty),
         Begin::Unfinished => Ok(Found::Unfinished),
@@ -244,6 +251,9 @@ pub fn read_file<D: Disk>(
         Begin::Missing => Ok(Found::Wrong(0)),
         Begin::Whole(made) => {
             window.skip(HEADER);
+            if has_other_grammar(alloc, grammar, &made, window.bytes())? {
+                return Ok(Found::OtherGrammar);
+            }
             read_rest(alloc, disk, &mut window, &made, store, &mut chunk)
         }
     }

@@ -18,8 +18,8 @@
 //!   counted from 1. What is sent is printed after the part, in order, each datagram as `server HEX` or `other HEX`; `-` if nothing is sent;
 //! - `PART log` prints the part's number, and its log's boot number and count of entries;
 //! - `stop 1` stops the head and `stop 2` the tail, and the other is informed, unless one has stopped before;
-//! - `lists COUNT LENGTH SEED` plays COUNT lists of LENGTH deliveries that are drawn from SEED, each with a new pair, and prints how many datagrams were sent to
-//!   the server and to the other, the sum of all numbers at the ends, and a number that depends on all bytes.
+//! - `lists COUNT LENGTH SEED` plays COUNT lists of LENGTH deliveries that are drawn from SEED, each with a new pair, and prints how many datagrams were sent
+//! to   the server and to the other, the sum of all numbers at the ends, and a number that depends on all bytes.
 //!
 //! Of a log that is kept in a journal's file, which is in memory; each of these lines begins with the word `journal`:
 //!
@@ -28,9 +28,10 @@
 //! - `open` opens the journal in the file; `cuts` opens each prefix of the file, and `flips` the file with each of its bits changed in turn. The result of an
 //!   opening is the log's boot number, its count of entries and the place of the closed gate, or why it wasn't opened, and the calls on the file;
 //! - `in HEX` gives a datagram, and prints the answer; `long COUNT` gives at most COUNT Data messages of 1,460 bytes each, until the round is full;
-//! - `commit` commits the round, and prints the calls on the file; `state` prints the same of the log as an opening; `entry I` the entry at place I;
+//! - `commit` commits the round, and prints the calls on the file; `compact MADE` does that too, and then puts a new file in the place of the old one, of a
+//!   journal that is made at MADE, in nanoseconds since 1970; `state` prints the same of the log as an opening; `entry I` the entry at place I;
 //! - `death CALLS KEPT PUT` sets the file's bytes to what a death after CALLS calls leaves, with KEPT bytes of an append that no sync followed, and with a byte
-//!   that was put if PUT is 1.
+//!   that was put, and the name that a new file has taken, if PUT is 1.
 #![tactic(auto)]
 
 use ft_io::NoMemory;
@@ -38,8 +39,8 @@ use kept::Bench;
 use logger_store::{MsgOut, TrimStore};
 use logger_wire::read_msg;
 use mark_store::MarkStore;
-use marking::{ask_line, give_bytes, kept_marked, mark_line};
-use random::give_random;
+use marking::{ask_line, deliver_bytes, kept_marked, mark_line};
+use random::deliver_random;
 use readers::{byte_at, entry_at, kept_at, length_at, trim_at};
 use std::alloc::Global;
 use test_data::{Said, bytes_of_hex};
@@ -63,7 +64,7 @@ enum Given {
 }
 
 /// Gives the log a datagram.
-fn give(
+fn deliver(
     alloc: Global,
     log: &mut TrimStore,
     datagram: &[u8],
@@ -81,7 +82,7 @@ fn give(
 }
 
 /// Says an answer as a line: `out HEX`, or `out -` without one.
-fn tell_answer(answer: &[u8], said: &mut Said) {
+fn write_answer(answer: &[u8], said: &mut Said) {
     said.add(b"out ");
     said.hex(answer);
 }
@@ -126,12 +127,12 @@ fn play_trimmed(
         "in" => match bytes_of_hex(alloc, rest)? {
             Some(datagram) => {
                 let mut out = MsgOut::new();
-                give(alloc, log, datagram.as_slice(), &mut out)?;
-                tell_answer(out.bytes(), said);
+                deliver(alloc, log, datagram.as_slice(), &mut out)?;
+                write_answer(out.bytes(), said);
             }
             None => said.add(b"no datagram"),
         },
-        "random" => give_random(alloc, log, rest, said)?,
+        "random" => deliver_random(alloc, log, rest, said)?,
         "trim" => trim_at(log, rest, said),
         "state" => {
             let (boot, count) = (log.boot(), log.count());
@@ -159,7 +160,7 @@ fn play(alloc: Global, logs: &mut Logs, line: &str, said: &mut Said) -> Result<(
             said.add(b"marks");
             Ok(())
         }
-        "give" => give_bytes(alloc, &mut logs.marked, rest, said),
+        "give" => deliver_bytes(alloc, &mut logs.marked, rest, said),
         "mark" => mark_line(alloc, &mut logs.marked, rest, said),
         "ask" => ask_line(alloc, &mut logs.marked, rest, said),
         "kept" if rest.starts_with("marked ") => {

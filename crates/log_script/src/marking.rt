@@ -1,6 +1,6 @@
 //! The lines that play a log with marks.
 
-use crate::tell_answer;
+use crate::write_answer;
 use ft_io::{Key, NoMemory};
 use limits::STREAM;
 use logger_store::MsgOut;
@@ -21,12 +21,12 @@ fn answer_to(
 ) -> Result<(), NoMemory> {
     let mut out = MsgOut::new();
     log.answer(alloc, bytes, &mut out)?;
-    tell_answer(out.bytes(), said);
+    write_answer(out.bytes(), said);
     Ok(())
 }
 
 /// Gives the bytes of a line to the log.
-pub(crate) fn give_bytes(
+pub(crate) fn deliver_bytes(
     alloc: Global,
     log: &mut MarkStore,
     text: &str,
@@ -84,7 +84,7 @@ fn key_of(boot: &str, ip: &str, port: &str) -> Option<(u64, Key)> {
 
 /// Gives a mark to the log.
 #[tactic(auto, unfolding(seq_arith::specs::MarkGrammar::has_length, seq_arith::specs::MarkGrammar::is_sound))]
-fn give_mark(
+fn deliver_mark(
     alloc: Global,
     log: &mut MarkStore,
     numbers: &Numbers,
@@ -134,7 +134,7 @@ pub(crate) fn mark_line(
         && let Some(numbers) = numbers_of(numbers)
         && let Some(state) = bytes_of_word(alloc, state)?
     {
-        return give_mark(alloc, log, &numbers, state.as_slice(), said);
+        return deliver_mark(alloc, log, &numbers, state.as_slice(), said);
     }
     said.add(b"no such line");
     Ok(())

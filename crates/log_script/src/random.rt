@@ -3,7 +3,7 @@
 
 ghost use Rattle.std.specs.Prelude.{◌≡◌, ◌<◌, ◌≤◌, length};
 
-use crate::{Given, give};
+use crate::{Given, deliver};
 use ft_io::NoMemory;
 use logger_store::{MsgOut, TrimStore};
 use std::alloc::Global;
@@ -81,7 +81,7 @@ fn any_message(draws: &mut Draws, boot: u8, bytes: &mut [u8; 128]) -> usize
 }
 
 /// Gives the log as many datagrams as a line says, from its seed, and writes what that prints. The boot number of messages grows by one every 2,000 datagrams.
-pub(crate) fn give_random(
+pub(crate) fn deliver_random(
     alloc: Global,
     log: &mut TrimStore,
     text: &str,
@@ -108,7 +108,7 @@ pub(crate) fn give_random(
         } else {
             any_message(&mut draws, boot, &mut bytes)
         };
-        let given = give(alloc, log, &bytes[..len], &mut out)?;
+        let given = deliver(alloc, log, &bytes[..len], &mut out)?;
         tally.count(given, out.bytes());
     }
     let (refused, answered) = (tally.refused, tally.answered);

@@ -36,19 +36,19 @@ pub(crate) fn entry_at(log: &TrimStore, text: &str, said: &mut Said) {
         mss,
         ..
     } = entry;
-    tell_key(place, &entry, said);
+    write_key(place, &entry, said);
     write!(said, "cisn {cisn} sisn {sisn} mss {mss} ");
-    tell_extent(&entry, said);
+    write_extent(&entry, said);
 }
 
 /// Says an entry's place and its key, and a space.
-pub(crate) fn tell_key(place: u16, entry: &EntryHead, said: &mut Said) {
+pub(crate) fn write_key(place: u16, entry: &EntryHead, said: &mut Said) {
     let key = entry.key;
     write!(said, "entry {place} ip {} port {} ", key.ip, key.port);
 }
 
 /// Says what is logged of an entry behind its Open.
-pub(crate) fn tell_extent(entry: &EntryHead, said: &mut Said) {
+pub(crate) fn write_extent(entry: &EntryHead, said: &mut Said) {
     let EntryHead {
         length,
         reads,
@@ -99,8 +99,8 @@ pub(crate) fn kept_at(log: &TrimStore, text: &str, said: &mut Said) {
     }
 }
 
-/// Trims an entry by its first reads, and says how many bytes they took. It refuses fewer reads than were trimmed before, and reads that aren't logged or include
-/// a closing read.
+/// Trims an entry by its first reads, and says how many bytes they took. It refuses fewer reads than were trimmed before, and reads that aren't logged or
+/// include a closing read.
 pub(crate) fn trim_at(log: &mut TrimStore, text: &str, said: &mut Said) {
     if let Some((place, reads)) = place_and_number(text)
         && let Some(entry) = log.entry(place)

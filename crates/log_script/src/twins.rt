@@ -12,7 +12,7 @@ mod pair;
 mod random;
 
 /// Says what is sent, as a line after the part's name.
-fn tell_sent(name: &str, out: &TwinOut, said: &mut Said) {
+fn write_sent(name: &str, out: &TwinOut, said: &mut Said) {
     said.add(name.as_bytes());
     if out.len() == 0 {
         said.add(b" -");
@@ -84,7 +84,7 @@ pub(crate) fn play_pair(
         let (number, boot, count) = (logger.number(), logger.log().boot(), logger.log().count());
         write!(said, "{word} log number {number} boot {boot} count {count}");
     } else if deliver_line(alloc, pair, part, rest, out)? {
-        tell_sent(word, out, said);
+        write_sent(word, out, said);
     } else {
         said.add(b"no such line");
     }

@@ -2,14 +2,15 @@
 
 use crate::kept::datagrams::long_data;
 use crate::kept::text::{
-    call_count, tell_beginning, tell_calls, tell_kept_entry, tell_log, tell_opening,
+    call_count, write_beginning, write_calls, write_kept_entry, write_log, write_opening,
 };
 use crate::readers::two_numbers;
-use disk::{Death, MemDisk};
-use ft_io::NoMemory;
+use disk::{Death, MemDesk, MemDisk};
+use ft_io::{Failed, NoMemory};
+use ft_system::MemLink;
 use kept_log::{KeepEnd, KeptLog};
 use logger_store::MsgOut;
-use logger_wire::read_msg;
+use logger_wire::{Grammar, read_msg_by};
 use std::alloc::Global;
 use test_data::{Said, bytes_of_hex};
 
@@ -25,7 +26,9 @@ pub(crate) struct Bench {
     /// The bytes of the next file that is opened.
     file: Vec<u8>,
     fails: Fails,
-    disk: MemDisk,
+    /// The grammar of the journals that are begun or opened.
+    grammar: Grammar,
+    desk: MemDesk,
     log: Option<KeptLog>,
     /// How many calls of the disk were printed.
     shown: usize,
@@ -44,24 +47,45 @@ fn death_of(text: &str) -> Option<Death> {
     })
 }
 
+/// A desk with this file, and with no datagrams.
+fn desk_over(alloc: Global, disk: MemDisk) -> MemDesk {
+    let link = MemLink::new(
+        alloc,
+        Vec::new(alloc),
+        Vec::new(alloc),
+        Vec::new(alloc),
+        false,
+    );
+    MemDesk::new(
+        alloc,
+        link,
+        disk,
+        String::new(alloc),
+        Vec::new(alloc),
+        false,
+    )
+}
+
 /// A file of these bytes, with the calls that fail.
-fn disk_of(alloc: Global, bytes: &[u8], fails: Fails) -> Result<MemDisk, NoMemory> {
+fn desk_of(alloc: Global, bytes: &[u8], fails: Fails) -> Result<MemDesk, NoMemory> {
     let first = bytes.to_vec(alloc)?;
     let read_fails = vec![in alloc; fails.read]?;
     let call_fails = vec![in alloc; fails.call]?;
-    Ok(MemDisk::new(alloc, first, read_fails, call_fails))
+    let disk = MemDisk::new(alloc, first, read_fails, call_fails);
+    Ok(desk_over(alloc, disk))
 }
 
 /// Writes what comes of an opening of a file of these bytes, with the calls on it.
-fn tell_outcome(
+fn write_outcome(
     alloc: Global,
     bytes: &[u8],
     fails: Fails,
+    grammar: Grammar,
     said: &mut Said,
 ) -> Result<(), NoMemory> {
-    let mut disk = disk_of(alloc, bytes, fails)?;
-    let opened = KeptLog::open(alloc, &mut disk);
-    tell_opening(&opened, &disk, said)
+    let mut desk = desk_of(alloc, bytes, fails)?;
+    let opened = KeptLog::open(alloc, grammar, &mut desk);
+    write_opening(&opened, &desk, said)
 }
 
 /// What became of a datagram.
@@ -75,13 +99,13 @@ enum Given {
 }
 
 /// Gives a log a datagram.
-fn give(
+fn deliver(
     alloc: Global,
     log: &mut KeptLog,
     datagram: &[u8],
     out: &mut MsgOut,
 ) -> Result<Given, NoMemory> {
-    let Ok(message) = read_msg(datagram) else {
+    let Ok(message) = read_msg_by(log.grammar(), datagram) else {
         return Ok(Given::Refused);
     };
     if log.is_full() {
@@ -96,7 +120,11 @@ impl Bench {
         Bench {
             file: Vec::new(alloc),
             fails: Fails { read: 0, call: 0 },
-            disk: MemDisk::new(alloc, Vec::new(alloc), Vec::new(alloc), Vec::new(alloc)),
+            grammar: Grammar::Plain,
+            desk: desk_over(
+                alloc,
+                MemDisk::new(alloc, Vec::new(alloc), Vec::new(alloc), Vec::new(alloc)),
+            ),
             log: None,
             shown: 0,
         }
@@ -120,6 +148,7 @@ impl Bench {
             "in" => self.take(alloc, rest, said),
             "long" => self.take_long(alloc, rest, said),
             "commit" => self.commit(alloc, said),
+            "compact" => self.compact(alloc, rest, said),
             "death" => self.die(rest, said),
             _ => {
                 self.set_or_tell(word, rest, said);
@@ -140,20 +169,31 @@ impl Bench {
                 }
                 None => said.add(b"no such line"),
             },
+            "profile" => self.set_grammar(rest, said),
             "state" => match &self.log {
-                Some(log) => tell_log(log, said),
+                Some(log) => write_log(log, said),
                 None => said.add(b"no log"),
             },
             "entry" => match (&self.log, rest.parse::<u16>()) {
-                (Some(log), Ok(place)) => tell_kept_entry(log.log(), place, said),
+                (Some(log), Ok(place)) => write_kept_entry(log.log(), place, said),
                 _ => said.add(b"no log"),
             },
             _ => said.add(b"no such line"),
         }
     }
 
+    /// Sets the grammar of the journals that are begun or opened from now on.
+    fn set_grammar(&mut self, profile: &str, said: &mut Said) {
+        self.grammar = match profile {
+            "plain" => Grammar::Plain,
+            "wan" => Grammar::Wide,
+            _ => return said.add(b"no such line"),
+        };
+        write!(said, "profile {profile}");
+    }
+
     /// Says how long the next file is.
-    fn tell_file(&self, said: &mut Said) {
+    fn write_file(&self, said: &mut Said) {
         let len = self.file.len();
         write!(said, "file {len}");
     }
@@ -162,7 +202,7 @@ impl Bench {
         match bytes_of_hex(alloc, text)? {
             Some(file) => {
                 self.file = file;
-                self.tell_file(said);
+                self.write_file(said);
             }
             None => said.add(b"no bytes"),
         }
@@ -177,17 +217,17 @@ impl Bench {
         for _ in 0..count {
             self.file.push((byte % 256) as u8)?;
         }
-        self.tell_file(said);
+        self.write_file(said);
         Ok(())
     }
 
     fn open(&mut self, alloc: Global, said: &mut Said) -> Result<(), NoMemory> {
         said.add(b"open ");
-        let mut disk = disk_of(alloc, &self.file, self.fails)?;
-        let opened = KeptLog::open(alloc, &mut disk);
-        let told = tell_opening(&opened, &disk, said);
-        self.shown = call_count(&disk);
-        self.disk = disk;
+        let mut desk = desk_of(alloc, &self.file, self.fails)?;
+        let opened = KeptLog::open(alloc, self.grammar, &mut desk);
+        let told = write_opening(&opened, &desk, said);
+        self.shown = call_count(&desk);
+        self.desk = desk;
         self.log = opened.ok().map(|(log, _)| log);
         told
     }
@@ -198,11 +238,11 @@ impl Bench {
             return Ok(());
         };
         said.add(b"begin ");
-        let mut disk = disk_of(alloc, &[], self.fails)?;
-        let begun = KeptLog::begin(alloc, &mut disk, made);
-        let told = tell_beginning(&begun, &disk, said);
-        self.shown = call_count(&disk);
-        self.disk = disk;
+        let mut desk = desk_of(alloc, &[], self.fails)?;
+        let begun = KeptLog::begin(alloc, self.grammar, &mut desk, made);
+        let told = write_beginning(&begun, &desk, said);
+        self.shown = call_count(&desk);
+        self.desk = desk;
         self.log = begun.ok();
         told
     }
@@ -211,7 +251,7 @@ impl Bench {
         said.add(b"cuts");
         for len in 0..=self.file.len() {
             write!(said, "\n{len} ");
-            tell_outcome(alloc, &self.file[..len], self.fails, said)?;
+            write_outcome(alloc, &self.file[..len], self.fails, self.grammar, said)?;
         }
         Ok(())
     }
@@ -226,7 +266,7 @@ impl Bench {
                 if let Some(byte) = bytes.get_mut(at) {
                     *byte ^= 1u8.wrapping_shl(u32::from(bit));
                 }
-                tell_outcome(alloc, &bytes, self.fails, said)?;
+                write_outcome(alloc, &bytes, self.fails, self.grammar, said)?;
             }
         }
         Ok(())
@@ -245,7 +285,7 @@ impl Bench {
             }
         };
         let mut out = MsgOut::new();
-        match give(alloc, log, datagram.as_slice(), &mut out)? {
+        match deliver(alloc, log, datagram.as_slice(), &mut out)? {
             Given::Refused => said.add(b"no message"),
             Given::Full => said.add(b"full"),
             Given::Taken => {
@@ -271,7 +311,7 @@ impl Bench {
         let mut out = MsgOut::new();
         for piece in 0..count {
             let datagram = long_data(log.log().boot(), first.wrapping_add(piece));
-            if let Given::Full = give(alloc, log, &datagram, &mut out)? {
+            if let Given::Full = deliver(alloc, log, &datagram, &mut out)? {
                 write!(said, "full behind {piece}");
                 return Ok(());
             }
@@ -285,7 +325,7 @@ impl Bench {
             said.add(b"no log");
             return Ok(());
         };
-        let committed = log.commit(alloc, &mut self.disk);
+        let committed = log.commit(alloc, &mut self.desk);
         if committed.is_err() {
             self.log = None;
         }
@@ -294,9 +334,37 @@ impl Bench {
             Err(KeepEnd::Failed) => said.add(b"failed"),
             Err(KeepEnd::NoMemory) => return Err(NoMemory),
         }
-        tell_calls(&self.disk, self.shown, said);
-        self.shown = call_count(&self.disk);
+        self.write_new_calls(said);
         Ok(())
+    }
+
+    /// Commits, and then puts a new file with the log in the place of the file.
+    fn compact(&mut self, alloc: Global, text: &str, said: &mut Said) -> Result<(), NoMemory> {
+        let (Some(log), Ok(made)) = (&mut self.log, text.parse::<u64>()) else {
+            said.add(b"no log");
+            return Ok(());
+        };
+        let compacted = match log.commit(alloc, &mut self.desk) {
+            Ok(()) => log.compact(alloc, &mut self.desk, made),
+            Err(KeepEnd::Failed) => Err(Failed),
+            Err(KeepEnd::NoMemory) => return Err(NoMemory),
+        };
+        match compacted {
+            Ok(true) => said.add(b"compact"),
+            Ok(false) => said.add(b"stays"),
+            Err(Failed) => {
+                self.log = None;
+                said.add(b"failed");
+            }
+        }
+        self.write_new_calls(said);
+        Ok(())
+    }
+
+    /// Says the calls that weren't printed yet.
+    fn write_new_calls(&mut self, said: &mut Said) {
+        write_calls(&self.desk, self.shown, said);
+        self.shown = call_count(&self.desk);
     }
 
     fn die(&mut self, text: &str, said: &mut Said) -> Result<(), NoMemory> {
@@ -304,7 +372,7 @@ impl Bench {
             said.add(b"no such line");
             return Ok(());
         };
-        self.file = self.disk.after_death(death)?;
+        self.file = self.desk.after_death(death)?;
         self.log = None;
         said.add(b"left ");
         said.brief(&self.file);

@@ -1,7 +1,8 @@
-use Rattle.std.proofs.Common.{ℕ, ◌≡◌, ◌∙◌, ◌<◌, ◌≤◌, ◌-◌, length, take, drop, sym, ap, subst, arith, length-drop}
+use Rattle.std.proofs.Common.{ℕ, ◌≡◌, ◌∙◌, ◌<◌, ◌≤◌, ◌-◌, Ok, length, take, drop, sym, ap, subst, arith, length-drop}
 use Rattle.std.proofs.lemmas.List.{take_rest, length-take-le}
+use Rattle.seq_arith.specs.MessageGrammar.{reading_by}
 use Rattle.logger_wire.specs.Value.{message_of}
-use Rattle.kept_log.proofs.Messages.{Left, left_all, left_less, left_none, left_wrong, whole, not_empty, is_empty, not_both}
+use Rattle.kept_log.proofs.Messages.{Left, left_all, left_less, left_none, left_wrong, whole, not_empty, is_empty}
 use Rattle.kept_log.proofs.body.take_body.Goals as goal
 
 less : (m n k : ℕ) → m ≡ n - k → 16 ≤ k → k ≤ n → m < n
@@ -14,21 +15,30 @@ pub loop-rest-preserved : goal.loop-rest-preserved
 loop-rest-preserved c =
     let rest = c.loop-rest.rest.now in
     let some = not_empty rest c.is_empty.result c.is_empty.ensures c.loop-rest-test.true in
-    let left = left_less c.args.body.now rest c.args.store.now c.loop-rest.store c.in-Some.n (message_of c.in-Ok.m) some c.in-Some.ensures.some.2 (sym c.in-Ok.ensures.value) c.loop-rest.invariant in
-    let next : Left c.args.body.now (drop c.in-Some.n rest) c.args.store.now c.answer.new.self =
-    subst (λ log. Left c.args.body.now (drop c.in-Some.n rest) c.args.store.now log) (sym c.in_ok-answer.ensures.next) left in
-    subst (λ r. Left c.args.body.now r c.args.store.now c.answer.new.self) (sym (take_rest rest c.in-Some.n)) next
+    let read = c.in-Some-read_any.ensures.read in
+    let grammar = c.in-Some-read_any.grammar-is in
+    let m = c.in-Some-read_any.m-is in
+    let reads : reading_by c.in-Some-read_any.grammar (take c.in-Some.n rest) ≡ Ok (message_of c.in-Some-read_any.m) = cc in
+    let left = left_less c.args.body.now rest c.args.store.now c.loop-rest.store c.in-Some.n (message_of c.in-Some-read_any.m) some c.in-Some.ensures.some.2
+    (record { grammar = c.in-Some-read_any.grammar; reads = reads }) c.loop-rest.invariant in
+    let next : Left c.args.body.now (drop c.in-Some.n rest) c.args.store.now c.answer_by.new.self =
+    subst (λ log. Left c.args.body.now (drop c.in-Some.n rest) c.args.store.now log) (sym c.in_ok-answer_by.ensures.next) left in
+    subst (λ r. Left c.args.body.now r c.args.store.now c.answer_by.new.self) (sym (take_rest rest c.in-Some.n)) next
 
-pub returns-in_default-read_msg-clause-wrong : goal.returns-in_default-read_msg-clause-wrong
-returns-in_default-read_msg-clause-wrong c = λ _.
+pub returns-in_default-read_any-clause-wrong : goal.returns-in_default-read_any-clause-wrong
+returns-in_default-read_any-clause-wrong c = λ _.
     let rest = c.loop-rest.rest.now in
     left_wrong c.args.body.now rest c.args.store.now c.loop-rest.store c.in-Some.n (not_empty rest c.is_empty.result c.is_empty.ensures c.loop-rest-test.true) c.in-Some.ensures.some.2
-    (λ message. not_both (take c.in-Some.n rest) c.in_default-read_msg.field-0 message c.in_default-read_msg.ensures.value) c.loop-rest.invariant
+    c.in_default-read_any.ensures.none c.loop-rest.invariant
 
 pub loop-rest-smaller : goal.loop-rest-smaller
 loop-rest-smaller c =
     let rest = c.loop-rest.rest.now in
-    let w = whole (take c.in-Some.n rest) (message_of c.in-Ok.m) (sym c.in-Ok.ensures.value) in
+    let read = c.in-Some-read_any.ensures.read in
+    let grammar = c.in-Some-read_any.grammar-is in
+    let m = c.in-Some-read_any.m-is in
+    let reads : reading_by c.in-Some-read_any.grammar (take c.in-Some.n rest) ≡ Ok (message_of c.in-Some-read_any.m) = cc in
+    let w = whole (take c.in-Some.n rest) (message_of c.in-Some-read_any.m) (record { grammar = c.in-Some-read_any.grammar; reads = reads }) in
     let first : length (take c.in-Some.n rest) ≡ c.in-Some.n = length-take-le c.in-Some.n rest c.in-Some.ensures.some.1 in
     let behind : length (take (length rest - c.in-Some.n) (drop c.in-Some.n rest)) ≡ length rest - c.in-Some.n = ap length (take_rest rest c.in-Some.n) ∙ length-drop c.in-Some.n rest in
     less _ (length rest) c.in-Some.n behind (omega (arith, w.long, first)) c.in-Some.ensures.some.1

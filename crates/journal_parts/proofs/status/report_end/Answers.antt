@@ -3,7 +3,7 @@ use Rattle.std.specs.Io.KnownBytes.{Appends}
 use Rattle.ft_io.specs.Sink.{AppendsFront}
 use Rattle.journal_parts.specs.declared.status.ProcessEnd.TheVariants.{JournalFault, BadJournal, NoJournal, InUse}
 use Rattle.journal_parts.proofs.EndReport.{told_end}
-use Rattle.journal_parts.proofs.status.tell.Goals as goal
+use Rattle.journal_parts.proofs.status.report_end.Goals as goal
 
 pub returns-in-JournalFault-clause-told : goal.returns-in-JournalFault-clause-told
 returns-in-JournalFault-clause-told g c =
