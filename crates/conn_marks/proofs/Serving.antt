@@ -7,6 +7,8 @@ use Rattle.std.proofs.lemmas.List.{map-append, take-append-drop}
 use Rattle.std.proofs.lemmas.Bool.{and_parts}
 use Rattle.ft_io.proofs.Booleans.{and_false}
 use Rattle.ft_io.specs.declared.Key.{Key}
+use Rattle.seq_arith.specs.declared.kinds.Grammar.{Grammar}
+use Rattle.tcp_rules.specs.Profile.{grammar_of}
 use Rattle.ft_io.specs.Key.{key_eq}
 use Rattle.ft_io.proofs.Choices.{by_cases, holds_if, if_false}
 use Rattle.seq_arith.specs.Mark.{Mark}
@@ -24,7 +26,7 @@ use Rattle.ft_model.specs.Opening.{is_syn, point_opened, numbers_for}
 use Rattle.ft_model.specs.Point.{Point}
 use Rattle.ft_model.specs.Refusal.{as_listen}
 use Rattle.ft_model.specs.ServingTurn.{PlaceTurn, ServingTurn, concerns, newcomers, refusals, opens_at, is_strange}
-use Rattle.ft_model.specs.Wire.{Wire, wire_of, HasWire}
+use Rattle.ft_model.specs.Wire.{Wire, wire_by, HasWireBy}
 use Rattle.ft_model.specs.Keys.{AreDistinct, has_key}
 use Rattle.ft_model.proofs.Distinct.{KeepsKey, keeps_key, no_key_after, distinct_goes_on}
 use Rattle.ft_model.proofs.Keys.{key_eq_turns, finds_itself, all_from_get, found_has_key, absent_key}
@@ -91,19 +93,19 @@ quiet_noise node (Lives p ∷ places) = quiet_noise node places
 quiet_noise node (Ended k ∷ places) = quiet_noise node places
 
 -- newcomers aren't live
-new_rests : {State : Type 0} (by : Marker State) (node : Node) (input : Input) (boot : ℕ) (key : Key) (opened : ℕ) (places : List Place) (was now : KeyMarks) (old new : List Wire)
-    → MarksPlace by boot key 0 (place_at key (newcomers node input opened places)) was now old new → (now ≡ was) × (new ≡ old)
-new_rests by node (Message_comes message) boot key opened places was now old new m = m
-new_rests by node Noise_comes boot key opened places was now old new m = m
-new_rests by node Tick_comes boot key opened places was now old new m = m
-new_rests by node (Packet_comes segment) boot key opened places was now old new m =
+new_rests : {State : Type 0} (by : Marker State) (grammar : Grammar) (node : Node) (input : Input) (boot : ℕ) (key : Key) (opened : ℕ) (places : List Place) (was now : KeyMarks) (old new : List Wire)
+    → MarksPlace by grammar boot key 0 (place_at key (newcomers node input opened places)) was now old new → (now ≡ was) × (new ≡ old)
+new_rests by grammar node (Message_comes message) boot key opened places was now old new m = m
+new_rests by grammar node Noise_comes boot key opened places was now old new m = m
+new_rests by grammar node Tick_comes boot key opened places was now old new m = m
+new_rests by grammar node (Packet_comes segment) boot key opened places was now old new m =
     go (is_strange node segment places && is_syn segment && nat_lt (pending_count places) 64) m
   where
-    one : (b : Bool) → MarksPlace by boot key 0 (if b then Some (Opens (numbers_for node.isn opened segment)) else None) was now old new → (now ≡ was) × (new ≡ old)
+    one : (b : Bool) → MarksPlace by grammar boot key 0 (if b then Some (Opens (numbers_for node.isn opened segment)) else None) was now old new → (now ≡ was) × (new ≡ old)
     one true m = m
     one false m = m
 
-    go : (b : Bool) → MarksPlace by boot key 0 (place_at key (if b then Opens (numbers_for node.isn opened segment) ∷ [] else [])) was now old new → (now ≡ was) × (new ≡ old)
+    go : (b : Bool) → MarksPlace by grammar boot key 0 (place_at key (if b then Opens (numbers_for node.isn opened segment) ∷ [] else [])) was now old new → (now ≡ was) × (new ≡ old)
     go true m = one (key_eq (key_of (Opens (numbers_for node.isn opened segment))) key) m
     go false m = m
 
@@ -139,7 +141,7 @@ pub record ServedMarked {State : Type 0} (by : Marker State) (node : MarkedNode)
   pub turn : ServesMarked by node input opened before later marking sent
   pub keeps : Keeps by marking now
   pub settled : AllSettled by marking later
-  pub out : AreOut sent [] new
+  pub out : AreOut (grammar_of node.plain.profile) sent [] new
 
 module _ {State : Type 0} (by : Marker State) (node : MarkedNode) (input : Input) (key : Key) (only : (k : Key) → key_eq key k ≡ false → concerns node.plain input k ≡ false)
     (still : is_tick_input input ≡ false) (bytes : InputBytes input) where
@@ -250,12 +252,12 @@ module _ {State : Type 0} (by : Marker State) (node : MarkedNode) (input : Input
       packets = refl;
     }
 
-    plain_all : (mid new : List Wire) → mid ≡ map wire_of packets → AllByRecursion HasWire packets → new ≡ mid
-        → AreOut (with_marks (length (filter is_done t.by_places)) [] t.by_places ++ map Plain (refusals node.plain input before ++ flat_map (opens_at node.plain input) later)) [] new
+    plain_all : (mid new : List Wire) → mid ≡ map (wire_by (grammar_of node.plain.profile)) packets → AllByRecursion (HasWireBy (grammar_of node.plain.profile)) packets → new ≡ mid
+        → AreOut (grammar_of node.plain.profile) (with_marks (length (filter is_done t.by_places)) [] t.by_places ++ map Plain (refusals node.plain input before ++ flat_map (opens_at node.plain input) later)) [] new
     plain_all mid new sent_is spelled same =
-        subst (λ l. AreOut l [] new)
+        subst (λ l. AreOut (grammar_of node.plain.profile) l [] new)
         (ap (map Plain) t.packets ∙ (map-append Plain t.by_places rest ∙ ap (λ l. l ++ map Plain rest) (sym (plain_map (length (filter is_done t.by_places)) t.by_places))))
-        (plain_out packets [] new (same ∙ sent_is) spelled)
+        (plain_out (grammar_of node.plain.profile) packets [] new (same ∙ sent_is) spelled)
 
     marks_of_key : flat_map marks_in t.went ≡ option_map_or marks_in (place_at key t.went) []
     marks_of_key = marks_are by node.plain input (λ x. marks_at by node.plain.boot (is_tick_input input) node.marking x) key only t.went went_apart
@@ -305,34 +307,34 @@ module _ {State : Type 0} (by : Marker State) (node : MarkedNode) (input : Input
               ∙ sym (new_same by (node.marking key) q
               (subst (λ x. is_due by.service by.every (node.marking x) q ≡ false) key_is (not_due (ap (concerns node.plain input) key_is ∙ off)))))
 
-      live_out : (was now : KeyMarks) (mid new : List Wire) → mid ≡ map wire_of packets → AllByRecursion HasWire packets → Keeps by node.marking was → MarksNew by node.plain.boot key q was now 0 mid new
-          → AreOut (with_marks (length (filter is_done t.by_places)) (marks_out node.plain.boot q its_marks) t.by_places ++ map Plain rest) [] new
+      live_out : (was now : KeyMarks) (mid new : List Wire) → mid ≡ map (wire_by (grammar_of node.plain.profile)) packets → AllByRecursion (HasWireBy (grammar_of node.plain.profile)) packets → Keeps by node.marking was → MarksNew by (grammar_of node.plain.profile) node.plain.boot key q was now 0 mid new
+          → AreOut (grammar_of node.plain.profile) (with_marks (length (filter is_done t.by_places)) (marks_out node.plain.boot q its_marks) t.by_places ++ map Plain rest) [] new
       live_out was now mid new sent_is spelled keeps m =
           let marking_is : marking_in was key ≡ node.marking q.key = keeps.each key ∙ ap node.marking (sym key_is) in
-          let sends : SendsMarks node.plain.boot key 0 its_marks mid new =
-          subst (λ x. SendsMarks node.plain.boot key 0 (new_marks by.service by.writing by.every x q) mid new) marking_is m.sends in
+          let sends : SendsMarks (grammar_of node.plain.profile) node.plain.boot key 0 its_marks mid new =
+          subst (λ x. SendsMarks (grammar_of node.plain.profile) node.plain.boot key 0 (new_marks by.service by.writing by.every x q) mid new) marking_is m.sends in
           by_cases (concerns node.plain input key)
           (λ on.
           let none : rest ≡ [] =
           rest_none node.plain input key opened before t.went later q still on went_apart t.places
           (λ absent. no_key_after (PlaceTurn by.service node.plain input) keeping key before t.went t.by_places t.all_go absent) f in
           let all : packets ≡ t.by_places = t.packets ∙ (ap (λ l. t.by_places ++ l) none ∙ append-nil t.by_places) in
-          subst (λ l. AreOut l [] new)
+          subst (λ l. AreOut (grammar_of node.plain.profile) l [] new)
           (sym (ap (λ l. with_marks (length (filter is_done t.by_places)) (marks_out node.plain.boot q its_marks) t.by_places ++ map Plain l) none ∙ append-nil _))
-          (put_out node.plain.boot key q its_marks t.by_places [] mid new key_is (sent_is ∙ ap (map wire_of) all) (subst (AllByRecursion HasWire) all spelled) sends))
+          (put_out (grammar_of node.plain.profile) node.plain.boot key q its_marks t.by_places [] mid new key_is (sent_is ∙ ap (map (wire_by (grammar_of node.plain.profile))) all) (subst (AllByRecursion (HasWireBy (grammar_of node.plain.profile))) all spelled) sends))
           (λ off.
           let nothing : its_marks ≡ [] = new_none by (node.marking q.key) q (not_due (ap (concerns node.plain input) key_is ∙ off)) in
-          subst (λ ms. AreOut (with_marks (length (filter is_done t.by_places)) (marks_out node.plain.boot q ms) t.by_places ++ map Plain rest) [] new) (sym nothing)
-          (plainly mid new sent_is spelled (unmarked mid new (subst (λ ms. SendsMarks node.plain.boot key 0 ms mid new) nothing sends))))
+          subst (λ ms. AreOut (grammar_of node.plain.profile) (with_marks (length (filter is_done t.by_places)) (marks_out node.plain.boot q ms) t.by_places ++ map Plain rest) [] new) (sym nothing)
+          (plainly mid new sent_is spelled (unmarked mid new (subst (λ ms. SendsMarks (grammar_of node.plain.profile) node.plain.boot key 0 ms mid new) nothing sends))))
         where
-          unmarked : (mid new : List Wire) → SendsMarks node.plain.boot key 0 [] mid new → new ≡ mid
+          unmarked : (mid new : List Wire) → SendsMarks (grammar_of node.plain.profile) node.plain.boot key 0 [] mid new → new ≡ mid
           unmarked mid new s = s.wires ∙ take-append-drop _ mid
 
-          plainly : (mid new : List Wire) → mid ≡ map wire_of packets → AllByRecursion HasWire packets → new ≡ mid
-              → AreOut (with_marks (length (filter is_done t.by_places)) [] t.by_places ++ map Plain rest) [] new
+          plainly : (mid new : List Wire) → mid ≡ map (wire_by (grammar_of node.plain.profile)) packets → AllByRecursion (HasWireBy (grammar_of node.plain.profile)) packets → new ≡ mid
+              → AreOut (grammar_of node.plain.profile) (with_marks (length (filter is_done t.by_places)) [] t.by_places ++ map Plain rest) [] new
           plainly mid new sent_is spelled same = plain_all mid new sent_is spelled same
 
-      serves_live : (was now : KeyMarks) (mid new : List Wire) → mid ≡ map wire_of packets → AllByRecursion HasWire packets → Keeps by node.marking was → MarksNew by node.plain.boot key q was now 0 mid new
+      serves_live : (was now : KeyMarks) (mid new : List Wire) → mid ≡ map (wire_by (grammar_of node.plain.profile)) packets → AllByRecursion (HasWireBy (grammar_of node.plain.profile)) packets → Keeps by node.marking was → MarksNew by (grammar_of node.plain.profile) node.plain.boot key q was now 0 mid new
           → ServedMarked by node input opened before later now new
       serves_live was now mid new sent_is spelled keeps m = record {
         marking = then_in t.went;
@@ -348,7 +350,7 @@ module _ {State : Type 0} (by : Marker State) (node : MarkedNode) (input : Input
       }
 
     -- where it isn't
-    serves_quiet : (was now : KeyMarks) (mid new : List Wire) → mid ≡ map wire_of packets → AllByRecursion HasWire packets → Keeps by node.marking was → flat_map marks_in t.went ≡ []
+    serves_quiet : (was now : KeyMarks) (mid new : List Wire) → mid ≡ map (wire_by (grammar_of node.plain.profile)) packets → AllByRecursion (HasWireBy (grammar_of node.plain.profile)) packets → Keeps by node.marking was → flat_map marks_in t.went ≡ []
         → ((k : Key) → then_in t.went k ≡ node.marking k) → (now ≡ was) × (new ≡ mid) → ServedMarked by node input opened before later now new
     serves_quiet was now mid new sent_is spelled keeps dead same (unchanged, unsent) = record {
       marking = then_in t.went;
@@ -370,8 +372,8 @@ module _ {State : Type 0} (by : Marker State) (node : MarkedNode) (input : Input
         ∙ ap node.marking (sym (same_key k key at))))
         (λ other. if_false (concerns node.plain input k) (marking_then by (place_at k t.went) (node.marking k)) (node.marking k) (only k (key_eq_turns k key other)))
 
-    pub serves_one : (was now : KeyMarks) (mid new : List Wire) → mid ≡ map wire_of packets → AllByRecursion HasWire packets → Keeps by node.marking was
-        → MarksPlace by node.plain.boot key 0 (place_at key later) was now mid new → ServedMarked by node input opened before later now new
+    pub serves_one : (was now : KeyMarks) (mid new : List Wire) → mid ≡ map (wire_by (grammar_of node.plain.profile)) packets → AllByRecursion (HasWireBy (grammar_of node.plain.profile)) packets → Keeps by node.marking was
+        → MarksPlace by (grammar_of node.plain.profile) node.plain.boot key 0 (place_at key later) was now mid new → ServedMarked by node input opened before later now new
     serves_one was now mid new sent_is spelled keeps m = go (place_at key t.went) refl
       where
         later_at : (o : Option Place) → place_at key t.went ≡ o → place_at key later ≡ place_at key (t.went ++ newcomers node.plain input opened before)
@@ -384,14 +386,14 @@ module _ {State : Type 0} (by : Marker State) (node : MarkedNode) (input : Input
         go : (o : Option Place) → place_at key t.went ≡ o → ServedMarked by node input opened before later now new
         go (Some (Lives q)) e =
             serves_live q e was now mid new sent_is spelled keeps
-            (subst (λ o. MarksPlace by node.plain.boot key 0 o was now mid new) (later_at (Some (Lives q)) e ∙ found_in key t.went (newcomers node.plain input opened before) (Lives q) e) m (taken_bytes q e))
+            (subst (λ o. MarksPlace by (grammar_of node.plain.profile) node.plain.boot key 0 o was now mid new) (later_at (Some (Lives q)) e ∙ found_in key t.went (newcomers node.plain input opened before) (Lives q) e) m (taken_bytes q e))
         go (Some (Opens n)) e =
             serves_quiet was now mid new sent_is spelled keeps (dead_place (Opens n) refl e) (quiet_then (λ x. ap (λ o. marking_then by o x) e))
-            (subst (λ o. MarksPlace by node.plain.boot key 0 o was now mid new) (later_at (Some (Opens n)) e ∙ found_in key t.went (newcomers node.plain input opened before) (Opens n) e) m)
+            (subst (λ o. MarksPlace by (grammar_of node.plain.profile) node.plain.boot key 0 o was now mid new) (later_at (Some (Opens n)) e ∙ found_in key t.went (newcomers node.plain input opened before) (Opens n) e) m)
         go (Some (Ended k)) e =
             serves_quiet was now mid new sent_is spelled keeps (dead_place (Ended k) refl e) (quiet_then (λ x. ap (λ o. marking_then by o x) e))
-            (subst (λ o. MarksPlace by node.plain.boot key 0 o was now mid new) (later_at (Some (Ended k)) e ∙ found_in key t.went (newcomers node.plain input opened before) (Ended k) e) m)
+            (subst (λ o. MarksPlace by (grammar_of node.plain.profile) node.plain.boot key 0 o was now mid new) (later_at (Some (Ended k)) e ∙ found_in key t.went (newcomers node.plain input opened before) (Ended k) e) m)
         go None e =
             serves_quiet was now mid new sent_is spelled keeps (marks_of_key ∙ ap (λ o. option_map_or marks_in o []) e) (quiet_then (λ x. ap (λ o. marking_then by o x) e))
-            (new_rests by node.plain input node.plain.boot key opened before was now mid new
-            (subst (λ o. MarksPlace by node.plain.boot key 0 o was now mid new) (later_at None e ∙ found_behind key t.went (newcomers node.plain input opened before) e) m))
+            (new_rests by (grammar_of node.plain.profile) node.plain input node.plain.boot key opened before was now mid new
+            (subst (λ o. MarksPlace by (grammar_of node.plain.profile) node.plain.boot key 0 o was now mid new) (later_at None e ∙ found_behind key t.went (newcomers node.plain input opened before) e) m))

@@ -2,6 +2,7 @@
 use Rattle.std.specs.Prelude.{◌≡◌, ℕ, ◌<◌, Option, Some, IfSome, List}
 use Rattle.std.specs.List.{AllByRecursion}
 use Rattle.ft_io.specs.declared.Key.{Key}
+use Rattle.seq_arith.specs.declared.kinds.Grammar.{Grammar}
 use Rattle.tcp_rules.specs.Coming.{Early}
 use Rattle.server_trait.specs.Service.{AreBytes}
 use Rattle.ft_model.specs.Node.{Place}
@@ -36,11 +37,13 @@ abbrev pub AllSettled : {S : Type 0} → Marker S → (Key → Marking) → List
 AllSettled by marking places = AllByRecursion (IsSettledPlace by marking) places
 
 -- after a turn that leads to a point, the mark of its key is made and sent, if one is due
-pub record MarksNew {S : Type 0} (by : Marker S) (boot : ℕ) (key : Key) (p : Point) (was now : KeyMarks) (from : ℕ) (old new : List Wire) : Type 0 where
+pub record MarksNew {S : Type 0} (by : Marker S) (grammar : Grammar) (boot : ℕ) (key : Key) (p : Point) (was now : KeyMarks) (from : ℕ)
+    (old new : List Wire) : Type 0 where
   pub changes : Changes key (with_new by.service by.writing by.every p (marking_in was key)) was now
-  pub sends : SendsMarks boot key from (new_marks by.service by.writing by.every (marking_in was key) p) old new
+  pub sends : SendsMarks grammar boot key from (new_marks by.service by.writing by.every (marking_in was key) p) old new
 
 -- after a turn: if the key is then live, its mark is made and sent, if one is due; otherwise nothing changes
-abbrev pub MarksPlace : {S : Type 0} → Marker S → (boot : ℕ) → Key → (from : ℕ) → Option Place → (was now : KeyMarks) → (old new : List Wire) → Type 0
-MarksPlace by boot key from (Some (Lives p)) was now old new = AreBytes p.taken → MarksNew by boot key p was now from old new
-MarksPlace by boot key from _ was now old new = (now ≡ was) × (new ≡ old)
+abbrev pub MarksPlace : {S : Type 0} → Marker S → Grammar → (boot : ℕ) → Key → (from : ℕ) → Option Place → (was now : KeyMarks) → (old new : List Wire)
+    → Type 0
+MarksPlace by grammar boot key from (Some (Lives p)) was now old new = AreBytes p.taken → MarksNew by grammar boot key p was now from old new
+MarksPlace by grammar boot key from _ was now old new = (now ≡ was) × (new ≡ old)

@@ -1,5 +1,5 @@
-//! Wrong results that the contracts of this crate exclude. Each function calls another one of the crate, and promises of its result what a wrong body would make
-//! false. It is proved from the other's contract alone, so it is no longer proved once that contract lets the wrong body pass.
+//! Wrong results that the contracts of this crate exclude. Each function calls another one of the crate, and promises of its result what a wrong body would
+//! make false. It is proved from the other's contract alone, so it is no longer proved once that contract lets the wrong body pass.
 
 ghost use Rattle.std.specs.Prelude.{◌≡◌, ◌<◌, ◌+◌, true, false, None, Some, IfOk, IfSome, length, option_map};
 ghost use Rattle.wrapped_conn.specs.Sound.{IsSound};
@@ -22,12 +22,12 @@ fn adds_the_state_to_the_last_one<S: Saved>(
     marking.advance(every, conn)
 }
 
-/// An answer with fewer reads than the outstanding mark leaves that mark outstanding: the contract of `Marking::hear`.
+/// An answer with fewer reads than the outstanding mark leaves that mark outstanding: the contract of `Marking::receive`.
 fn an_older_answer_ends_the_mark(marking: &mut Marking, reads: u32)
     requires { IfSome marking.old.outstanding (λ mark. reads < mark.reads) }
     ensures { marking.new.outstanding ≡ marking.old.outstanding }
 {
-    marking.hear(reads);
+    marking.receive(reads);
 }
 
 /// No mark is due before `every` reads were made after the last one, however many were made in all: the contract of `Marking::due`.

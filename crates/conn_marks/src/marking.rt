@@ -66,8 +66,9 @@ impl Marking {
         ensures made { IfOk result (λ made. made ≡ is_made (due_in every self.old conn.now) (S.form conn.now.north.run.service)) }
         ensures err { OnErr result (self.new ≡ self.old) }
         // At a point of the model, these are the mark and the time of the law.
-        ensures law { IfOk result (λ made. (0 < every → S.is_savable ≡ true) → (kind : ℕ) (p : Point) → Stands (machine (S.started kind) S.after) conn.now p → AreBytes p.taken
-            → self.new ≡ with_new (machine (S.started kind) S.after) (writing S.form (S.state_of kind)) every p self.old) }
+        ensures law { IfOk result (λ made. (0 < every → S.is_savable ≡ true) → (kind : ℕ) (p : Point)
+            → Stands (machine (S.started kind) S.after S.greeting) conn.now p → AreBytes p.taken
+            → self.new ≡ with_new (machine (S.started kind) S.after S.greeting) (writing S.form (S.state_of kind)) every p self.old) }
     {
         self.make(every, conn)
     }
@@ -104,7 +105,7 @@ impl Marking {
     }
 
     /// Takes a Marked of this incarnation with this many reads. It answers the outstanding mark, if that has no more reads.
-    pub fn hear(&mut self, reads: u32)
+    pub fn receive(&mut self, reads: u32)
         ensures { self.new ≡ marking_answered reads self.old }
     {
         if let Some(quiet) = self.outstanding

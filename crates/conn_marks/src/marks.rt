@@ -72,8 +72,10 @@ impl Marks {
     ) -> Result<(), NoMemory>
         requires { IsSound conn.now }
         ensures others { OnOk result (KeepsOthers key self.old self.new) }
-        ensures law { OnOk result ((0 < self.old.every → S.is_savable ≡ true) → (kind : ℕ) (p : Point) → Stands (machine (S.started kind) S.after) conn.now p → AreBytes p.taken
-            → Changes key (with_new (machine (S.started kind) S.after) (writing S.form (S.state_of kind)) self.old.every p (marking_in self.old key)) self.old self.new) }
+        ensures law { OnOk result ((0 < self.old.every → S.is_savable ≡ true) → (kind : ℕ) (p : Point)
+            → Stands (machine (S.started kind) S.after S.greeting) conn.now p → AreBytes p.taken
+            → Changes key (with_new (machine (S.started kind) S.after S.greeting) (writing S.form (S.state_of kind)) self.old.every p
+            (marking_in self.old key)) self.old self.new) }
     {
         if let Some(marking) = self.of.get_mut(&key) {
             marking.advance(self.every, conn)?;
@@ -86,11 +88,11 @@ impl Marks {
     }
 
     /// Takes a Marked of this incarnation, about this connection and with this many reads.
-    pub fn hear(&mut self, key: Key, reads: u32)
+    pub fn receive(&mut self, key: Key, reads: u32)
         ensures { Changes key (marking_answered reads (marking_in self.old key)) self.old self.new }
     {
         if let Some(marking) = self.of.get_mut(&key) {
-            marking.hear(reads);
+            marking.receive(reads);
         }
     }
 

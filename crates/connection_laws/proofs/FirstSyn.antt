@@ -74,6 +74,7 @@ begun_is service profile server boot numbers q sent l =
       syn_acked = l.syn_acked j;
       timing = timing_is j;
       delays = l.same.delays j;
+      batches = l.same.batches j;
       interval = (l.interval ∙ ap (λ t. t.base) timing_is) j;
       rest = rest_is j;
       end_ticks = l.end_ticks j;

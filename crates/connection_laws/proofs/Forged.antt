@@ -25,7 +25,7 @@ use Rattle.endpoint_laws.proofs.FirstPoint.{none_more}
 
 -- a service that writes nothing
 abbrev pub silent : Machine ℕ
-silent = record { fresh = 0; after = λ state chunk. record { next = 0; output = []; closed = false } }
+silent = record { fresh = 0; greeting = []; after = λ state chunk. record { next = 0; output = []; closed = false } }
 
 pub record IsForged (p : Point) (segment : Segment) (fin : Bool) : Type 0 where
   pub ack : has_ack segment ≡ true
@@ -208,7 +208,7 @@ forged_laws p segment fin f s few =
     (λ j. nat_lt (f.sent j) (max (f.sent j) (min (target silent (after_forged fin p)) (min (f.edge j) (f.una j + p.congestion.cwnd)))))
     ∙ ap (nat_lt 0) (none_at_once (target silent (after_forged fin p)) p.congestion.cwnd) in
     record {
-      same = record { key = refl; cisn = refl; sisn = refl; mss = refl; fetched = refl; fetched_output = refl; delays = refl };
+      same = record { key = refl; cisn = refl; sisn = refl; mss = refl; fetched = refl; fetched_output = refl; delays = refl; batches = refl };
       taken = sym (ap (λ x. p.taken ++ x.added) k ∙ append-nil p.taken);
       fin = sym (ap (λ x. x.fin) k);
       early = f.early ∙ sym (ap (λ x. x.early) k);

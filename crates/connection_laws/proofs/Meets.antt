@@ -31,6 +31,8 @@ use Rattle.connection_laws.proofs.Swallowed.{inside_target}
 use Rattle.connection_laws.proofs.Lowered.{LowersAt, lowers, moves, una_inside, moves_inside, edge_inside, wl2_inside, counts_inside, unsent_inside}
 use Rattle.connection_laws.proofs.Duplicates.{duplicates, duplicates_inside, flight_inside, congestion_inside, partial_inside}
 use Rattle.ft_io.proofs.Booleans.{or_false}
+use Rattle.endpoint_laws.proofs.Timings.{itself_less}
+use Rattle.endpoint_laws.proofs.Arrivals.{rises}
 
 -- the fields of a point that an arriving segment moves
 pub record Moves (news : News) (p : Point) (u i : ℕ) (inner : News) : Type 0 where
@@ -70,10 +72,6 @@ came_is u i delta p segment g l =
 both_less : (u a b : ℕ) → u ≤ a → a ≤ b → (b - u) - (a - u) ≡ b - a
 both_less u a b h k = omega (arith, h, k)
 
-una_risen : (c : Bool) (una ack : ℕ) → una ≤ (if c then una_after una ack else una)
-una_risen true una ack = grind arith
-una_risen false una ack = omega arith
-
 comes_inside : (u i delta : ℕ) (p : Point) (segment : Segment) → GoesOn u i delta p → LowersAt u i delta p segment
     → Moves (Comes segment) p u i (Comes (inward (south_at delta p) segment))
 unfolding taken_after early_after fin_after syn_acked_after acknowledged_after edge_after wl1_after wl2_after is_duplicate is_third_duplicate is_partial_ack congestion_after timing_noted
@@ -99,7 +97,7 @@ comes_inside u i delta p segment g l =
     ∙ partial_inside u p.una p.sent (most p) (counts p segment) ack (ack_of i inner) p.congestion g.una g.order l in
     let again : resends (Comes inner) (inside u i p) ≡ resends (Comes segment) p = λ j. third j || part j in
     let risen : p.una ≤ (if counts p segment && int_le (pos 0) ack then una_after p.una (acknowledged_by p segment) else p.una) =
-    una_risen (counts p segment && int_le (pos 0) ack) p.una (acknowledged_by p segment) in
+    rises (counts p segment && int_le (pos 0) ack) p.una (acknowledged_by p segment) in
     let once_less_una : ((if counts p segment && int_le (pos 0) ack then una_after p.una (acknowledged_by p segment) else p.una) - u) - (p.una - u)
     ≡ (if counts p segment && int_le (pos 0) ack then una_after p.una (acknowledged_by p segment) else p.una) - p.una = both_less u p.una _ g.una risen in
     let m : moves (counts (inside u i p) inner) p.syn_acked (p.una - u) p.wl1 (p.wl2 - u) first (ack_of i inner) (p.sent - u)
@@ -133,9 +131,6 @@ comes_inside u i delta p segment g l =
 none_of : (a r c d e : Bool) → (a && false && r && c && d && e) ≡ false
 none_of true r c d e = refl
 none_of false r c d e = refl
-
-none_left : (n : ℕ) → n - n ≡ 0
-none_left n = omega arith
 
 -- what a SYN changes: nothing
 pub nothing_counts : (p : Point) (segment : Segment) → has_syn segment ≡ true → counts p segment ≡ false
@@ -177,7 +172,7 @@ stays_inside u i p segment keeps c =
       expires = refl;
       ticks = refl;
       noted = sym ((λ j. if again j then without_trip (with_acknowledged (still j - p.una) p.timing) else with_acknowledged (still j - p.una) p.timing)
-          ∙ ap (λ n. with_acknowledged n p.timing) (none_left p.una) ∙ acknowledged_none p.timing keeps);
+          ∙ ap (λ n. with_acknowledged n p.timing) (itself_less p.una) ∙ acknowledged_none p.timing keeps);
     }
 
 pub is_syn_has : (syn ack rst a b c : Bool) → ((syn && not ack && not rst) && a && b && c) ≡ true → syn ≡ true
@@ -346,7 +341,7 @@ laws_inside service server boot u i delta news p q sent g f above given l =
     let ticks : interval_after inner (inside u i p) (inside u i q) ≡ interval_after news p q =
     λ j. if anew j then q.timing.base else (if m.expires j then min 64 (2 * p.interval) else p.interval) in
     record {
-      same = record { key = l.same.key; cisn = l.same.cisn; sisn = refl; mss = l.same.mss; fetched = l.same.fetched; fetched_output = refl; delays = refl };
+      same = record { key = l.same.key; cisn = l.same.cisn; sisn = refl; mss = l.same.mss; fetched = l.same.fetched; fetched_output = refl; delays = refl; batches = refl };
       taken = l.taken ∙ sym m.taken;
       fin = l.fin ∙ sym m.fin;
       early = l.early ∙ sym m.early;

@@ -27,6 +27,7 @@ use Rattle.endpoint_laws.specs.Turn.{IsBetweenTurns, turned}
 use Rattle.endpoint_laws.specs.ConnectionEnd.{IsNamedRightly}
 use Rattle.endpoint_laws.specs.Refinement.{StandsAt, IsUsedAt, LeadsTo, BeginsAt, numbers_with, point_begun}
 use Rattle.endpoint_laws.proofs.SendingLaw.{sending_law}
+use Rattle.endpoint_laws.proofs.Timings.{itself_less}
 use Rattle.endpoint_laws.proofs.Arrivals.{Arrived, arrives}
 use Rattle.endpoint_laws.proofs.EndingLaw.{named_law, ending_law, begun_named_law, flushed_name}
 use Rattle.endpoint_laws.proofs.TurnEnd.{flush_keeps}
@@ -225,9 +226,6 @@ whole service measures local e i false g few = ack_turn service measures local e
 pub size_stays : (mss : ℕ) → 64 ≤ mss → mss ≤ 1460 → mss ≡ max 64 (min 1460 mss)
 size_stays mss a b = omega (arith, a, b)
 
-less_self : (u : ℕ) → u - u ≡ 0
-less_self u = omega arith
-
 cut_read : (f s r : ℕ) → s ≤ f → max f 0 ≡ r + f → max f s ≡ r + f
 cut_read f s r a b = omega (arith, a, b)
 
@@ -252,13 +250,13 @@ at_entry service profile local e i t g st =
         sisn = st.sends.sisn;
         mss = size_stays e.mss g.least g.most ∙ st.sends.mss;
         syn_acked = st.sends.syn_acked;
-        una = less_self u ∙ st.sends.una;
-        edge = less_self u ∙ st.sends.edge;
+        una = itself_less u ∙ st.sends.una;
+        edge = itself_less u ∙ st.sends.edge;
         wl1 = st.sends.wl1;
-        wl2 = less_self u ∙ st.sends.wl2;
+        wl2 = itself_less u ∙ st.sends.wl2;
         congestion = ap (initial_congestion profile.measures) (size_stays e.mss g.least g.most) ∙ st.sends.congestion;
       };
-      sent = less_self u ∙ st.sent;
+      sent = itself_less u ∙ st.sent;
       fetched_output = refl;
       interval = st.interval;
       rest = st.rest;
@@ -317,7 +315,7 @@ splices service profile local e i g =
     let at = at_entry service profile local e i tcb g t.stands in
     record {
       tcp = record { stands = record { begun = t.begun; between = t.between; stands = at; goes_on = goes_on_from service profile e i g }; named = t.named };
-      feeds = fed_nothing service profile local e i tcb t.between t.idle (sym (less_self (resumed_at service e)) ∙ at.sends.una);
+      feeds = fed_nothing service profile local e i tcb t.between t.idle (sym (itself_less (resumed_at service e)) ∙ at.sends.una);
       kept = t.kept;
       open_still = t.idle.closed;
     }

@@ -31,7 +31,7 @@ folded_runs service u run (chunk ∷ chunks) =
     ∙ folded_runs service u (fed service run chunk) chunks
 
 begun_runs : {State : Type 0} (service : Machine State) (u : ℕ) → begun (swallowing u service) ≡ swallowed_run u (begun service)
-begun_runs service u = let e : u ≡ u - 0 = omega arith in λ j. record { state = (service.fresh, e j); output = sym (drop_nothing u) j; closed = false }
+begun_runs service u = refl
 
 reference_runs : {State : Type 0} (service : Machine State) (u : ℕ) (bytes lengths : List ℕ)
     → reference (swallowing u service) bytes lengths ≡ swallowed_run u (reference service bytes lengths)

@@ -68,7 +68,7 @@ pub goes : {S : Type 0} (service : Machine S) (server : Addr) (boot : ℕ) (news
     → LiveTurn service server boot news p (settled service news p (p.lengths ++ ks)) (sent_by service server boot news p (settled service news p (p.lengths ++ ks)))
 unfolding sent_after sent_at_once timing_noted timing_after interval_after rest_after must_run end_ticks_after
 goes service server boot news p ks makes = record {
-  same = record { key = refl; cisn = refl; sisn = refl; mss = refl; fetched = refl; fetched_output = refl; delays = refl };
+  same = record { key = refl; cisn = refl; sisn = refl; mss = refl; fetched = refl; fetched_output = refl; delays = refl; batches = refl };
   taken = refl;
   fin = refl;
   early = refl;

@@ -33,7 +33,8 @@ listens_with measures local numbers = listening_measuring measures local numbers
 
 -- output begins at its start, with the initial sequence number that the client knows. What is sent, as the client receives it, is what the law says, and the
 -- connection adds nothing
-pub record BeginsInside {State : Type 0} (service : Machine State) (profile : Profile) (local : Addr) (numbers : Numbers) (q : Point) (calls : List Call) : Type 0 where
+pub record BeginsInside {State : Type 0} (service : Machine State) (profile : Profile) (local : Addr) (numbers : Numbers) (q : Point)
+    (calls : List Call) : Type 0 where
   pub stands : StandsInside 0 numbers.sisn 0 q (turned (Comes (opened_syn local numbers)) calls (listens_with profile.measures local numbers))
   pub named : IsNamedRightly (turned (Comes (opened_syn local numbers)) calls (listens_with profile.measures local numbers))
   pub segments : passed 0 q (sent_in (Comes (opened_syn local numbers)) calls (listens_with profile.measures local numbers))

@@ -14,7 +14,11 @@ swallowed left served = record { next = (served.next, left - length served.outpu
 
 -- a service whose first bytes of output are swallowed
 abbrev pub swallowing : {State : Type 0} → ℕ → Machine State → Machine (State × ℕ)
-swallowing u service = record { fresh = (service.fresh, u); after = λ state chunk. swallowed state.1 (service.after state.0 chunk) }
+swallowing u service = record {
+  fresh = (service.fresh, u - length service.greeting);
+  greeting = drop u service.greeting;
+  after = λ state chunk. swallowed state.1 (service.after state.0 chunk);
+}
 
 -- a run without the first bytes of its output
 abbrev pub swallowed_run : {State : Type 0} → ℕ → Run State → Run (State × ℕ)
@@ -24,7 +28,17 @@ swallowed_run u run = record { state = (run.state, u - length run.output); outpu
 -- delays no ACK. It knows of no earlier incarnation either
 abbrev pub inside : (u i : ℕ) → Point → Point
 inside u i p =
-    record p { sisn = i; fetched_output = 0; answered = taken_units p; una = p.una - u; sent = p.sent - u; edge = p.edge - u; wl2 = p.wl2 - u; delays = false }
+    record p {
+      sisn = i;
+      fetched_output = 0;
+      answered = taken_units p;
+      una = p.una - u;
+      sent = p.sent - u;
+      edge = p.edge - u;
+      wl2 = p.wl2 - u;
+      delays = false;
+      batches = false;
+    }
 
 -- The output of a connection continues inside at u, with the initial sequence number i: delta is the difference of one unit's sequence numbers, and u isn't
 -- past what is acknowledged, sent, or allowed by the client's window

@@ -45,7 +45,8 @@ abbrev pub before_reads : (before after : Point) → Point
 before_reads before after = record after { lengths = before.lengths }
 
 -- in a lawful turn the north wrapper makes its calls to TCP, between the news and the flush
-pub record TurnsNorth {S : Type 0} (service : Machine S) (boot u i delta : ℕ) (news : News) (p q : Point) (sent : List Packet) (given : ℕ) (old new : NorthState S) (reads : List ReadRecord) (e t : Tcb) : Type 0 where
+pub record TurnsNorth {S : Type 0} (service : Machine S) (boot u i delta : ℕ) (news : News) (p q : Point) (sent : List Packet) (given : ℕ)
+    (old new : NorthState S) (reads : List ReadRecord) (e t : Tcb) : Type 0 where
   pub fits : NewsFit p news
   pub goes : LiveTurn service e.local boot news p q sent
   pub lengths : q.lengths ≡ p.lengths ++ lengths_of reads
@@ -73,7 +74,8 @@ pub record FedBy {S : Type 0} (service : Machine S) (u i : ℕ) (q : Point) (giv
   pub all_or_full : (given ≡ released service q) ⊎ (length (flushed (used calls m)).sending.held ≡ buffer_size)
 
 -- the north wrapper's turn, as TCP sees it
-pub record FedInside {S : Type 0} (service : Machine S) (u i delta : ℕ) (news : News) (p q : Point) (given : ℕ) (new : NorthState S) (calls : List Call) (e t : Tcb) : Type 0 where
+pub record FedInside {S : Type 0} (service : Machine S) (u i delta : ℕ) (news : News) (p q : Point) (given : ℕ) (new : NorthState S) (calls : List Call)
+    (e t : Tcb) : Type 0 where
   pub calls_are : t ≡ before_flush (news_inside delta p news) calls e
   pub released : u ≤ released service q
   pub by : FedBy service u i q given new calls (arrived (news_inside delta p news) e)

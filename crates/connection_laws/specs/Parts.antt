@@ -67,7 +67,8 @@ leaves_with service server delta news before after t =
     (passed delta after (tcp_out news before after t) ++ (if repeats news before then syn_ack server after ∷ [] else []))
 
 -- a turn with these reads: it leads to a point after it by the laws, at which the parts then are, and what is sent is what the laws say
-pub record PartsTurn {S : Type 0} (service : Machine S) (server : Addr) (boot u i delta : ℕ) (news : News) (before : Point) (reads : List ℕ) (new : NorthState S) (t : Tcb) : Type 0 where
+pub record PartsTurn {S : Type 0} (service : Machine S) (server : Addr) (boot u i delta : ℕ) (news : News) (before : Point) (reads : List ℕ)
+    (new : NorthState S) (t : Tcb) : Type 0 where
   pub after : Point
   pub given : ℕ
   pub lengths : after.lengths ≡ before.lengths ++ reads

@@ -35,7 +35,8 @@ IsLater Begins p = p.syn_acked ≡ true
 IsLater _ p = Unit {0}
 
 -- a turn outside: it is lawful, and after it at least u bytes of output may be sent
-pub record Turns {State : Type 0} (service : Machine State) (server : Addr) (boot : ℕ) (news : News) (p q : Point) (sent : List Packet) (u i delta : ℕ) : Type 0 where
+pub record Turns {State : Type 0} (service : Machine State) (server : Addr) (boot : ℕ) (news : News) (p q : Point) (sent : List Packet)
+    (u i delta : ℕ) : Type 0 where
   pub fits : NewsFit p news
   pub later : IsLater news p
   pub given : u ≤ released service q

@@ -140,7 +140,7 @@ target_is e p begun b usual same =
     subst Q (sym by.closed) (subst R (sym (fin_sent_is e p begun b usual))
     (target_stays s.fin_sent s.closed s.una (length s.held) s.sent m.una (length m.held) m.sent by.held by.sent same))
 
-rises : (b : Bool) (una ack : ℕ) → una ≤ (if b then una_after una ack else una)
+pub rises : (b : Bool) (una ack : ℕ) → una ≤ (if b then una_after una ack else una)
 rises true una ack = grind arith
 rises false una ack = omega arith
 

@@ -20,7 +20,7 @@ use Rattle.endpoint_laws.proofs.Arrivals.{moved, Arrived, arrives}
 
 -- a service that writes these bytes whenever it reads, and then closes or doesn't
 abbrev writing : (bytes : List ℕ) (closed : Bool) → Machine ℕ
-writing bytes closed = record { fresh = 0; after = λ state chunk. record { next = 0; output = bytes; closed = closed } }
+writing bytes closed = record { fresh = 0; greeting = []; after = λ state chunk. record { next = 0; output = bytes; closed = closed } }
 
 -- the point after a turn in which the service has read so many bytes at once: all but what is sent and the timer, ..
 abbrev after_read : News → Point → ℕ → Point
@@ -44,7 +44,7 @@ point_after service news before n =
 after_meets_laws : {State : Type 0} (service : Machine State) (news : News) (before : Point) (n : ℕ) → MeetsLaws service news before (point_after service news before n)
 unfolding sent_after sent_at_once timing_after timing_noted interval_after rest_after must_run
 after_meets_laws service news before n = record {
-  same = record { key = refl; cisn = refl; sisn = refl; mss = refl; fetched = refl; fetched_output = refl; delays = refl };
+  same = record { key = refl; cisn = refl; sisn = refl; mss = refl; fetched = refl; fetched_output = refl; delays = refl; batches = refl };
   taken = refl;
   fin = refl;
   early = refl;

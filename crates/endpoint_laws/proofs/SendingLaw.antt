@@ -21,7 +21,7 @@ use Rattle.tcp_endpoint.specs.UserCalls.{after_tick, timer_ticked, waited}
 use Rattle.endpoint_laws.specs.Laws.{counts, acknowledges, uses_window, is_duplicate, shows_loss, timing_by, congestion_by, is_first_expiry, congestion_ticked, timing_ticked, IsSentBy, IsBounded, IsUsual}
 use Rattle.tcp_endpoint.proofs.Places.{near_of_usable}
 use Rattle.endpoint_laws.proofs.TakenLaw.{same_if, if_when, by_checks, begun_is, Aside, at_ack, goes_on, others_part, segment_taken, few_sent, text_whole, fin_whole, IsCounted, counted, chosen_is}
-use Rattle.endpoint_laws.proofs.Timings.{acknowledged_none, measured}
+use Rattle.endpoint_laws.proofs.Timings.{acknowledged_none, measured, itself_less}
 use Rattle.ft_io.proofs.Booleans.{or_false, and_false}
 use Rattle.ft_io.proofs.Choices.{of_if}
 
@@ -360,9 +360,6 @@ other_no_loss e p no_count =
 
 zero_less : (una : ℕ) → 0 - una ≡ 0
 zero_less una = omega arith
-
-itself_less : (una : ℕ) → una - una ≡ 0
-itself_less una = omega arith
 
 first_law : (e : Tcb) (p : Segment) → IsBounded e → e.sending.syn_acked ≡ false → counts e p ≡ true
     → IsSentBy e p (with_syn_acked e.sending p.head.seq p.head.window)

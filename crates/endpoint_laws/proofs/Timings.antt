@@ -89,13 +89,13 @@ acknowledged_none t k =
     (λ h. refl)
     ∙ same_if t.timed t
 
-nothing_up : (n : ℕ) → n - n ≡ 0
-nothing_up n = omega arith
+pub itself_less : (n : ℕ) → n - n ≡ 0
+itself_less n = omega arith
 
 pub measured : (new : Bool) (una ack : ℕ) (t : Timing) → KeepsTime t
     → (if new then with_acknowledged (ack - una) t else t) ≡ with_acknowledged ((if new then ack else una) - una) t
 measured true una ack t k = refl
-measured false una ack t k = sym (ap (λ n. with_acknowledged n t) (nothing_up una) ∙ acknowledged_none t k)
+measured false una ack t k = sym (ap (λ n. with_acknowledged n t) (itself_less una) ∙ acknowledged_none t k)
 
 -- no more counts as lost than is in flight
 pub choice_within : (x y n : ℕ) (b : Bool) → (b ≡ true → x ≤ n) → y ≤ n → (if b then x else y) ≤ n

@@ -9,8 +9,8 @@ use Rattle.tcp_endpoint.specs.SendHalf.{sending_measuring}
 use Rattle.tcp_endpoint.specs.Tcb.{Tcb, kept_limit}
 use Rattle.endpoint_laws.specs.Laws.{KeepsTime}
 
--- between two turns of an endpoint in SYN-SENT, measuring or not, nothing is due, and nothing is received or sent yet except the SYN, for which the timer runs. The user may have
--- written, but not closed
+-- between two turns of an endpoint in SYN-SENT, measuring or not, nothing is due, and nothing is received or sent yet except the SYN, for which the timer
+-- runs. The user may have written, but not closed
 pub record IsConnecting (iss limit : ℕ) (e : Tcb) : Type 0 where
   pub name : e.name ≡ SynSent
   pub receiving : e.receiving ≡ receiving_up_to (kept_limit limit)

@@ -6,7 +6,8 @@ use Rattle.seq_arith.specs.Packet.{has_rst}
 use Rattle.ft_model.specs.News.{News}
 use Rattle.ft_model.specs.News.News.{Comes}
 use Rattle.tcp_endpoint.specs.declared.states.StateName.{StateName}
-use Rattle.tcp_endpoint.specs.declared.states.StateName.TheVariants.{Closed, Listen, SynSent, SynReceived, Established, FinWait1, FinWait2, CloseWait, Closing, LastAck, TimeWait}
+use Rattle.tcp_endpoint.specs.declared.states.StateName.TheVariants.{Closed, Listen, SynSent, SynReceived, Established, FinWait1, FinWait2, CloseWait}
+use Rattle.tcp_endpoint.specs.declared.states.StateName.TheVariants.{Closing, LastAck, TimeWait}
 use Rattle.tcp_endpoint.specs.ReceiveHalf.{next}
 use Rattle.tcp_endpoint.specs.SendHalf.{fin_acked}
 use Rattle.tcp_endpoint.specs.Tcb.{Tcb}

@@ -3,7 +3,8 @@
 -- opens. For passive ones, `Refinement` states the same in the model's own definitions. The endpoint's limit bounds the right edge of its window in place of
 -- 2^24, and the target is the bytes written, and one more once the user has closed.
 use Rattle.limits.specs.Limits.{buffer_size, longest_stream}
-use Rattle.std.specs.Prelude.{◌≡◌, ℕ, Bool, true, false, pos, ◌+◌, ◌-◌, ◌*◌, ◌^◌, ◌<◌, ◌≤◌, ◌-ℤ◌, ◌≤ℤ◌, ◌==◌, ◌&&◌, ◌||◌, not, nat_lt, int_lt, int_le, max, min, nat_abs, length, if◌then◌else◌}
+use Rattle.std.specs.Prelude.{◌≡◌, ℕ, Bool, true, false, pos, ◌+◌, ◌-◌, ◌*◌, ◌^◌, ◌<◌, ◌≤◌, ◌-ℤ◌, ◌≤ℤ◌, ◌==◌, ◌&&◌, ◌||◌, not, nat_lt, int_lt, int_le}
+use Rattle.std.specs.Prelude.{max, min, nat_abs, length, if◌then◌else◌}
 use Rattle.seq_arith.specs.Number.{offset_of}
 use Rattle.tcp_rules.specs.Arrival.{int_eq, is_acceptable_or_at_edge, is_usable, is_beyond, una_after, updates_window}
 use Rattle.seq_arith.specs.Packet.{Segment, has_syn, has_rst, has_ack}
@@ -74,8 +75,8 @@ is_partial_ack e p =
 abbrev pub shows_loss : Tcb → Segment → Bool
 shows_loss e p = is_third_duplicate e p || is_partial_ack e p
 
--- Timer: the estimate after a segment, where SND.UNA is then `una`. A round trip is measured when the timed unit is acknowledged, and what is retransmitted isn't
--- timed
+-- Timer: the estimate after a segment, where SND.UNA is then `una`. A round trip is measured when the timed unit is acknowledged, and what is retransmitted
+-- isn't timed
 abbrev pub timing_by : Tcb → Segment → (una : ℕ) → Timing
 timing_by e p una =
     if shows_loss e p then without_trip (with_acknowledged (una - e.sending.una) e.sending.timing) else with_acknowledged (una - e.sending.una) e.sending.timing

@@ -2,7 +2,8 @@
 -- smaller, the peer's stream at its point begins as many bytes later, as if they had been fetched. So its limit takes the place of 2^24, and if it is 2^24,
 -- nothing is fetched. The point has the bytes that the user has read; the endpoint doesn't store them any more.
 use Rattle.limits.specs.Limits.{buffer_size, longest_stream}
-use Rattle.std.specs.Prelude.{◌≡◌, ℕ, Bool, true, false, pos, ◌+◌, ◌≤◌, ◌%◌, ◌^◌, ◌+ℤ◌, ◌==◌, ◌&&◌, ◌||◌, not, max, List, [], ◌∷◌, ◌++◌, length, drop, sum, if◌then◌else◌, take, ◌⊎◌}
+use Rattle.std.specs.Prelude.{◌≡◌, ℕ, Bool, true, false, pos, ◌+◌, ◌≤◌, ◌%◌, ◌^◌, ◌+ℤ◌, ◌==◌, ◌&&◌, ◌||◌, not, max, List, [], ◌∷◌, ◌++◌, length, drop}
+use Rattle.std.specs.Prelude.{sum, if◌then◌else◌, take, ◌⊎◌}
 use Rattle.std.specs.Bool.{MatchBool}
 use Rattle.ft_io.specs.declared.Addr.{Addr}
 use Rattle.tcp_rules.specs.Coming.{early_from}
@@ -123,9 +124,9 @@ abbrev pub full_by_laws : {State : Type 0} → Machine State → Addr → News �
 full_by_laws service server news before after =
     refusals server news before ++ (resent service server news before after ++ (new_texts service server before after ++ new_fin service server before after))
 
--- what is sent in a turn: all that, or else a pure ACK if an ACK is pending. The model's wrapped connection sends the same, except that it drops TCP's RST, answers
--- a repeated SYN with the logged SYN-ACK, and also has an ACK pending where more is known to be logged, where it has become live, and where a segment arrives
--- after it is over
+-- what is sent in a turn: all that, or else a pure ACK if an ACK is pending. The model's wrapped connection sends the same, except that it drops TCP's RST,
+-- answers a repeated SYN with the logged SYN-ACK, and also has an ACK pending where more is known to be logged, where it has become live, and where a segment
+-- arrives after it is over
 abbrev pub segments_by_laws : {State : Type 0} → Machine State → Addr → News → (before after : Point) → List Segment
 segments_by_laws service server news before after =
     or_bare (is_ack_pending news before after) (bare_segment server after) (full_by_laws service server news before after)
@@ -134,7 +135,7 @@ segments_by_laws service server news before after =
 -- that delays no ACK. Its timer runs
 abbrev pub point_begun : (measures : Bool) → (fetched : List ℕ) → Numbers → Point
 point_begun measures fetched numbers =
-    record (point_opened (record { measures = measures; delays = false }) numbers) {
+    record (point_opened (record { measures = measures; delays = false; batches = false }) numbers) {
       fetched = length fetched;
       taken = fetched;
       answered = length fetched;

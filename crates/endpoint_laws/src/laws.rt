@@ -8,8 +8,10 @@ ghost use Rattle.tcp_rules.specs.Timing.{first_base};
 ghost use Rattle.tcp_endpoint.specs.States.{has_begun};
 ghost use Rattle.tcp_endpoint.specs.Tcb.{Tcb, listening, listening_measuring, connecting, connecting_measuring};
 ghost use Rattle.tcp_endpoint.specs.Arrival.{received};
-ghost use Rattle.endpoint_laws.specs.Laws.{IsBounded, IsUsual, taken_by, IsSentBy, ProbesRightly, sent_by_law, is_refused, needs_ack, starts, interval_by, rest_by};
-ghost use Rattle.endpoint_laws.specs.Laws.{shows_loss, congestion_ticked, timing_ticked, timing_at_end, ticked_interval, ticked_rest, IsTimedBy, last_advertised, asks, IsShut};
+ghost use Rattle.endpoint_laws.specs.Laws.{IsBounded, IsUsual, taken_by, IsSentBy, ProbesRightly, sent_by_law, is_refused, needs_ack, starts};
+ghost use Rattle.endpoint_laws.specs.Laws.{interval_by, rest_by};
+ghost use Rattle.endpoint_laws.specs.Laws.{shows_loss, congestion_ticked, timing_ticked, timing_at_end, ticked_interval, ticked_rest, IsTimedBy};
+ghost use Rattle.endpoint_laws.specs.Laws.{last_advertised, asks, IsShut};
 ghost use Rattle.tcp_endpoint.specs.SendHalf.{IsShort};
 ghost use Rattle.tcp_endpoint.specs.ReceiveHalf.{next, advertised_edge};
 ghost use Rattle.tcp_endpoint.specs.Output.{or_bare, bare_segment, full_out, leaving, after_full, is_timed, flushed};
@@ -49,8 +51,8 @@ pub fn segments_are_acknowledged_by_law()
     ensures { (e : Tcb) (p : Segment) → has_begun e.name ≡ true → IsBounded e → IsUsual e p → IsSentBy e p (received e p).sending }
 {}
 
-/// A segment makes the first unacknowledged segment due for retransmission exactly if it is the third duplicate acknowledgement in a row, or acknowledges only a
-/// part of what was in flight when a loss was noticed.
+/// A segment makes the first unacknowledged segment due for retransmission exactly if it is the third duplicate acknowledgement in a row, or acknowledges
+/// only a part of what was in flight when a loss was noticed.
 #[tactic(auto, using(crate::proofs::SendingLaw::retransmission_law))]
 pub fn losses_send_again()
     ensures { (e : Tcb) (p : Segment) → has_begun e.name ≡ true → IsBounded e → IsUsual e p
@@ -130,7 +132,8 @@ pub fn reads_keep_the_bounds()
 /// .. when the user writes and has written no more than 2^24 bytes, ..
 #[tactic(auto, using(crate::proofs::Bounding::bounded_by_write))]
 pub fn writes_keep_the_bounds()
-    ensures { (e : Tcb) (bytes : List ℕ) → e.sending.una + length e.sending.held + length bytes ≤ longest_stream → IsBounded e → IsBounded (after_write e bytes) }
+    ensures { (e : Tcb) (bytes : List ℕ) → e.sending.una + length e.sending.held + length bytes ≤ longest_stream → IsBounded e
+        → IsBounded (after_write e bytes) }
 {}
 
 /// .. and when the user closes.
@@ -206,9 +209,9 @@ pub fn turns_lead_from_point_to_point<S: Service>()
     ensures { (kind : ℕ) (news : News) (calls : List Call) (before after : Point) (e : Tcb)
         → has_begun e.name ≡ true → IsBetweenTurns e → StandsAt before e → IsUsualNews news e → MayUse calls (arrived news e)
         → has_begun (before_flush news calls e).name ≡ true
-        → MeetsLaws (machine (S.started kind) S.after) news before after
-        → IsUsedAt (machine (S.started kind) S.after) after (before_flush news calls e)
-        → LeadsTo (machine (S.started kind) S.after) news before after e calls }
+        → MeetsLaws (machine (S.started kind) S.after S.greeting) news before after
+        → IsUsedAt (machine (S.started kind) S.after S.greeting) after (before_flush news calls e)
+        → LeadsTo (machine (S.started kind) S.after S.greeting) news before after e calls }
 {}
 
 /// There always is a next point: whatever arrives and whatever the user does, some service reads and writes as the user does.
@@ -235,8 +238,8 @@ pub fn connections_end_at_points<S: Service>()
     ensures { (kind : ℕ) (news : News) (calls : List Call) (before after : Point) (e : Tcb)
         → has_begun e.name ≡ true → IsBetweenTurns e → IsNamedRightly e → StandsAt before e → IsUsualNews news e → MayUse calls (arrived news e)
         → resets news e ≡ false → has_begun (before_flush news calls e).name ≡ false
-        → MeetsLaws (machine (S.started kind) S.after) news before after
-        → IsUsedAt (machine (S.started kind) S.after) after (before_flush news calls e)
+        → MeetsLaws (machine (S.started kind) S.after S.greeting) news before after
+        → IsUsedAt (machine (S.started kind) S.after S.greeting) after (before_flush news calls e)
         → EndsAt after (before_flush news calls e) }
 {}
 
@@ -350,8 +353,8 @@ pub fn endpoints_acknowledge_all_that_they_took()
         → AcknowledgesAll (listening_measuring measures local iss limit) turns × AcknowledgesAll (connecting_measuring measures local remote iss limit) turns }
 {}
 
-/// An active open connects: whatever its user writes before the first flush, only the SYN is sent. Its timer runs from then on, with one tick left, or ten if it
-/// measures round trips, and nothing else is due.
+/// An active open connects: whatever its user writes before the first flush, only the SYN is sent. Its timer runs from then on, with one tick left, or ten if
+/// it measures round trips, and nothing else is due.
 pub fn active_opens_connect()
     ensures { (measures : Bool) (local remote : Addr) (iss limit : ℕ) (calls : List Call) → MayUse calls (connecting_measuring measures local remote iss limit)
         → (used calls (connecting_measuring measures local remote iss limit)).name ≡ SynSent

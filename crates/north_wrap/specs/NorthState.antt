@@ -1,6 +1,7 @@
 -- The north wrapper's state, and what it does with it: the reads of a turn over any socket, and the output that it gives to TCP.
 use Rattle.limits.specs.Limits.{buffer_size, longest_stream}
-use Rattle.std.specs.Prelude.{◌≡◌, ℕ, ◌+◌, ◌-◌, ◌^◌, ◌<◌, ◌≤◌, ◌==◌, Bool, false, ◌&&◌, ◌||◌, not, min, nat_lt, nat_le, Option, Some, None, List, [], ◌∷◌, ◌++◌, length, take, drop, get_or, if◌then◌else◌}
+use Rattle.std.specs.Prelude.{◌≡◌, ℕ, ◌+◌, ◌-◌, ◌^◌, ◌<◌, ◌≤◌, ◌==◌, Bool, false, ◌&&◌, ◌||◌, not, min, nat_lt, nat_le, Option, Some, None, List, []}
+use Rattle.std.specs.Prelude.{◌∷◌, ◌++◌, length, take, drop, get_or, if◌then◌else◌}
 use Rattle.server_trait.specs.Service.{Served}
 use Rattle.north_wrap.specs.declared.read_record.ReadRecord.{ReadRecord}
 use Rattle.north_wrap.specs.RunState.{RunState, run_on, gives, given_to}
@@ -50,7 +51,14 @@ abbrev pub record_of : {S : Type 0} → ℕ → NorthState S → RunState S → 
 record_of k n run = record { index = n.count; length = k; made = run.made; closed = run.closed }
 
 abbrev pub noted : {S : Type 0} → ℕ → NorthState S → RunState S → NorthState S
-noted k n run = record n { run = run; rest = drop k n.rest; reads = n.reads ++ record_of k n run ∷ []; read = n.read + k; count = n.count + 1; ended = n.ended || k == 0 }
+noted k n run = record n {
+  run = run;
+  rest = drop k n.rest;
+  reads = n.reads ++ record_of k n run ∷ [];
+  read = n.read + k;
+  count = n.count + 1;
+  ended = n.ended || k == 0;
+}
 
 -- the wrapper after a read of this length ..
 unfoldable pub read_on : {S : Type 0} → (S → List ℕ → Served S) → (unread : List ℕ) → ℕ → NorthState S → NorthState S
@@ -66,15 +74,18 @@ next_at reader una n s = next_length una (length (reader.unread s)) (reader.has_
 -- exactly these reads are made, one after another, until none is due; `m` and `t` are wrapper and socket then
 abbrev pub Reads : {S K : Type 0} → (S → List ℕ → Served S) → Reader K → (una : ℕ) → NorthState S → K → List ℕ → NorthState S → K → Type 0
 Reads after reader una n s [] m t = (next_at reader una n s ≡ None) × (m ≡ n) × (t ≡ s)
-Reads after reader una n s (k ∷ ks) m t = (next_at reader una n s ≡ Some k) × Reads after reader una (read_on after (reader.unread s) k n) (socket_on reader k n s) ks m t
+Reads after reader una n s (k ∷ ks) m t = (next_at reader una n s ≡ Some k)
+    × Reads after reader una (read_on after (reader.unread s) k n) (socket_on reader k n s) ks m t
 
 abbrev pub lengths_of : List ReadRecord → List ℕ
 lengths_of [] = []
 lengths_of (read ∷ reads) = read.length ∷ lengths_of reads
 
 -- a turn's reads while they are made: what completes them from here completes them from the start
-pub record HasRead {S K : Type 0} (after : S → List ℕ → Served S) (r : Reader K) (una : ℕ) (start : NorthState S) (first : K) (news : List ReadRecord) (now : NorthState S) (socket : K) : Type 0 where
-  pub goes_on : (ks : List ℕ) (end : NorthState S) (last : K) → Reads after r una now socket ks end last → Reads after r una start first (lengths_of news ++ ks) end last
+pub record HasRead {S K : Type 0} (after : S → List ℕ
+    → Served S) (r : Reader K) (una : ℕ) (start : NorthState S) (first : K) (news : List ReadRecord) (now : NorthState S) (socket : K) : Type 0 where
+  pub goes_on : (ks : List ℕ) (end : NorthState S) (last : K) → Reads after r una now socket ks end last
+      → Reads after r una start first (lengths_of news ++ ks) end last
   pub reads : now.reads ≡ start.reads ++ news
 
 -- the output of reads that aren't known to be logged
@@ -99,8 +110,11 @@ abbrev pub shut_socket : {S K : Type 0} → Writer K → NorthState S → K → 
 shut_socket w n s = if closes n then w.after_close s else s
 
 -- a turn: output is given, the socket is closed or not, and the reads that are due are made
-pub record Turns {S K : Type 0} (after : S → List ℕ → Served S) (r : Reader K) (w : Writer K) (una : ℕ) (old : NorthState S) (socket : K) (news : List ReadRecord) (new : NorthState S) (last : K) : Type 0 where
-  pub reads : Reads after r una (shut_north (given_north w old socket)) (shut_socket w (given_north w old socket) (given_socket w old socket)) (lengths_of news) new last
+pub record Turns {S K : Type 0} (after : S → List ℕ
+    → Served S) (r : Reader K) (w : Writer K) (una : ℕ) (old : NorthState S) (socket : K) (news : List ReadRecord) (new : NorthState S)
+    (last : K) : Type 0 where
+  pub reads : Reads after r una (shut_north (given_north w old socket)) (shut_socket w (given_north w old socket) (given_socket w old socket))
+      (lengths_of news) new last
   pub told : new.reads ≡ old.reads ++ news
 
 -- how many reads are known to be logged
@@ -127,5 +141,5 @@ resumed_north service rest pending reads read made ended closed = record {
   shut = false;
 }
 
-abbrev pub fresh_north : {S : Type 0} → S → NorthState S
-fresh_north service = resumed_north service [] [] 0 0 0 false false
+abbrev pub fresh_north : {S : Type 0} → S → (greeting : List ℕ) → NorthState S
+fresh_north service greeting = resumed_north service [] greeting 0 0 (length greeting) false false

@@ -1,6 +1,7 @@
 -- What it means that the north wrapper of a connection is at the connection's point, and what a turn of it does there: the laws Reads and Output (FT-TCP,
 -- INFOCOM 2001: the north side wrapper logs the length of each read, and holds output back until those lengths are logged).
-use Rattle.std.specs.Prelude.{◌≡◌, ◌⊎◌, ℕ, ◌+◌, ◌<◌, ◌≤◌, ◌==◌, Bool, true, false, not, ◌&&◌, ◌||◌, nat_lt, ◌-◌, [], map, min, if◌then◌else◌, max, sum, List, ◌∷◌, ◌++◌, length, take, drop, get_or}
+use Rattle.std.specs.Prelude.{◌≡◌, ◌⊎◌, ℕ, ◌+◌, ◌<◌, ◌≤◌, ◌==◌, Bool, true, false, not, ◌&&◌, ◌||◌, nat_lt, ◌-◌, [], map, min, if◌then◌else◌, max}
+use Rattle.std.specs.Prelude.{sum, List, ◌∷◌, ◌++◌, length, take, drop, get_or}
 use Rattle.std.specs.List.{list_any}
 use Rattle.ft_io.specs.declared.Key.{Key}
 use Rattle.seq_arith.specs.Message.{Body}
@@ -122,7 +123,8 @@ AreThere r s (k ∷ ks) = (k ≤ length (r.unread s)) × AreThere r (r.after_rea
 
 -- A turn of the north wrapper, from a point on, with these new reads. Output is given as the law says, and TCP is closed exactly where it may be. The reads are
 -- the law's, and wrapper and TCP are at the point after them. Nothing else is done to TCP
-pub record NorthTurn {S K : Type 0} (service : Machine S) (r : Reader K) (w : Writer K) (p : Point) (given : ℕ) (old : NorthState S) (s : K) (news : List ReadRecord) (new : NorthState S) (t : K) : Type 0 where
+pub record NorthTurn {S K : Type 0} (service : Machine S) (r : Reader K) (w : Writer K) (p : Point) (given : ℕ) (old : NorthState S) (s : K)
+    (news : List ReadRecord) (new : NorthState S) (t : K) : Type 0 where
   pub closes : Bool
   pub closes_rightly : closes ≡ (not old.shut && is_all_given service p (given + given_more service p (w.room s) given))
   pub socket : t ≡ read_off r.after_read (written w s (given_text service p (w.room s) given) closes) (off_socket (length old.rest) (lengths_of news))

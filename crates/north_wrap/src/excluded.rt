@@ -1,13 +1,22 @@
-//! Wrong results that the contracts of this crate exclude. Each function calls another one of the crate, and promises of its result what a wrong body would make
-//! false. It is proved from the other's contract alone, so it is no longer proved once that contract lets the wrong body pass.
+//! Wrong results that the contracts of this crate exclude. Each function calls another one of the crate, and promises of its result what a wrong body would
+//! make false. It is proved from the other's contract alone, so it is no longer proved once that contract lets the wrong body pass.
 
 ghost use Rattle.limits.specs.Limits.{most_units};
-ghost use Rattle.std.specs.Prelude.{◌≡◌, ◌+◌, ◌^◌, ◌≤◌, max, false, length};
+ghost use Rattle.std.specs.Prelude.{◌≡◌, ◌+◌, ◌^◌, ◌≤◌, max, false, length, IfOk};
 ghost use Rattle.north_wrap.specs.NorthState.{answered};
 
 use crate::north::North;
+use ft_io::NoMemory;
 use server_trait::Service;
 use socket_layer::Socket;
+use std::alloc::Global;
+
+/// A greeting may be sent before the first read: the contract of `North::new`.
+fn greeting_isnt_counted<S: Service>(alloc: Global, kind: u8) -> Result<North<S>, NoMemory>
+    ensures { IfOk result (λ north. north.last.made ≡ length (S.greeting (S.started kind))) }
+{
+    North::new(alloc, kind)
+}
 
 /// No read is made while 32 aren't known to be logged: the contract of `North::is_free_to_read`.
 fn a_thirty_third_read<S: Service>(north: &North<S>, una: u32) -> bool

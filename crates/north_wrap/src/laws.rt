@@ -13,8 +13,8 @@ use server_trait::Service;
 
 /// A wrapper whose service was replayed is at its connection's point: a new one, whose service has read nothing, and one at the end of a restart.
 pub fn it_begins_where_it_was_replayed<S: Service>()
-    ensures { (fresh : S) (p : Point) (given : ℕ) (n : NorthState S) → HasReplayed (machine fresh S.after) p given n
-        → NorthStands (machine fresh S.after) p given n }
+    ensures { (fresh : S) (p : Point) (given : ℕ) (n : NorthState S) → HasReplayed (machine fresh S.after S.greeting) p given n
+        → NorthStands (machine fresh S.after S.greeting) p given n }
 {}
 
 /// The records of a connection's reads, sent one after another, are the messages that the law of reads names.
@@ -24,8 +24,8 @@ pub fn records_tell_the_reads()
 
 /// A wrapper stays at its connection's point when TCP takes more bytes.
 pub fn taking_leaves_it<S: Service>()
-    ensures { (fresh : S) (p : Point) (given : ℕ) (n : NorthState S) (more : List ℕ) → NorthStands (machine fresh S.after) p given n
-        → NorthStands (machine fresh S.after) (with_taken more p) given n }
+    ensures { (fresh : S) (p : Point) (given : ℕ) (n : NorthState S) (more : List ℕ) → NorthStands (machine fresh S.after S.greeting) p given n
+        → NorthStands (machine fresh S.after S.greeting) (with_taken more p) given n }
 {}
 
 /// A send buffer that the wrapper's turns fill, and acknowledgements empty, holds the output from what is acknowledged up to what is given.

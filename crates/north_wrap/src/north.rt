@@ -1,7 +1,8 @@
 //! The north wrapper.
 
 ghost use Rattle.limits.specs.Limits.{longest_stream, most_units};
-ghost use Rattle.std.specs.Prelude.{◌≡◌, ◌∷◌, ◌||◌, false, ℕ, ◌+◌, ◌-◌, ◌^◌, ◌<◌, ◌≤◌, ◌==◌, ◌&&◌, Some, List, [], ◌++◌, length, take, drop, OnOk, IfSome};
+ghost use Rattle.std.specs.Prelude.{◌≡◌, ◌∷◌, ◌||◌, false, ℕ, ◌+◌, ◌-◌, ◌^◌, ◌<◌, ◌≤◌, ◌==◌, ◌&&◌, Some, List, [], ◌++◌, length, take};
+ghost use Rattle.std.specs.Prelude.{drop, OnOk, IfOk, IfSome};
 ghost use Rattle.server_trait.specs.Service.{machine};
 ghost use Rattle.ft_model.specs.Offset.{one_if};
 ghost use Rattle.ft_model.specs.Point.{Point, released, whole_run};
@@ -67,16 +68,20 @@ impl<S: Service> Model for North<S> {
 
 impl<S: Service> North<S> {
     /// Returns a wrapper before its first read, whose service is started as this kind.
-    pub fn new(alloc: Global, kind: u8) -> North<S>
-        ensures { result ≡ fresh_north (S.started kind) }
+    pub fn new(alloc: Global, kind: u8) -> Result<North<S>, NoMemory>
+        ensures { IfOk result (λ n. n ≡ fresh_north (S.started kind) (S.greeting (S.started kind))) }
     {
-        North {
-            run: ServiceRun::new(S::fresh(alloc, kind), Vec::new(alloc), 0, false),
+        let service = S::fresh(alloc, kind);
+        let mut greeting = Vec::new(alloc);
+        greeting.extend_from_slice(service.greeting())?;
+        let made = greeting.len() as u32;
+        Ok(North {
+            run: ServiceRun::new(service, greeting, made, false),
             rest: Rest::new(Vec::new(alloc)),
             last: ReadRecord {
                 index: 0,
                 length: 0,
-                made: 0,
+                made,
                 closed: false,
             },
             reads: ReadRecords::new(),
@@ -84,7 +89,7 @@ impl<S: Service> North<S> {
             count: 0,
             ended: false,
             shut: false,
-        }
+        })
     }
 
     /// Returns a wrapper at the end of a restart. `rest` are the fetched bytes that aren't read, and `pending` the output that the client hasn't acknowledged.
@@ -295,13 +300,13 @@ impl<S: Service> North<S> {
     }
 
     /// Gives the socket the output that may be sent, as much as it has room for.
-    fn give<K: Socket>(&mut self, sock: &mut K)
+    fn write_output<K: Socket>(&mut self, sock: &mut K)
         ensures state { self.new ≡ given_north (writer K.write_room K.is_closed K.after_write K.after_close) self.old sock.old }
         ensures socket { sock.new ≡ given_socket (writer K.write_room K.is_closed K.after_write K.after_close) self.old sock.old }
         ensures unread { K.unread sock.new ≡ K.unread sock.old }
     {
         let unstable = self.unstable();
-        self.run.give(sock, unstable);
+        self.run.write_output(sock, unstable);
     }
 
     /// Closes the socket once the read that closed the service is known to be logged and all output is given.
@@ -329,10 +334,10 @@ impl<S: Service> North<S> {
         requires within { self.old.read + length self.old.rest + length (K.unread sock.old) ≤ longest_stream }
         ensures turn { OnOk result (Turns S.after (reader K.unread K.has_end K.after_read)
             (writer K.write_room K.is_closed K.after_write K.after_close) una self.old sock.old news.new self.new sock.new) }
-        ensures law { OnOk result ((fresh : S) (p : Point) (given : ℕ) → NorthStands (machine fresh S.after) p given self.old
+        ensures law { OnOk result ((fresh : S) (p : Point) (given : ℕ) → NorthStands (machine fresh S.after S.greeting) p given self.old
             → SocketStands p self.old (K.unread sock.old) (K.has_end sock.old) (K.is_closed sock.old) → p.una ≡ una
-            → given ≤ released (machine fresh S.after) p
-            → NorthTurn (machine fresh S.after) (reader K.unread K.has_end K.after_read)
+            → given ≤ released (machine fresh S.after S.greeting) p
+            → NorthTurn (machine fresh S.after S.greeting) (reader K.unread K.has_end K.after_read)
             (writer K.write_room K.is_closed K.after_write K.after_close) p given self.old sock.old news.new self.new sock.new) }
         ensures bounded { self.new.read + length self.new.rest + length (K.unread sock.new) ≤ longest_stream }
     {
@@ -352,7 +357,7 @@ impl<S: Service> North<S> {
         ensures bounded { self.new.read + length self.new.rest + length (K.unread sock.new) ≤ longest_stream }
     {
         news.clear();
-        self.give(sock);
+        self.write_output(sock);
         self.close(sock);
         self.make_reads(sock, una, news)
     }
@@ -362,8 +367,8 @@ impl<S: Service> North<S> {
         ensures state { self.new ≡ answered_on count self.old }
         ensures read { self.new.read ≡ self.old.read }
         ensures rest { self.new.rest ≡ self.old.rest }
-        ensures law { (fresh : S) (p : Point) (given : ℕ) → NorthStands (machine fresh S.after) p given self.old
-            → NorthStands (machine fresh S.after) (with_answered count p) given self.new }
+        ensures law { (fresh : S) (p : Point) (given : ℕ) → NorthStands (machine fresh S.after S.greeting) p given self.old
+            → NorthStands (machine fresh S.after S.greeting) (with_answered count p) given self.new }
     {
         self.note_reads(count);
     }
@@ -389,8 +394,8 @@ impl<S: Service> North<S> {
     /// Returns the service. Its state is that of an uncrashed server after the same reads.
     pub fn service(&self) -> &S
         ensures value { result.now ≡ self.now.run.service }
-        ensures law { (fresh : S) (p : Point) (given : ℕ) → NorthStands (machine fresh S.after) p given self.now
-            → result.now ≡ (whole_run (machine fresh S.after) p).state }
+        ensures law { (fresh : S) (p : Point) (given : ℕ) → NorthStands (machine fresh S.after S.greeting) p given self.now
+            → result.now ≡ (whole_run (machine fresh S.after S.greeting) p).state }
     {
         self.run.service()
     }

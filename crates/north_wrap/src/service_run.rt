@@ -126,7 +126,7 @@ impl<S: Service> ServiceRun<S> {
     }
 
     /// Gives the socket output, as much as it has room for, except the last `kept` bytes.
-    pub(crate) fn give<K: Socket>(&mut self, sock: &mut K, kept: u32)
+    pub(crate) fn write_output<K: Socket>(&mut self, sock: &mut K, kept: u32)
         ensures state { self.new ≡ given_to (K.write_room sock.old) kept self.old }
         ensures socket { sock.new ≡ K.after_write sock.old (gives (K.write_room sock.old) kept self.old) }
     {

@@ -1,7 +1,8 @@
 -- How the client machine of the model corresponds to a live client: the machine has accepted what the client's TCP has taken, and has sent and advertised what
 -- TCP has. Every call preserves this, and each segment that is sent is a move of the machine.
 use Rattle.limits.specs.Limits.{largest_segment, least_segment, longest_stream}
-use Rattle.std.specs.Prelude.{◌≡◌, ◌⊎◌, ℕ, Bool, true, false, pos, ◌+◌, ◌-ℤ◌, ◌≤ℤ◌, ◌^◌, ◌<◌, ◌≤◌, ◌==◌, ◌&&◌, Option, None, Some, Result, Ok, Err, List, [], ◌∷◌, length, take, drop, if◌then◌else◌}
+use Rattle.std.specs.Prelude.{◌≡◌, ◌⊎◌, ℕ, Bool, true, false, pos, ◌+◌, ◌-ℤ◌, ◌≤ℤ◌, ◌^◌, ◌<◌, ◌≤◌, ◌==◌, ◌&&◌, Option, None, Some, Result, Ok, Err}
+use Rattle.std.specs.Prelude.{List, [], ◌∷◌, length, take, drop, if◌then◌else◌}
 use Rattle.tcp_rules.specs.Coming.{StandsBehind}
 use Rattle.seq_arith.specs.Number.{number_at}
 use Rattle.seq_arith.specs.Offset.{one_if, ack_of}

@@ -1,5 +1,6 @@
 -- The scripted client over bytes: what it sends at an event of a schedule, and what it does with bytes that arrive.
-use Rattle.std.specs.Prelude.{◌≡◌, ℕ, ℤ, Bool, pos, ◌-◌, ◌<◌, ◌^◌, ◌&&◌, ◌||◌, ◌++◌, nat_lt, int_lt, List, [], length, take, drop, Some, None, Result, Ok, Err, if◌then◌else◌}
+use Rattle.std.specs.Prelude.{◌≡◌, ℕ, ℤ, Bool, pos, ◌-◌, ◌<◌, ◌^◌, ◌&&◌, ◌||◌, ◌++◌, nat_lt, int_lt, List, [], length, take, drop, Some, None, Result}
+use Rattle.std.specs.Prelude.{Ok, Err, if◌then◌else◌}
 use Rattle.tcp_rules.specs.Arrival.{int_eq, below}
 use Rattle.tcp_rules.specs.Coming.{Came, nothing_early, comes}
 use Rattle.seq_arith.specs.Packet.{Segment}

@@ -8,7 +8,8 @@ ghost use Rattle.tcp_endpoint.specs.Packets.{AreReadable};
 ghost use Rattle.tcp_endpoint.specs.SendHalf.{IsShort};
 ghost use Rattle.tcp_endpoint.specs.States.{has_begun as begun_lem};
 ghost use Rattle.tcp_endpoint.specs.UserCalls.{after_read};
-ghost use Rattle.peer_client.specs.Live.{new_live, new_live_in, is_of, end_of, first_end, met, after_packet, ticked, unread, handed, given_up, supplied, closes as closes_lem};
+ghost use Rattle.peer_client.specs.Live.{new_live, new_live_in, is_of, end_of, first_end, met, after_packet, ticked, unread, handed, given_up};
+ghost use Rattle.peer_client.specs.Live.{supplied, closes as closes_lem};
 ghost use Rattle.peer_client.specs.Live.{shut as shut_lem, before_flush, sent_by, turned};
 ghost use Rattle.peer_client.specs.Refinement.{IsBetween, IsDue, AcksNear, AckFits, receiving, Moves, HasHeard, handed_out, outcome_of};
 ghost use Rattle.seq_arith.specs.PacketGrammar.{reading};
@@ -139,10 +140,10 @@ impl LiveClient {
             → self.new.outcome ≡ outcome_of (receiving self.old c (reading bytes.now)) }
         ensures stays { IsSome self.old.outcome → self.new.outcome ≡ self.old.outcome }
     {
-        self.hear(bytes);
+        self.receive(bytes);
     }
 
-    fn hear(&mut self, bytes: &[u8])
+    fn receive(&mut self, bytes: &[u8])
         ensures state { IsShort self.old.tcb.sending → self.new ≡ after_packet self.old bytes.now }
         ensures fits { AckFits (reading bytes.now) }
         ensures stays { IsSome self.old.outcome → self.new.outcome ≡ self.old.outcome }
@@ -253,14 +254,14 @@ impl LiveClient {
         ensures sent { out.new ≡ packets (sent_by self.old) }
         ensures readable { AreReadable (sent_by self.old) }
     {
-        self.give_up();
+        self.discard();
         self.supply();
         self.shut();
         self.endpoint.flush(out);
     }
 
     /// Drops from the endpoint what was handed out.
-    fn give_up(&mut self)
+    fn discard(&mut self)
         ensures { self.new ≡ given_up self.old }
     {
         pass_over(&mut self.endpoint, self.seen);

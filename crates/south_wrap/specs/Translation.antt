@@ -13,11 +13,22 @@ use Rattle.south_wrap.specs.SouthState.{SouthState, taken_units, acknowledged, w
 
 -- Outward: the sequence number is raised by delta, and acknowledgement and window are those of the laws
 abbrev pub outward : SouthState → Segment → Segment
-outward s segment = record segment { head = record segment.head { seq = raised s segment.head.seq; ack = number_at s.cisn (acknowledged s); window = window s } }
+outward s segment = record segment {
+  head = record segment.head {
+    seq = raised s segment.head.seq;
+    ack = number_at s.cisn (acknowledged s);
+    window = window s;
+  };
+}
 
 -- Inward: SEG.ACK and SEG.WND are those that TCP is to see. SEG.SEQ stays
 abbrev pub inward : SouthState → Segment → Segment
-inward s segment = record segment { head = record segment.head { ack = inner_ack s segment.head.ack; window = inner_window s segment.head.ack segment.head.window } }
+inward s segment = record segment {
+  head = record segment.head {
+    ack = inner_ack s segment.head.ack;
+    window = inner_window s segment.head.ack segment.head.window;
+  };
+}
 
 -- the client repeats its SYN, and neither its stream nor the output has progressed: the SYN-ACK with the logged numbers answers it, and TCP doesn't see it
 abbrev pub repeats_syn : SouthState → Segment → Bool

@@ -90,9 +90,9 @@ impl South {
         }
     }
 
-    /// The wrapper of a connection at the end of a restart. The log has `length` bytes of the client, and its FIN if `fin`. Its reads make `fetched_output` units
-    /// of output, all of which an earlier incarnation may have sent. The client had acknowledged `acked` units. The new TCP has the initial sequence number
-    /// `inner`, from which it counts the output after these. `after_fetch` takes what was fetched as one record.
+    /// The wrapper of a connection at the end of a restart. The log has `length` bytes of the client, and its FIN if `fin`. Its reads make `fetched_output`
+    /// units of output, all of which an earlier incarnation may have sent. The client had acknowledged `acked` units. The new TCP has the initial sequence
+    /// number `inner`, from which it counts the output after these. `after_fetch` takes what was fetched as one record.
     pub fn resumed(
         cisn: Seq,
         sisn: Seq,
@@ -118,8 +118,8 @@ impl South {
         South::after_fetch(fetched, inner)
     }
 
-    /// The wrapper of a connection at the end of a restart, which goes on after what was fetched. The new TCP has the initial sequence number `inner`, from which
-    /// it counts the output after what the client had acknowledged.
+    /// The wrapper of a connection at the end of a restart, which goes on after what was fetched. The new TCP has the initial sequence number `inner`, from
+    /// which it counts the output after what the client had acknowledged.
     pub fn after_fetch(fetched: Fetched, inner: Seq) -> South
         requires length { fetched.length ≤ longest_stream }
         requires output { fetched.output ≤ most_units }

@@ -1,7 +1,8 @@
 //! The estimate of the round-trip time, in ticks, and the interval with which the retransmission timer starts (RFC 6298).
 
 ghost use Rattle.std.specs.Prelude.{◌≡◌, ◌≤◌};
-ghost use Rattle.tcp_rules.specs.Timing.{initial_timing, smoothed_by, variation_by, computed_base, with_sample, with_acknowledged, with_tick, without_trip, with_backoff, with_sent};
+ghost use Rattle.tcp_rules.specs.Timing.{initial_timing, smoothed_by, variation_by, computed_base, with_sample, with_acknowledged, with_tick};
+ghost use Rattle.tcp_rules.specs.Timing.{without_trip, with_backoff, with_sent};
 
 use std::marker::Model;
 

@@ -1,6 +1,7 @@
 -- What an endpoint sends at the end of a turn, in order (RFC 9293, 3.7, 3.8.1, 3.8.6.1 and 3.10.7.4), and what it is after that.
 use Rattle.limits.specs.Limits.{largest_segment}
-use Rattle.std.specs.Prelude.{ℕ, Bool, false, zero, suc, ◌+◌, ◌-◌, ◌==◌, ◌&&◌, ◌||◌, not, nat_lt, min, Option, None, Some, List, [], ◌∷◌, ◌++◌, length, take, drop, map, if◌then◌else◌}
+use Rattle.std.specs.Prelude.{ℕ, Bool, false, zero, suc, ◌+◌, ◌-◌, ◌==◌, ◌&&◌, ◌||◌, not, nat_lt, min, Option, None, Some, List, [], ◌∷◌, ◌++◌}
+use Rattle.std.specs.Prelude.{length, take, drop, map, if◌then◌else◌}
 use Rattle.seq_arith.specs.Number.{number_at}
 use Rattle.seq_arith.specs.Packet.{Head, Segment}
 use Rattle.seq_arith.specs.PacketGrammar.{spelling}
@@ -8,7 +9,8 @@ use Rattle.segment_codec.specs.Value.{said}
 use Rattle.segment_codec.specs.declared.Head as codec
 use Rattle.tcp_endpoint.specs.States.{is_closed, is_syn_sent, has_begun}
 use Rattle.tcp_endpoint.specs.ReceiveHalf.{next, window, advertised_edge}
-use Rattle.tcp_endpoint.specs.SendHalf.{in_flight, is_unacknowledged, must_run, timed, sendable, sends_fin, resent_length, with_sent, with_fin_sent, with_unit_timed}
+use Rattle.tcp_endpoint.specs.SendHalf.{in_flight, is_unacknowledged, must_run, timed, sendable, sends_fin, resent_length, with_sent, with_fin_sent}
+use Rattle.tcp_endpoint.specs.SendHalf.{with_unit_timed}
 use Rattle.tcp_endpoint.specs.Tcb.{Tcb}
 
 -- the header of every segment except a RST sent in reply: it acknowledges all that is taken, and advertises the window
@@ -121,7 +123,8 @@ after_full e = with_timed (in_flight (with_probe e).sending) (with_fin_out (with
 
 -- an ACK is due: a check requires it, or RCV.NXT or the right edge has changed since it was last sent
 unfoldable pub is_ack_pending : Tcb → Bool
-is_ack_pending e = has_begun e.name && (e.ack_pending || not (e.last_ack_sent == next e.receiving) || not (e.last_advertised_edge == advertised_edge e.receiving))
+is_ack_pending e = has_begun e.name && (e.ack_pending || not (e.last_ack_sent == next e.receiving)
+    || not (e.last_advertised_edge == advertised_edge e.receiving))
 
 -- the pure ACK, at SND.NXT
 unfoldable pub bare_segment : Tcb → Segment

@@ -41,7 +41,8 @@ joined (packet ∷ packets) = packet ++ joined packets
 unfoldable pub with_bytes_at : List (List ℕ) → ℕ → List ℕ → List (List ℕ)
 with_bytes_at packets i bytes =
     let start : ℕ = byte_count (take i packets)
-    in recut packets (refill (length (joined packets)) (joined packets) (take start (joined packets) ++ (bytes ++ drop (length bytes) (drop start (joined packets)))))
+    in recut packets (refill (length (joined packets)) (joined packets) (take start (joined packets)
+    ++ (bytes ++ drop (length bytes) (drop start (joined packets)))))
 
 -- a segment's spelling is read back as that segment, so it is an accepted packet
 abbrev pub IsReadable : Segment → Type 0

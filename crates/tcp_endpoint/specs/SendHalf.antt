@@ -1,7 +1,8 @@
 -- The sending half of a connection, in offsets of our stream: byte k has offset k, and a FIN counts as one more unit (RFC 9293, 3.3.1, send sequence variables,
 -- and 3.10.7.4, fifth check; RFC 5681; RFC 6298; RFC 6582).
 use Rattle.limits.specs.Limits.{buffer_size, largest_segment, least_segment}
-use Rattle.std.specs.Prelude.{ℕ, ℤ, Bool, true, false, pos, ◌+◌, ◌-◌, ◌*◌, ◌%◌, ◌^◌, ◌<◌, ◌≤◌, ◌==◌, ◌&&◌, ◌||◌, not, nat_lt, nat_le, int_le, min, max, nat_abs, List, [], length, drop, if◌then◌else◌}
+use Rattle.std.specs.Prelude.{ℕ, ℤ, Bool, true, false, pos, ◌+◌, ◌-◌, ◌*◌, ◌%◌, ◌^◌, ◌<◌, ◌≤◌, ◌==◌, ◌&&◌, ◌||◌, not, nat_lt, nat_le, int_le, min}
+use Rattle.std.specs.Prelude.{max, nat_abs, List, [], length, drop, if◌then◌else◌}
 use Rattle.tcp_rules.specs.Arrival.{int_eq, is_new_ack}
 use Rattle.tcp_rules.specs.Congestion.{Congestion, initial_congestion, is_partial, with_new_data, is_third, with_duplicate, with_expiry}
 use Rattle.seq_arith.specs.Number.{distance, precedes}

@@ -1,7 +1,8 @@
 -- The states of a connection and their transitions (RFC 9293, 3.3.2, figure 5, and 3.10).
 use Rattle.std.specs.Prelude.{Bool, true, false, if◌then◌else◌}
 use Rattle.tcp_endpoint.specs.declared.states.StateName.{StateName}
-use Rattle.tcp_endpoint.specs.declared.states.StateName.TheVariants.{Closed, Listen, SynSent, Established, FinWait1, FinWait2, CloseWait, Closing, LastAck, TimeWait}
+use Rattle.tcp_endpoint.specs.declared.states.StateName.TheVariants.{Closed, Listen, SynSent, Established, FinWait1, FinWait2, CloseWait, Closing}
+use Rattle.tcp_endpoint.specs.declared.states.StateName.TheVariants.{LastAck, TimeWait}
 
 -- the user closes (3.10.4). In SYN-RECEIVED the FIN waits for ESTABLISHED
 abbrev pub after_close : StateName → StateName

@@ -8,8 +8,10 @@ ghost use Rattle.seq_arith.specs.Offset.{length_of};
 ghost use Rattle.std.specs.Bool.{OnTrue};
 ghost use Rattle.tcp_buffers.specs.Near.{is_ahead, IsNearFirst};
 ghost use Rattle.tcp_endpoint.specs.SendHalf.{IsShort};
-ghost use Rattle.tcp_endpoint.specs.Arrival.{first, ack_at, with_reset_reply, with_reset_reply_without_ack, with_ack_pending_if, with_reset, entering, in_closed, begun, in_listen, answered};
-ghost use Rattle.tcp_endpoint.specs.Arrival.{in_syn_sent, with_text_and_fin, with_fin_acked, with_first_ack, is_bare, with_ack_used, with_ack, check_ack, check_syn, check_rst};
+ghost use Rattle.tcp_endpoint.specs.Arrival.{first, ack_at, with_reset_reply, with_reset_reply_without_ack, with_ack_pending_if, with_reset};
+ghost use Rattle.tcp_endpoint.specs.Arrival.{entering, in_closed, begun, in_listen, answered};
+ghost use Rattle.tcp_endpoint.specs.Arrival.{in_syn_sent, with_text_and_fin, with_fin_acked, with_first_ack, is_bare, with_ack_used, with_ack};
+ghost use Rattle.tcp_endpoint.specs.Arrival.{check_ack, check_syn, check_rst};
 ghost use Rattle.tcp_endpoint.specs.Arrival.{with_time_wait_restarted, is_allowed, check_sequence, in_others, received, within_ip};
 
 use crate::endpoint::Endpoint;
@@ -370,7 +372,8 @@ impl Endpoint {
     pub(crate) fn note_ack(&mut self, p: PacketRef<'_>) -> bool
         ensures used { IsShort self.old.sending → result ≡ not (is_ahead self.old.sending.sent (ack_at self.old (segment_of p.entry))) }
         ensures state { IsShort self.old.sending
-            → self.new ≡ (if is_ahead self.old.sending.sent (ack_at self.old (segment_of p.entry)) then self.old else with_ack_used self.old (segment_of p.entry)) }
+            → self.new ≡ (if is_ahead self.old.sending.sent (ack_at self.old (segment_of p.entry)) then self.old
+            else with_ack_used self.old (segment_of p.entry)) }
         ensures receiving { self.new.receiving ≡ self.old.receiving }
     {
         let head = p.head;

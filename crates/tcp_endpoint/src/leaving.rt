@@ -9,8 +9,10 @@ ghost use Rattle.segment_codec.specs.Value.{said};
 ghost use Rattle.segment_codec.specs.Spelling.{segment_with};
 ghost use Rattle.tcp_endpoint.specs.Packets.{byte_count, IsReadable, AreReadable};
 ghost use Rattle.tcp_endpoint.specs.SendHalf.{in_flight};
-ghost use Rattle.tcp_endpoint.specs.Output.{head_at, opening_segment, text_at, fin_at, texts, reset_reply_out, retransmission_out, probe_out, with_probe, text_out};
-ghost use Rattle.tcp_endpoint.specs.Output.{with_text_sent, new_length, fin_out, with_fin_out, with_timed, is_ack_pending, bare_segment, leaving, full_out, with_ack_delayed, with_advertised, is_timed};
+ghost use Rattle.tcp_endpoint.specs.Output.{head_at, opening_segment, text_at, fin_at, texts, reset_reply_out, retransmission_out, probe_out};
+ghost use Rattle.tcp_endpoint.specs.Output.{with_probe, text_out};
+ghost use Rattle.tcp_endpoint.specs.Output.{with_text_sent, new_length, fin_out, with_fin_out, with_timed, is_ack_pending, bare_segment, leaving};
+ghost use Rattle.tcp_endpoint.specs.Output.{full_out, with_ack_delayed, with_advertised, is_timed};
 ghost use Rattle.tcp_endpoint.specs.Output.{with_turn_ended, flushed, packets, or_bare};
 
 use crate::endpoint::Endpoint;

@@ -2,7 +2,8 @@
 //! speak of offsets in the peer's stream, whatever its initial sequence number.
 
 ghost use Rattle.limits.specs.Limits.{buffer_size, longest_stream};
-ghost use Rattle.std.specs.Prelude.{◌≡◌, ℕ, ◌+◌, ◌-◌, ◌^◌, ◌<◌, ◌≤◌, ◌==◌, ◌&&◌, ◌||◌, not, is_none, pos, negsuc, ◌+ℤ◌, int_lt, Bool, false, true, List, [], ◌++◌, length, min, take, drop, if◌then◌else◌};
+ghost use Rattle.std.specs.Prelude.{◌≡◌, ℕ, ◌+◌, ◌-◌, ◌^◌, ◌<◌, ◌≤◌, ◌==◌, ◌&&◌, ◌||◌, not, is_none, pos, negsuc, ◌+ℤ◌, int_lt, Bool, false, true};
+ghost use Rattle.std.specs.Prelude.{List, [], ◌++◌, length, min, take, drop, if◌then◌else◌};
 ghost use Rattle.std.specs.Bool.{OnTrue};
 ghost use Rattle.seq_arith.specs.Number.{number_at, offset_of};
 ghost use Rattle.tcp_rules.specs.Arrival.{int_eq, lies_in, is_acceptable, is_at_right_edge, is_acceptable_or_at_edge, is_allowed_at_zero, below};

@@ -2,16 +2,19 @@
 //! whatever its initial sequence number.
 
 ghost use Rattle.limits.specs.Limits.{buffer_size, largest_segment, least_segment};
-ghost use Rattle.std.specs.Prelude.{◌≡◌, ℕ, ◌+◌, ◌-◌, ◌%◌, ◌^◌, ◌<◌, ◌≤◌, ◌==◌, ◌&&◌, ◌||◌, pos, int_le, Bool, false, true, not, List, [], ◌++◌, length, min, take};
+ghost use Rattle.std.specs.Prelude.{◌≡◌, ℕ, ◌+◌, ◌-◌, ◌%◌, ◌^◌, ◌<◌, ◌≤◌, ◌==◌, ◌&&◌, ◌||◌, pos, int_le, Bool, false, true, not, List, [], ◌++◌};
+ghost use Rattle.std.specs.Prelude.{length, min, take};
 ghost use Rattle.std.specs.Prelude.{drop, if◌then◌else◌};
 ghost use Rattle.seq_arith.specs.Number.{number_at, offset_of};
 ghost use Rattle.tcp_rules.specs.Arrival.{int_eq};
 ghost use Rattle.tcp_rules.specs.Congestion.{initial_window, is_third};
 ghost use Rattle.seq_arith.specs.Packet.{segment_size};
 ghost use Rattle.tcp_buffers.specs.Near.{is_ahead};
-ghost use Rattle.tcp_endpoint.specs.SendHalf.{sending_measuring, with_segment_size, with_syn_acked, fin_acked, in_flight, is_unacknowledged, expires, is_first_expiry, ticked, must_run, timed};
+ghost use Rattle.tcp_endpoint.specs.SendHalf.{sending_measuring, with_segment_size, with_syn_acked, fin_acked, in_flight, is_unacknowledged, expires};
+ghost use Rattle.tcp_endpoint.specs.SendHalf.{is_first_expiry, ticked, must_run, timed};
 ghost use Rattle.tcp_endpoint.specs.SendHalf.{send_edge, sendable, sends_fin, resent_length, with_sent, with_fin_sent, with_unit_timed};
-ghost use Rattle.tcp_endpoint.specs.SendHalf.{units_of, was_sent, repeats, acks_part, timing_by, restarted, acknowledged, is_duplicate, is_partial_ack, duplicated};
+ghost use Rattle.tcp_endpoint.specs.SendHalf.{units_of, was_sent, repeats, acks_part, timing_by, restarted, acknowledged, is_duplicate};
+ghost use Rattle.tcp_endpoint.specs.SendHalf.{is_partial_ack, duplicated};
 ghost use Rattle.tcp_endpoint.specs.SendHalf.{untimed_if, answered_by, use_of, NumbersFit, IsShort};
 ghost use Rattle.tcp_endpoint.specs.declared.sender.AckUse.TheVariants.{Used, ShowsLoss};
 
@@ -61,7 +64,8 @@ impl Model for Sender {
 }
 
 impl Sender {
-    /// Creates a sender that has sent nothing, with an empty send queue. If it measures round trips, it also recovers the losses of one flight one after another.
+    /// Creates a sender that has sent nothing, with an empty send queue. If it measures round trips, it also recovers the losses of one flight one after
+    /// another.
     pub(crate) fn new(iss: Seq, held: SendQueue, measures: bool) -> Sender
         requires { held ≡ [] }
         ensures { result ≡ sending_measuring measures iss.0 }

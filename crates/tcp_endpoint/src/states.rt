@@ -1,7 +1,8 @@
 //! The states of a connection (RFC 9293, 3.3.2) and their transitions.
 
 ghost use Rattle.std.specs.Prelude.{◌≡◌};
-ghost use Rattle.tcp_endpoint.specs.States.{after_close, after_syn_acked, after_fin_acked, after_fin, is_closed, is_listen, is_syn_sent, is_time_wait, has_begun};
+ghost use Rattle.tcp_endpoint.specs.States.{after_close, after_syn_acked, after_fin_acked, after_fin, is_closed, is_listen, is_syn_sent};
+ghost use Rattle.tcp_endpoint.specs.States.{is_time_wait, has_begun};
 
 /// The eleven states of RFC 9293.
 #[derive(Clone, Copy, Debug, PartialEq, Eq)]

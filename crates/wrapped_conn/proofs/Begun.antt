@@ -1,5 +1,5 @@
 -- A new connection is sound.
-use Rattle.std.proofs.Common.{◌≡◌, ℕ, Bool, ◌<◌, ◌≤◌, ◌+◌, ◌-◌, ◌%◌, ◌^◌, refl, sym, ap, ◌∙◌, [], length, arith}
+use Rattle.std.proofs.Common.{◌≡◌, ℕ, Bool, ◌<◌, ◌≤◌, ◌+◌, ◌-◌, ◌%◌, ◌^◌, refl, sym, ap, ◌∙◌, List, [], length, arith}
 use Rattle.ft_io.specs.declared.Addr.{Addr}
 use Rattle.ft_io.specs.declared.Key.{Key}
 use Rattle.seq_arith.specs.Number.{distance, number_at}
@@ -36,18 +36,18 @@ nothing_fetched cisn f = omega arith
 nothing_swallowed : (sisn : ℕ) → sisn < 2 ^ 32 → distance ((sisn + 0) % 2 ^ 32) sisn ≡ 0
 nothing_swallowed sisn fits = omega (arith, fits)
 
-pub first_is : {S : Type 0} (profile : Profile) (boot : ℕ) (key : Key) (local : Addr) (cisn sisn mss : ℕ) (service : S) (south : SouthState) (e t : Tcb) (north : NorthState S) (seen : Segment) (c : ConnState S)
-    → c ≡ joined_conn_in profile boot key local south t north → south ≡ first_south cisn sisn → north ≡ fresh_north service → t ≡ received e seen → e ≡ listening_measuring profile.measures local sisn (2 ^ 24)
-    → seen ≡ syn key local cisn mss → c ≡ first_conn_in profile boot key local cisn sisn mss service
+pub first_is : {S : Type 0} (profile : Profile) (boot : ℕ) (key : Key) (local : Addr) (cisn sisn mss : ℕ) (service : S) (greeting : List ℕ) (south : SouthState) (e t : Tcb) (north : NorthState S) (seen : Segment) (c : ConnState S)
+    → c ≡ joined_conn_in profile boot key local south t north → south ≡ first_south cisn sisn → north ≡ fresh_north service greeting → t ≡ received e seen → e ≡ listening_measuring profile.measures local sisn (2 ^ 24)
+    → seen ≡ syn key local cisn mss → c ≡ first_conn_in profile boot key local cisn sisn mss service greeting
 unfolding first_conn_in
-first_is profile boot key local cisn sisn mss service south e t north seen c is so nn te li se =
+first_is profile boot key local cisn sisn mss service greeting south e t north seen c is so nn te li se =
     let tcp : t ≡ received (listening_measuring profile.measures local sisn (2 ^ 24)) (syn key local cisn mss) = te ∙ (λ j. received (li j) (se j)) in
     is ∙ (λ j. joined_conn_in profile boot key local (so j) (tcp j) (nn j))
 
-pub first_sound : {S : Type 0} (profile : Profile) (boot : ℕ) (key : Key) (local : Addr) (cisn sisn mss : ℕ) (service : S) → 1 ≤ boot → sisn < 2 ^ 32
-    → IsSound (first_conn_in profile boot key local cisn sisn mss service)
+pub first_sound : {S : Type 0} (profile : Profile) (boot : ℕ) (key : Key) (local : Addr) (cisn sisn mss : ℕ) (service : S) (greeting : List ℕ) → length greeting ≤ 65535 → 1 ≤ boot → sisn < 2 ^ 32
+    → IsSound (first_conn_in profile boot key local cisn sisn mss service greeting)
 unfolding first_conn_in
-first_sound profile boot key local cisn sisn mss service live fits =
+first_sound profile boot key local cisn sisn mss service greeting few live fits =
     let e : Tcb = received (listening_measuring profile.measures local sisn (2 ^ 24)) (syn key local cisn mss) in
     let f = syn_fields profile.measures key local cisn sisn mss in
     let fetched : distance (number_at cisn 0) ((cisn + 1) % 2 ^ 32) - one_if (has_fin e.name) ≡ 0 = nothing_fetched cisn (one_if (has_fin e.name)) in
@@ -60,7 +60,7 @@ first_sound profile boot key local cisn sisn mss service live fits =
         limit = omega (arith, f.1, fetched);
         read = omega (arith, f.0, fetched);
         rest = omega (arith, f.0, fetched);
-        made = omega arith;
+        made = omega (arith, few);
         written = λ o. omega (arith, f.4, held);
         count = omega arith;
         tellable = tt;

@@ -17,7 +17,7 @@ use Rattle.south_wrap.specs.Translation.{Copied, copied, is_some_copied}
 use Rattle.wrapped_conn.specs.declared.stage.Before.{Before}
 use Rattle.wrapped_conn.specs.ConnState.{ConnState}
 use Rattle.wrapped_conn.specs.Numbers.{has_fin, fetched_or_read, una_units, bytes_taken, logged_units}
-use Rattle.wrapped_conn.specs.LoggerMessages.{own_data, further_start, unread_from, further_data, or_una, copies}
+use Rattle.wrapped_conn.specs.LoggerMessages.{own_data, further_start, unread_from, further_data, or_una, in_batch, copies}
 
 regrouped : (a b c d : Bool) → (a && (b && c && d)) ≡ (a && b && c && d)
 regrouped true b c d = refl
@@ -54,12 +54,13 @@ pub record CopiesAt {S : Type 0} (before : Before) (p q : Point) (c : ConnState 
   pub fin : has_fin c.endpoint.name ≡ q.fin
   pub unread : drop (fetched_or_read c) q.taken ≡ c.endpoint.receiving.unread
   pub behind : fetched_or_read c ≤ before.taken
+  pub batches : c.batches ≡ q.batches
 
 own_is : {S : Type 0} (before : Before) (segment : Segment) (p q : Point) (c : ConnState S) → CopiesAt before p q c → own_data segment c ≡ law.own_data q segment
 unfolding law.own_data
 own_is before segment p q c k =
     let part : copied c.south segment ≡ by_law q segment = copied_is c.south q segment k.cisn k.south_answered k.south_taken k.south_fin in
-    λ j. if is_some_copied (part j) then DataMsg (record { key = k.key j; offset = (part j).offset; acked = k.una j; fin = (part j).fin; bytes = (part j).text }) ∷ [] else []
+    λ j. if is_some_copied (part j) then DataMsg (record { key = k.key j; offset = (part j).offset; acked = k.una j; fin = (part j).fin; more = false; bytes = (part j).text }) ∷ [] else []
 
 start_is : {S : Type 0} (before : Before) (segment : Segment) (p q : Point) (c : ConnState S) → CopiesAt before p q c → further_start before segment c ≡ law.further_start p q segment
 unfolding further_start
@@ -89,13 +90,14 @@ further_is before segment p q c k =
 
 or_una_is : {S : Type 0} (before : Before) (p q : Point) (c : ConnState S) → CopiesAt before p q c → (bodies : List Body) → or_una before.una c bodies ≡ law.or_una p q bodies
 or_una_is before p q c k [] =
-    λ j. if nat_lt (k.una_before j) (k.una j) then DataMsg (record { key = k.key j; offset = min (k.answered j) (k.bytes j); acked = k.una j; fin = false; bytes = [] }) ∷ [] else []
+    λ j. if nat_lt (k.una_before j) (k.una j) then DataMsg (record { key = k.key j; offset = min (k.answered j) (k.bytes j); acked = k.una j; fin = false; more = false; bytes = [] }) ∷ [] else []
 or_una_is before p q c k (first ∷ others) = refl
 
 pub copies_is : {S : Type 0} (before : Before) (segment : Segment) (p q : Point) (c : ConnState S) → CopiesAt before p q c → copies before segment c ≡ law.copies (Comes segment) p q
 unfolding copies law.copies
 copies_is before segment p q c k =
-    or_una_is before p q c k (own_data segment c ++ further_data before segment c) ∙ (λ j. law.or_una p q (own_is before segment p q c k j ++ further_is before segment p q c k j))
+    ap (in_batch c.batches) (or_una_is before p q c k (own_data segment c ++ further_data before segment c))
+    ∙ (λ j. in_batch (k.batches j) (law.or_una p q (own_is before segment p q c k j ++ further_is before segment p q c k j)))
 
 -- only of a segment is anything copied
 pub none_of_logged : (kept : Kept) (p q : Point) → law.copies (Logged kept) p q ≡ []

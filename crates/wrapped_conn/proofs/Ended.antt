@@ -46,7 +46,7 @@ use Rattle.wrapped_conn.specs.declared.stage.Before.{Before}
 use Rattle.wrapped_conn.specs.ConnState.{ConnState}
 use Rattle.wrapped_conn.specs.Numbers.{sent_units, outer_sent}
 use Rattle.wrapped_conn.specs.Output.{passed, syn_ack, bare, is_ack_pending, is_delayed, tcp_out, leaves, turn_ended, with_endpoint_flushed}
-use Rattle.wrapped_conn.specs.LoggerMessages.{spelled, is_done}
+use Rattle.wrapped_conn.specs.LoggerMessages.{grammar_by, spelled, is_done}
 use Rattle.wrapped_conn.specs.Turn.{served, tcp_used}
 use Rattle.wrapped_conn.specs.Calls.{calls_of}
 use Rattle.wrapped_conn.specs.Refinement.{StandsLive, StandsReset, IsSpelled, Leads}
@@ -72,6 +72,7 @@ pub record HasNews {S : Type 0} (news : News) (p : Point) (c : ConnState S) : Ty
   pub unanswered : is_done c.stage ≡ false
   pub local : c.endpoint.local ≡ c.local
   pub delays : c.delays ≡ p.delays
+  pub batches : c.batches ≡ p.batches
 
 pub units_of : (sisn other sent number : ℕ) → number ≡ number_at sisn sent → other ≡ sisn → sent ≤ 2 ^ 24 + 1 → distance number ((other + 1) % 2 ^ 32) ≡ sent
 units_of sisn other sent number a b c = omega (arith, a, b, c)
@@ -153,19 +154,19 @@ maps : (boot : ℕ) (bodies : List Body) → map (told_by boot) bodies ≡ map T
 maps boot [] = refl
 maps boot (body ∷ bodies) = ap (λ xs. told_by boot body ∷ xs) (maps boot bodies)
 
-spells : (boot : ℕ) (bodies : List Body) → spelled boot bodies ≡ map message.spelling (map (λ body. record { boot = boot; body = body }) bodies)
-spells boot [] = refl
-spells boot (body ∷ bodies) = ap (λ xs. message.spelling (record { boot = boot; body = body }) ∷ xs) (spells boot bodies)
+spells : (wide : Bool) (boot : ℕ) (bodies : List Body) → spelled wide boot bodies ≡ map (message.spelling_by (grammar_by wide)) (map (λ body. record { boot = boot; body = body }) bodies)
+spells wide boot [] = refl
+spells wide boot (body ∷ bodies) = ap (λ xs. message.spelling_by (grammar_by wide) (record { boot = boot; body = body }) ∷ xs) (spells wide boot bodies)
 
-pub spelled_by : (boot : ℕ) (to_client : List Segment) (bodies : List Body) (sent : List Packet) (out messages : List (List ℕ))
-    → sent ≡ map To_client to_client ++ map (told_by boot) bodies → out ≡ packets to_client → messages ≡ spelled boot bodies → IsSpelled sent out messages
+pub spelled_by : (wide : Bool) (boot : ℕ) (to_client : List Segment) (bodies : List Body) (sent : List Packet) (out messages : List (List ℕ))
+    → sent ≡ map To_client to_client ++ map (told_by boot) bodies → out ≡ packets to_client → messages ≡ spelled wide boot bodies → IsSpelled wide sent out messages
 unfolding packets
-spelled_by boot to_client bodies sent out messages a b c = record {
+spelled_by wide boot to_client bodies sent out messages a b c = record {
   to_client = to_client;
   to_logger = map (λ body. record { boot = boot; body = body }) bodies;
   order = a ∙ ap (λ xs. map To_client to_client ++ xs) (maps boot bodies);
   segments_are = b;
-  messages_are = c ∙ spells boot bodies;
+  messages_are = c ∙ spells wide boot bodies;
 }
 
 -- the new reads are told by index
@@ -221,7 +222,7 @@ pub carries_on : {S : Type 0} (service : Machine S) (u i : ℕ) (news : News) (p
     → again ≡ repeats news p
     → copied ≡ model.copies news p k.after
     → out ≡ packets (leaves before again (turn_ended (served n reads c)) (tcp_out before (served n reads c)))
-    → messages ≡ spelled c.boot (copied ++ messages_of c.key reads)
+    → messages ≡ spelled c.batches c.boot (copied ++ messages_of c.key reads)
     → Leads service c.local c.boot news p (turn_ended (served n reads c)) out messages
 unfolding end_ticks_after
 carries_on service u i news p c n reads before again copied out messages h off unreset few k older told ack_pending waits repeated copy goes_out says =
@@ -256,10 +257,11 @@ carries_on service u i news p c n reads before again copied out messages h off u
           reset = h.reset ∙ sym l.reset;
           unanswered = h.unanswered;
           delays = h.delays ∙ sym l.same.delays;
+          batches = h.batches ∙ sym l.same.batches;
         };
         parts = subst (λ b. MatchBool b (StandsReset service q new) (StandsLive service q new)) (sym l.reset)
             (record { u = u; i = i; given = k.given; parts = k.rest; local = flushed_local t ∙ used_local (calls_of c.north c.endpoint (lengths_of reads)) c.endpoint ∙ h.local });
       };
-      spelled = spelled_by c.boot (segments_of service c.local news p q) (model.copies news p q ++ (reads_told news p q ++ dones_by_law news p q)) _ out messages refl (goes_out ∙ ap packets leave)
-          (says ∙ ap (spelled c.boot) bodies);
+      spelled = spelled_by p.batches c.boot (segments_of service c.local news p q) (model.copies news p q ++ (reads_told news p q ++ dones_by_law news p q)) _ out messages refl (goes_out ∙ ap packets leave)
+          (says ∙ (λ j. spelled (h.batches j) c.boot (bodies j)));
     }

@@ -1,5 +1,5 @@
 -- A turn in which more is known to be logged, and the one in which a connection becomes live at the end of a restart.
-use Rattle.std.proofs.Common.{◌≡◌, ℕ, ◌≤◌, ◌+◌, ◌^◌, Bool, true, false, not, List, [], ◌∷◌, max, refl, sym, ap, subst, arith, ◌∙◌}
+use Rattle.std.proofs.Common.{◌≡◌, ℕ, ◌≤◌, ◌+◌, ◌^◌, Bool, true, false, not, List, [], ◌∷◌, max, refl, sym, ap, ap₂, subst, arith, ◌∙◌}
 use Rattle.std.specs.Prelude.{◌==◌, ◌&&◌, ◌||◌, nat_lt, if◌then◌else◌}
 use Rattle.std.specs.Bool.{MatchBool}
 use Rattle.seq_arith.specs.Message.{Kept}
@@ -77,6 +77,7 @@ has_heard service p c kept keeps local unreset = record {
   reset = keeps.reset ∙ unreset;
   unanswered = keeps.unanswered;
   delays = keeps.delays;
+  batches = keeps.batches;
   local = local;
 }
 
@@ -126,10 +127,11 @@ rests_turn service p c new kept out messages keeps stands is_reset k =
       reset = keeps.reset ∙ is_reset;
       unanswered = keeps.unanswered;
       delays = keeps.delays;
+      batches = keeps.batches;
     }))
     (subst (TcpTells (reset_point (Logged kept) p)) (sym k.state) (record { taken = stands.told.taken; una = stands.told.una; sent = stands.told.sent }))
     k.goes_out
-    (k.told ∙ ap (spelled c.boot) (sym (λ j. if (true && not (is_reset j)) || (false && (true || p.end_ticks == 4)) then DoneMsg p.key ∷ [] else [])))
+    (k.told ∙ ap₂ (λ b xs. spelled b c.boot xs) keeps.batches (sym (λ j. if (true && not (is_reset j)) || (false && (true || p.end_ticks == 4)) then DoneMsg p.key ∷ [] else [])))
 
 pub hears : {S : Type 0} (service : Machine S) (p : Point) (c new : ConnState S) (kept : Kept) (out messages : List (List ℕ)) → IsSound c → IsSound new → Stands service c p
     → Hears service.after kept.length kept.fin kept.reads c new out messages → Leads service c.local c.boot (Logged kept) p new out messages
@@ -154,6 +156,7 @@ has_begun p c keeps local unreset = record {
   reset = keeps.reset ∙ unreset;
   unanswered = keeps.unanswered;
   delays = keeps.delays;
+  batches = keeps.batches;
   local = local;
 }
 

@@ -22,6 +22,7 @@ pub mod Waits
 pub mod Delays
 pub mod Copies
 pub mod Datas
+pub mod Batches
 pub mod ResetTurn
 pub mod Receiving
 pub mod Hearing

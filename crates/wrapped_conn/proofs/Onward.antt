@@ -35,7 +35,7 @@ pub goes_on : {S : Type 0} (after : S → List ℕ → Served S) (before : Befor
     → leaving waiting.endpoint ≡ tcp_out before mid → turn_ended waiting ≡ turn_ended mid
     → new ≡ turn_ended waiting → out ≡ packets (passed (turn_ended waiting).south (leaving waiting.endpoint))
     → with_opening ≡ (if repeats then out ++ spelling (syn_ack new) ∷ [] else out) → ack_pending ≡ is_ack_pending before new → whole ≡ or_bare ack_pending (spelling (bare new)) with_opening
-    → told ≡ spelled old.boot copied → told_on ≡ told ++ spelled new.boot (messages_of new.key news)
+    → told ≡ spelled old.batches old.boot copied → told_on ≡ told ++ spelled new.batches new.boot (messages_of new.key news)
     → CompletesTurn after before repeats copied old new whole told_on
 goes_on {S} after before repeats ack_pending copied old mid waiting new north news out with_opening whole told told_on turn mid_is sent_is ended_is new_is out_is opening_is ack_pending_is whole_is told_is on_is =
     let q : ConnState S = turn_ended (served north news old) in
@@ -49,11 +49,11 @@ goes_on {S} after before repeats ack_pending copied old mid waiting new north ne
     ∙ (λ j. or_bare (is_ack_pending before (is j)) (spelling (bare (is j))) (if repeats then out_q j ++ spelling (syn_ack (is j)) ∷ [] else out_q j))
     ∙ ap (or_bare (is_ack_pending before q) (spelling (bare q))) (with_syn_ack repeats (syn_ack q) (passed q.south sent))
     ∙ bare_packets (is_ack_pending before q) (bare q) (passed q.south sent ++ (if repeats then syn_ack q ∷ [] else [])) in
-    let messages : told_on ≡ spelled old.boot (copied ++ messages_of old.key news) =
-    on_is ∙ (λ j. told_is j ++ spelled (is j).boot (messages_of (is j).key news)) ∙ sym (map_append _ copied (messages_of old.key news)) in
+    let messages : told_on ≡ spelled old.batches old.boot (copied ++ messages_of old.key news) =
+    on_is ∙ (λ j. told_is j ++ spelled (is j).batches (is j).boot (messages_of (is j).key news)) ∙ sym (map_append _ copied (messages_of old.key news)) in
     subst (λ x. CompletesTurn after before repeats copied old x whole told_on) (sym is) (record {
       north = subst (λ r. Turns after tcp_reader tcp_writer (una_units old) old.north old.endpoint r north (tcp_used old r)) (sym reads) turn;
       state = ap (λ r. turn_ended (served north r old)) (sym reads);
       goes_out = all ∙ ap (λ r. packets (leaves before repeats q (tcp_out before (served north r old)))) (sym reads);
-      told = messages ∙ ap (λ r. spelled old.boot (copied ++ messages_of old.key r)) (sym reads);
+      told = messages ∙ ap (λ r. spelled old.batches old.boot (copied ++ messages_of old.key r)) (sym reads);
     })

@@ -1,5 +1,5 @@
 -- A segment's turn.
-use Rattle.std.proofs.Common.{◌≡◌, ℕ, ◌≤◌, ◌+◌, ◌^◌, Bool, true, false, not, List, [], ◌∷◌, length, drop, max, refl, sym, ap, subst, arith, ◌∙◌}
+use Rattle.std.proofs.Common.{◌≡◌, ℕ, ◌≤◌, ◌+◌, ◌^◌, Bool, true, false, not, List, [], ◌∷◌, length, drop, max, refl, sym, ap, ap₂, subst, arith, ◌∙◌}
 use Rattle.std.specs.Prelude.{◌==◌, ◌&&◌, ◌||◌, nat_lt, pos, if◌then◌else◌}
 use Rattle.std.specs.Bool.{MatchBool}
 use Rattle.tcp_rules.specs.Arrival.{int_eq}
@@ -97,6 +97,7 @@ has_come service p c segment keeps live unreset tell made =
       reset = keeps.reset ∙ unreset;
       unanswered = keeps.unanswered;
       delays = keeps.delays;
+      batches = keeps.batches;
       local = arrived_local (repeats_syn (south_at c.south.delta p) segment) (inward (south_at c.south.delta p) segment) c.endpoint ∙ live.local;
     }
 
@@ -162,6 +163,7 @@ live_turn service p c new segment out messages sound sound_new keeps live unrese
       fin = ap (λ (s : SouthState). s.fin) h.south ∙ sym here.goes.fin;
       unread = (λ j. drop (max (keeps.fetched j) c.north.read) (here.goes.taken j)) ∙ told.unread;
       behind = omega arith;
+      batches = keeps.batches ∙ sym here.goes.same.batches;
     }) in
     let ack_pending : PartsTell service c.south.delta q new.north (flushed t) → is_ack_pending (before_segment c segment) (turn_ended (served new.north reads there)) ≡ adds service news p q t = λ tell.
     ack_pending_is service p q t c (turn_ended (served new.north reads there)) segment numbers
@@ -196,10 +198,11 @@ reset_turn service p c new segment out messages sound keeps live unreset resets 
       reset = refl;
       unanswered = still_unanswered c.stage keeps.unanswered;
       delays = keeps.delays;
+      batches = keeps.batches;
     }))
     (subst (TcpTells (reset_point (Comes segment) p)) (sym k.state) (record { taken = told.taken; una = told.una; sent = told.sent }))
     k.goes_out
-    (k.told ∙ ap (spelled c.boot) (dones_are (record c { reset = true }) keeps.unanswered ∙ (λ j. DoneMsg (keeps.key j) ∷ []) ∙ sym (λ j. if (true && not (unreset j)) || (false && (true || p.end_ticks == 4)) then DoneMsg p.key ∷ [] else [])))
+    (k.told ∙ ap₂ (λ b xs. spelled b c.boot xs) keeps.batches (dones_are (record c { reset = true }) keeps.unanswered ∙ (λ j. DoneMsg (keeps.key j) ∷ []) ∙ sym (λ j. if (true && not (unreset j)) || (false && (true || p.end_ticks == 4)) then DoneMsg p.key ∷ [] else [])))
 
 -- and one that comes after that
 rests_turn : {S : Type 0} (service : Machine S) (p : Point) (c new : ConnState S) (segment : Segment) (out messages : List (List ℕ)) → Keeps p c → StandsReset service p c → p.reset ≡ true
@@ -218,10 +221,11 @@ rests_turn service p c new segment out messages keeps stands is_reset k =
       reset = keeps.reset ∙ is_reset;
       unanswered = keeps.unanswered;
       delays = keeps.delays;
+      batches = keeps.batches;
     }))
     (subst (TcpTells (reset_point (Comes segment) p)) (sym k.state) (record { taken = stands.told.taken; una = stands.told.una; sent = stands.told.sent }))
     k.goes_out
-    (k.told ∙ ap (spelled c.boot) (sym (λ j. if (true && not (is_reset j)) || (false && (true || p.end_ticks == 4)) then DoneMsg p.key ∷ [] else [])))
+    (k.told ∙ ap₂ (λ b xs. spelled b c.boot xs) keeps.batches (sym (λ j. if (true && not (is_reset j)) || (false && (true || p.end_ticks == 4)) then DoneMsg p.key ∷ [] else [])))
 
 pub parts_live : {S : Type 0} (service : Machine S) (c : ConnState S) (p : Point) → Stands service c p → p.reset ≡ false → StandsLive service p c
 parts_live service c p st off = subst (λ b. MatchBool b (StandsReset service p c) (StandsLive service p c)) off st.parts

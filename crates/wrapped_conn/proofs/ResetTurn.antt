@@ -28,7 +28,7 @@ reset_point news p = record p { answered = answered_after news p; reads_answered
 
 pub resets_on : {S : Type 0} (service : Machine S) (server : Addr) (boot given : ℕ) (news : News) (p : Point) (n : NorthState S) (new : ConnState S) (out messages : List (List ℕ))
     → reset_after news p ≡ true → NorthStands service p given n → new.north ≡ north_after_news news n → Keeps (reset_point news p) new → TcpTells (reset_point news p) new
-    → out ≡ [] → messages ≡ spelled boot (dones_by_law news p (reset_point news p)) → Leads service server boot news p new out messages
+    → out ≡ [] → messages ≡ spelled p.batches boot (dones_by_law news p (reset_point news p)) → Leads service server boot news p new out messages
 unfolding packets
 resets_on service server boot given news p n new out messages is_reset north hears keeps tells silent told =
     let q : Point = reset_point news p in
@@ -39,7 +39,7 @@ resets_on service server boot given news p n new out messages is_reset north hea
       sent = map (told_by boot) (dones_by_law news p q);
       goes = subst (λ b. MatchBool b (ResetTurn boot news p q (map (told_by boot) (dones_by_law news p q))) (LiveTurn service server boot news p q (map (told_by boot) (dones_by_law news p q)))) (sym is_reset) turn;
       stands = record { keeps = keeps; parts = record { given = given; north = subst (NorthStands service q given) (sym hears) stands; told = tells } };
-      spelled = spelled_by boot [] (dones_by_law news p q) (map (told_by boot) (dones_by_law news p q)) out messages refl silent told;
+      spelled = spelled_by p.batches boot [] (dones_by_law news p q) (map (told_by boot) (dones_by_law news p q)) out messages refl silent told;
     }
 
 -- Done, which the logger hasn't answered

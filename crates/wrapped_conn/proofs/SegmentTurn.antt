@@ -13,20 +13,21 @@ use Rattle.wrapped_conn.specs.ConnState.{ConnState}
 use Rattle.wrapped_conn.specs.Arrival.{arrived, before_segment}
 use Rattle.wrapped_conn.specs.LoggerMessages.{copies, spelled}
 use Rattle.wrapped_conn.specs.Turn.{CompletesTurn}
-use Rattle.wrapped_conn.proofs.Copied.{of_read, same_boot}
+use Rattle.wrapped_conn.proofs.Copied.{of_read, same_boot, same_batches}
 
 -- what is copied of it
 abbrev pub copied_now : {S : Type 0} → ConnState S → Before → List ℕ → List Body
 copied_now old before bytes = copies before (segment_in bytes) (arrived (segment_in bytes) old)
 
 pub told_now : {S : Type 0} (old mid : ConnState S) (before : Before) (bytes : List ℕ) (told : List (List ℕ)) → IsOk (reading bytes) → IfOk (reading bytes) (λ segment. mid ≡ arrived segment old)
-    → IfOk (reading bytes) (λ segment. told ≡ spelled old.boot (copies before segment (arrived segment old))) → told ≡ spelled mid.boot (copied_now old before bytes)
+    → IfOk (reading bytes) (λ segment. told ≡ spelled old.batches old.boot (copies before segment (arrived segment old))) → told ≡ spelled mid.batches mid.boot (copied_now old before bytes)
 told_now old mid before bytes told ok arrive said =
     let seg : Segment = segment_in bytes in
     let is : reading bytes ≡ Ok seg = is_read bytes ok in
     let here : mid ≡ arrived seg old = IfOk-at_ok (λ x. mid ≡ arrived x old) is arrive in
     let boot : mid.boot ≡ old.boot = ap (λ (x : ConnState _). x.boot) here ∙ same_boot seg old in
-    IfOk-at_ok (λ x. told ≡ spelled old.boot (copies before x (arrived x old))) is said ∙ ap (λ b. spelled b (copied_now old before bytes)) (sym boot)
+    let batches : mid.batches ≡ old.batches = ap (λ (x : ConnState _). x.batches) here ∙ same_batches seg old in
+    IfOk-at_ok (λ x. told ≡ spelled old.batches old.boot (copies before x (arrived x old))) is said ∙ sym (λ j. spelled (batches j) (boot j) (copied_now old before bytes))
 
 pub takes : {S : Type 0} (after : S → List ℕ → Served S) (old mid new : ConnState S) (before : Before) (repeats : Bool) (bytes : List ℕ) (out told : List (List ℕ)) → IsOk (reading bytes)
     → IfOk (reading bytes) (λ segment. before ≡ before_segment old segment) → IfOk (reading bytes) (λ segment. repeats ≡ repeats_syn old.south segment)

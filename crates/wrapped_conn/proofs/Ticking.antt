@@ -1,5 +1,5 @@
 -- A tick.
-use Rattle.std.proofs.Common.{◌≡◌, ℕ, ◌≤◌, ◌+◌, ◌^◌, Bool, true, false, not, List, [], ◌∷◌, ◌++◌, append-nil, length, sum, min, refl, sym, ap, subst, arith, ◌∙◌}
+use Rattle.std.proofs.Common.{◌≡◌, ℕ, ◌≤◌, ◌+◌, ◌^◌, Bool, true, false, not, List, [], ◌∷◌, ◌++◌, append-nil, length, sum, min, refl, sym, ap, ap₂, subst, arith, ◌∙◌}
 use Rattle.std.specs.Prelude.{◌==◌, ◌&&◌, ◌||◌, nat_lt, nat_le, if◌then◌else◌}
 use Rattle.std.specs.Bool.{MatchBool}
 use Rattle.seq_arith.specs.Message.Body.{DoneMsg}
@@ -136,6 +136,7 @@ keeps_ended true q x k = record {
   reset = k.reset;
   unanswered = still_unanswered x.stage k.unanswered;
   delays = k.delays;
+  batches = k.batches;
 }
 
 live_ended : {S : Type 0} (service : Machine S) (b : Bool) (q : Point) (x : ConnState S) → StandsLive service q x → StandsLive service q (if b then with_done x else x)
@@ -177,6 +178,7 @@ live_turn service p c new out messages sound keeps live unreset tick =
       reset = keeps.reset ∙ unreset ∙ sym l.reset;
       unanswered = keeps.unanswered;
       delays = keeps.delays ∙ sym l.same.delays;
+      batches = keeps.batches ∙ sym l.same.batches;
     } in
     let live_on : StandsLive service q y = record { u = live.u; i = live.i; given = k.given; parts = k.rest; local = flushed_local t ∙ tick_local c.endpoint ∙ live.local } in
     let leads : Leads service c.local c.boot Ticks p (if y.end_ticks == 4 then with_done y else y) out messages = record {
@@ -188,7 +190,7 @@ live_turn service p c new out messages sound keeps live unreset tick =
         parts = subst (λ b. MatchBool b (StandsReset service q (if y.end_ticks == 4 then with_done y else y)) (StandsLive service q (if y.end_ticks == 4 then with_done y else y))) (sym l.reset)
             (live_ended service (y.end_ticks == 4) q y live_on);
       };
-      spelled = spelled_by c.boot (segments_of service c.local Ticks p q) (copies_by_law Ticks p q ++ (reads_told Ticks p q ++ dones_by_law Ticks p q)) _ out messages refl (tick.goes_out ∙ ap packets leave) (tick.told ∙ ap (spelled c.boot) bodies);
+      spelled = spelled_by p.batches c.boot (segments_of service c.local Ticks p q) (copies_by_law Ticks p q ++ (reads_told Ticks p q ++ dones_by_law Ticks p q)) _ out messages refl (tick.goes_out ∙ ap packets leave) (tick.told ∙ ap₂ (λ b xs. spelled b c.boot xs) keeps.batches bodies);
     } in
     subst (λ n. Leads service c.local c.boot Ticks p n out messages) (sym tick.state) leads
 
@@ -207,10 +209,11 @@ reset_turn service p c new out messages keeps stands is_reset k =
       reset = keeps.reset ∙ is_reset;
       unanswered = still_unanswered c.stage keeps.unanswered;
       delays = keeps.delays;
+      batches = keeps.batches;
     }))
     (subst (TcpTells (reset_point Ticks p)) (sym k.state) (record { taken = stands.told.taken; una = stands.told.una; sent = stands.told.sent }))
     k.goes_out
-    (k.told ∙ ap (spelled c.boot) (dones_are c keeps.unanswered ∙ (λ j. DoneMsg (keeps.key j) ∷ []) ∙ sym (λ j. if (true && not (is_reset j)) || (true && (true || p.end_ticks == 4)) then DoneMsg p.key ∷ [] else [])))
+    (k.told ∙ ap₂ (λ b xs. spelled b c.boot xs) keeps.batches (dones_are c keeps.unanswered ∙ (λ j. DoneMsg (keeps.key j) ∷ []) ∙ sym (λ j. if (true && not (is_reset j)) || (true && (true || p.end_ticks == 4)) then DoneMsg p.key ∷ [] else [])))
 
 pub ticks : {S : Type 0} (service : Machine S) (p : Point) (c new : ConnState S) (out messages : List (List ℕ)) → IsSound c → Stands service c p
     → TicksOn c new out messages → Leads service c.local c.boot Ticks p new out messages

@@ -5,22 +5,22 @@ use Rattle.std.specs.Bool.{OnTrue, OnFalse}
 use Rattle.seq_arith.specs.Message.Body.{ReadMsg}
 use Rattle.seq_arith.specs.declared.kinds.Kind.{Kind}
 use Rattle.seq_arith.specs.declared.kinds.Kind.TheVariants as kinds
-use Rattle.seq_arith.specs.MessageGrammar.{spelling, behind_at}
+use Rattle.seq_arith.specs.MessageGrammar.{spelling_by, behind_at}
 use Rattle.ft_io.specs.declared.Key.{Key}
 use Rattle.north_wrap.specs.declared.read_record.ReadRecord.{ReadRecord}
 use Rattle.north_wrap.specs.Refinement.{messages_of}
 use Rattle.tcp_endpoint.specs.Packets.{byte_count}
-use Rattle.wrapped_conn.specs.LoggerMessages.{spelled, AreTellable}
+use Rattle.wrapped_conn.specs.LoggerMessages.{grammar_by, spelled, AreTellable}
 use Rattle.tcp_endpoint.proofs.Spelled.{byte_count_push}
 
 abbrev pub pair : ℕ → ℕ → ℕ × ℕ
 pair x y = (x, y)
 
-pub read_next : (boot : ℕ) (key : Key) (reads : List ReadRecord) (i index count : ℕ) → i < length reads → IfSome (slice_get reads i) (λ r. pair index count ≡ pair r.index r.length)
-    → spelled boot (messages_of key (drop i reads)) ≡ spelling (record { boot = boot; body = ReadMsg key index count }) ∷ spelled boot (messages_of key (drop (suc i) reads))
-read_next boot key [] i index count low is = absurd (omega (arith, low))
-read_next boot key (r ∷ reads) zero index count low is = λ j. spelling (record { boot = boot; body = ReadMsg key ((sym is) j).0 ((sym is) j).1 }) ∷ spelled boot (messages_of key reads)
-read_next boot key (r ∷ reads) (suc i) index count low is = read_next boot key reads i index count (omega (arith, low)) is
+pub read_next : (wide : Bool) (boot : ℕ) (key : Key) (reads : List ReadRecord) (i index count : ℕ) → i < length reads → IfSome (slice_get reads i) (λ r. pair index count ≡ pair r.index r.length)
+    → spelled wide boot (messages_of key (drop i reads)) ≡ spelling_by (grammar_by wide) (record { boot = boot; body = ReadMsg key index count }) ∷ spelled wide boot (messages_of key (drop (suc i) reads))
+read_next wide boot key [] i index count low is = absurd (omega (arith, low))
+read_next wide boot key (r ∷ reads) zero index count low is = λ j. spelling_by (grammar_by wide) (record { boot = boot; body = ReadMsg key ((sym is) j).0 ((sym is) j).1 }) ∷ spelled wide boot (messages_of key reads)
+read_next wide boot key (r ∷ reads) (suc i) index count low is = read_next wide boot key reads i index count (omega (arith, low)) is
 
 pub read_fits : (reads : List ReadRecord) (i index count : ℕ) → i < length reads → IfSome (slice_get reads i) (λ r. pair index count ≡ pair r.index r.length) → AreTellable reads
     → (index ≤ 2 ^ 24 + 1) × (count ≤ 2048)

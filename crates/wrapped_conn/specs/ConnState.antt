@@ -19,3 +19,4 @@ pub record ConnState (S : Type 0) : Type 0 where
   pub reset : Bool  -- whether the client has reset it
   pub stage : ConnStage  -- how far it has come
   pub delays : Bool  -- whether the ACK of what isn't logged yet waits for the log
+  pub batches : Bool  -- whether the Data of a turn are a batch, in the wide grammar

@@ -1,13 +1,16 @@
 -- What a connection sends to the logger in a turn.
 use Rattle.limits.specs.Limits.{largest_segment, most_units}
-use Rattle.std.specs.Prelude.{ℕ, ℤ, Bool, true, false, pos, ◌≤◌, ◌+◌, ◌-◌, ◌*◌, ◌^◌, ◌+ℤ◌, ◌&&◌, not, min, max, nat_lt, nat_le, List, [], ◌∷◌, ◌++◌, map, length, drop, if◌then◌else◌}
+use Rattle.std.specs.Prelude.{ℕ, ℤ, Bool, true, false, pos, ◌≤◌, ◌+◌, ◌-◌, ◌*◌, ◌^◌, ◌+ℤ◌, ◌&&◌, ◌||◌, not, min, max, nat_lt, nat_le, List, [], ◌∷◌}
+use Rattle.std.specs.Prelude.{◌++◌, map, length, drop, if◌then◌else◌}
 use Rattle.std.specs.List.{AllByRecursion}
 use Rattle.seq_arith.specs.Offset.{first_of, text_of}
 use Rattle.seq_arith.specs.Packet.{Segment}
 use Rattle.seq_arith.specs.Message.{Part, Body}
 use Rattle.seq_arith.specs.Message.Body.{DataMsg, DoneMsg}
-use Rattle.seq_arith.specs.MessageGrammar.{spelling, behind_of}
-use Rattle.ft_model.specs.Copy.{from_start, datas}
+use Rattle.seq_arith.specs.declared.kinds.Grammar.{Grammar}
+use Rattle.seq_arith.specs.declared.kinds.Grammar.TheVariants.{Plain, Wide}
+use Rattle.seq_arith.specs.MessageGrammar.{spelling_by, behind_of}
+use Rattle.ft_model.specs.Copy.{from_start, datas, with_more, batch}
 use Rattle.logger_wire.specs.declared.Body.{Body as Said}
 use Rattle.logger_wire.specs.Value.{body_of}
 use Rattle.south_wrap.specs.Translation.{Copied, copied, is_some_copied}
@@ -19,16 +22,20 @@ use Rattle.wrapped_conn.specs.declared.stage.ConnStage.TheVariants.{Done, Ending
 use Rattle.wrapped_conn.specs.ConnState.{ConnState}
 use Rattle.wrapped_conn.specs.Numbers.{has_fin, fetched_or_read, una_units, bytes_taken, logged_units}
 
+-- a connection that sends batches writes its messages in the wide grammar
+abbrev pub grammar_by : (wide : Bool) → Grammar
+grammar_by wide = if wide then Wide else Plain
+
 -- messages of this boot, as bytes
-abbrev pub spelled : (boot : ℕ) → List Body → List (List ℕ)
-spelled boot bodies = map (λ body. spelling (record { boot = boot; body = body })) bodies
+abbrev pub spelled : (wide : Bool) (boot : ℕ) → List Body → List (List ℕ)
+spelled wide boot bodies = map (λ body. spelling_by (grammar_by wide) (record { boot = boot; body = body })) bodies
 
 abbrev pub part_of : {S : Type 0} → ConnState S → Copied → Part
-part_of c copy = record { key = c.key; offset = copy.offset; acked = una_units c; fin = copy.fin; bytes = copy.text }
+part_of c copy = record { key = c.key; offset = copy.offset; acked = una_units c; fin = copy.fin; more = false; bytes = copy.text }
 
 -- the part that only reports the acknowledgement
 abbrev pub acked_part : {S : Type 0} → ConnState S → Part
-acked_part c = record { key = c.key; offset = min (logged_units c) (bytes_taken c); acked = una_units c; fin = false; bytes = [] }
+acked_part c = record { key = c.key; offset = min (logged_units c) (bytes_taken c); acked = una_units c; fin = false; more = false; bytes = [] }
 
 -- the copied part of a segment
 abbrev pub own_data : {S : Type 0} → Segment → ConnState S → List Body
@@ -64,9 +71,21 @@ abbrev pub or_una : {S : Type 0} → (una : ℕ) → ConnState S → List Body �
 or_una una c [] = if nat_lt una (una_units c) then DataMsg (acked_part c) ∷ [] else []
 or_una una c (first ∷ others) = first ∷ others
 
+-- the Data of a turn, each but the last of which says that another follows if the connection sends batches
+abbrev pub in_batch : (batches : Bool) → List Body → List Body
+in_batch batches bodies = if batches then batch bodies else bodies
+
+-- a Data that another follows
+abbrev pub followed : (more : Bool) → Body → Body
+followed more body = if more then with_more body else body
+
+-- whether text or a FIN that was held is sent now
+abbrev pub follows : {S : Type 0} → (start : ℕ) → (fin : Bool) → ConnState S → Bool
+follows start fin c = nat_lt 0 (length (unread_from c start)) || fin
+
 -- all that is sent to the logger when a segment arrives
 unfoldable pub copies : {S : Type 0} → Before → Segment → ConnState S → List Body
-copies before segment c = or_una before.una c (own_data segment c ++ further_data before segment c)
+copies before segment c = in_batch c.batches (or_una before.una c (own_data segment c ++ further_data before segment c))
 
 -- a read whose numbers a message can hold
 pub record IsTellable (read : ReadRecord) : Type 0 where

@@ -1,6 +1,6 @@
 -- How a connection begins.
 use Rattle.limits.specs.Limits.{longest_stream}
-use Rattle.std.specs.Prelude.{ℕ, false, ◌+◌, ◌-◌, ◌%◌, ◌^◌, Some, []}
+use Rattle.std.specs.Prelude.{ℕ, false, ◌+◌, ◌-◌, ◌%◌, ◌^◌, Some, List, []}
 use Rattle.ft_io.specs.declared.Addr.{Addr}
 use Rattle.ft_io.specs.declared.Key.{Key}
 use Rattle.seq_arith.specs.Number.{number_at, distance}
@@ -29,6 +29,7 @@ joined_conn_in profile boot key local south endpoint north = record {
   reset = false;
   stage = Live;
   delays = profile.delays;
+  batches = profile.batches;
 }
 
 abbrev pub joined_conn : {S : Type 0} → (boot : ℕ) → Key → Addr → SouthState → Tcb → NorthState S → ConnState S
@@ -41,11 +42,11 @@ syn key local cisn mss = record {
   payload = [];
 }
 
--- a new connection: a fresh TCP has received its SYN
-unfoldable pub first_conn_in : {S : Type 0} → Profile → (boot : ℕ) → Key → Addr → (cisn sisn mss : ℕ) → S → ConnState S
-first_conn_in profile boot key local cisn sisn mss service =
+-- a new connection: a fresh TCP has received its SYN, and its service, fresh too, has written its greeting
+unfoldable pub first_conn_in : {S : Type 0} → Profile → (boot : ℕ) → Key → Addr → (cisn sisn mss : ℕ) → S → (greeting : List ℕ) → ConnState S
+first_conn_in profile boot key local cisn sisn mss service greeting =
     joined_conn_in profile boot key local (first_south cisn sisn)
-    (received (listening_measuring profile.measures local sisn longest_stream) (syn key local cisn mss)) (fresh_north service)
+    (received (listening_measuring profile.measures local sisn longest_stream) (syn key local cisn mss)) (fresh_north service greeting)
 
-abbrev pub first_conn : {S : Type 0} → (boot : ℕ) → Key → Addr → (cisn sisn mss : ℕ) → S → ConnState S
+abbrev pub first_conn : {S : Type 0} → (boot : ℕ) → Key → Addr → (cisn sisn mss : ℕ) → S → (greeting : List ℕ) → ConnState S
 first_conn = first_conn_in plain

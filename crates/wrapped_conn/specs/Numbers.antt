@@ -73,8 +73,8 @@ accepts c segment = is_acceptable_or_at_edge (units_taken c) (advertised c - uni
 abbrev pub is_unsent_ack : {S : Type 0} → ConnState S → Segment → Bool
 is_unsent_ack c segment = has_ack segment && acknowledges_unsent c.south segment.head.ack
 
--- acceptable segments that make an ACK pending: a SYN, and a RST that isn't at the next number, get a challenge ACK. A segment whose length isn't 0 gets an ACK,
--- and so does one that acknowledges what was never sent ..
+-- acceptable segments that make an ACK pending: a SYN, and a RST that isn't at the next number, get a challenge ACK. A segment whose length isn't 0 gets an
+-- ACK, and so does one that acknowledges what was never sent ..
 abbrev pub needs_ack_if_acceptable : {S : Type 0} → ConnState S → Segment → Bool
 needs_ack_if_acceptable c segment =
     if has_rst segment then not (int_eq (first_of c.south.cisn segment) (pos (units_taken c)))

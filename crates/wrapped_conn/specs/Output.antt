@@ -1,6 +1,7 @@
 -- The segments that a turn sends: TCP's, each through the south wrapper, and those that the connection adds.
 use Rattle.limits.specs.Limits.{largest_segment}
-use Rattle.std.specs.Prelude.{ℕ, Bool, ◌+◌, ◌-◌, ◌==◌, nat_lt, is_none, min, length, ◌&&◌, ◌||◌, not, Option, Some, None, List, [], ◌∷◌, ◌++◌, map, if◌then◌else◌}
+use Rattle.std.specs.Prelude.{ℕ, Bool, ◌+◌, ◌-◌, ◌==◌, nat_lt, is_none, min, length, ◌&&◌, ◌||◌, not, Option, Some, None, List, [], ◌∷◌, ◌++◌, map}
+use Rattle.std.specs.Prelude.{if◌then◌else◌}
 use Rattle.std.specs.List.{list_any}
 use Rattle.seq_arith.specs.Number.{number_at}
 use Rattle.seq_arith.specs.Offset.{one_if}
@@ -24,8 +25,8 @@ with_endpoint_flushed c = record c { endpoint = flushed c.endpoint }
 abbrev pub turn_ended : {S : Type 0} → ConnState S → ConnState S
 turn_ended c = record (with_endpoint_flushed c) { south = record c.south { sent = sent_units (with_endpoint_flushed c) } }
 
--- Where the profile says so, TCP's ACK of the text and the FIN that a segment brought waits for the log, whose answer makes it due: nothing is held after a gap,
--- and an ACK now would only repeat the acknowledgement and the window that were last sent, as a duplicate does (RFC 9293, 3.8.6.3; RFC 5681, 4.2)
+-- Where the profile says so, TCP's ACK of the text and the FIN that a segment brought waits for the log, whose answer makes it due: nothing is held after a
+-- gap, and an ACK now would only repeat the acknowledgement and the window that were last sent, as a duplicate does (RFC 9293, 3.8.6.3; RFC 5681, 4.2)
 abbrev pub is_delayed : {S : Type 0} → Before → ConnState S → Bool
 is_delayed before c =
     c.delays && before.segment && nat_lt (before.taken + one_if before.fin) (units_taken c) && length c.endpoint.receiving.early.text == 0

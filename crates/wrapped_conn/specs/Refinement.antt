@@ -1,5 +1,5 @@
 -- What it means that a connection is at a point: its parts, its numbers, and what a turn of it leads to.
-use Rattle.std.specs.Prelude.{◌≡◌, ◌≤◌, ℕ, true, false, List, ◌++◌, length, map}
+use Rattle.std.specs.Prelude.{◌≡◌, ◌≤◌, ℕ, Bool, true, false, List, ◌++◌, length, map}
 use Rattle.std.specs.Bool.{MatchBool}
 use Rattle.ft_io.specs.declared.Addr.{Addr}
 use Rattle.seq_arith.specs.Packet.{Segment}
@@ -17,7 +17,7 @@ use Rattle.south_wrap.specs.SouthPoint.{south_at}
 use Rattle.connection_laws.specs.Parts.{PartsStand, PartsRest}
 use Rattle.wrapped_conn.specs.ConnState.{ConnState}
 use Rattle.wrapped_conn.specs.Numbers.{units_taken, una_units, sent_units, logged_units}
-use Rattle.wrapped_conn.specs.LoggerMessages.{is_done}
+use Rattle.wrapped_conn.specs.LoggerMessages.{grammar_by, is_done}
 
 -- what a connection stores besides TCP and the north wrapper. The logger hasn't answered that it has ended
 pub record Keeps {S : Type 0} (p : Point) (c : ConnState S) : Type 0 where
@@ -29,6 +29,7 @@ pub record Keeps {S : Type 0} (p : Point) (c : ConnState S) : Type 0 where
   pub reset : c.reset ≡ p.reset
   pub unanswered : is_done c.stage ≡ false
   pub delays : c.delays ≡ p.delays
+  pub batches : c.batches ≡ p.batches
 
 -- TCP, north wrapper and send buffer between two turns
 pub record StandsLive {S : Type 0} (service : Machine S) (p : Point) (c : ConnState S) : Type 0 where
@@ -72,18 +73,19 @@ pub record StandsBefore {S : Type 0} (service : Machine S) (c : ConnState S) (p 
   pub local : c.endpoint.local ≡ c.local
   pub syn_acked : p.syn_acked ≡ true
 
--- a turn's packets are these segments to the client, as bytes, and then these messages to the logger
-pub record IsSpelled (sent : List Packet) (segments messages : List (List ℕ)) : Type 0 where
+-- a turn's packets are these segments to the client, as bytes, and then these messages to the logger, which are in the wide grammar or not
+pub record IsSpelled (wide : Bool) (sent : List Packet) (segments messages : List (List ℕ)) : Type 0 where
   pub to_client : List Segment
   pub to_logger : List Message
   pub order : sent ≡ map To_client to_client ++ map To_logger to_logger
   pub segments_are : segments ≡ map packet.spelling to_client
-  pub messages_are : messages ≡ map message.spelling to_logger
+  pub messages_are : messages ≡ map (message.spelling_by (grammar_by wide)) to_logger
 
 -- a turn leads by the laws to a point after it, the connection is then at that point, and what is sent is what the laws say
-pub record Leads {S : Type 0} (service : Machine S) (server : Addr) (boot : ℕ) (news : News) (before : Point) (new : ConnState S) (segments messages : List (List ℕ)) : Type 0 where
+pub record Leads {S : Type 0} (service : Machine S) (server : Addr) (boot : ℕ) (news : News) (before : Point) (new : ConnState S)
+    (segments messages : List (List ℕ)) : Type 0 where
   pub after : Point
   pub sent : List Packet
   pub goes : ConnectionTurn service server boot news before after sent
   pub stands : Stands service new after
-  pub spelled : IsSpelled sent segments messages
+  pub spelled : IsSpelled before.batches sent segments messages

@@ -39,11 +39,12 @@ abbrev pub new_reads : {S : Type 0} → (old new : ConnState S) → List ReadRec
 new_reads old new = drop (length old.north.reads) new.north.reads
 
 -- the rest of a turn, once its news has arrived: the north wrapper's turn, the end of TCP's, and what is sent
-pub record CompletesTurn {S : Type 0} (after : S → List ℕ → Served S) (before : Before) (repeats : Bool) (copied : List Body) (old new : ConnState S) (segments messages : List (List ℕ)) : Type 0 where
+pub record CompletesTurn {S : Type 0} (after : S → List ℕ
+    → Served S) (before : Before) (repeats : Bool) (copied : List Body) (old new : ConnState S) (segments messages : List (List ℕ)) : Type 0 where
   pub north : Turns after tcp_reader tcp_writer (una_units old) old.north old.endpoint (new_reads old new) new.north (tcp_used old (new_reads old new))
   pub state : new ≡ turn_ended (served new.north (new_reads old new) old)
   pub goes_out : segments ≡ packets (leaves before repeats new (tcp_out before (served new.north (new_reads old new) old)))
-  pub told : messages ≡ spelled old.boot (copied ++ messages_of old.key (new_reads old new))
+  pub told : messages ≡ spelled old.batches old.boot (copied ++ messages_of old.key (new_reads old new))
 
 -- a connection that stays as it was and sends nothing
 pub record Rests {S : Type 0} (old new : ConnState S) (segments messages : List (List ℕ)) : Type 0 where
@@ -55,7 +56,7 @@ pub record Rests {S : Type 0} (old new : ConnState S) (segments messages : List 
 pub record TellsDone {S : Type 0} (old new : ConnState S) (segments messages : List (List ℕ)) : Type 0 where
   pub state : new ≡ with_done old
   pub goes_out : segments ≡ []
-  pub told : messages ≡ spelled old.boot (dones old)
+  pub told : messages ≡ spelled old.batches old.boot (dones old)
 
 -- a connection becomes live
 abbrev pub Starts : {S : Type 0} → (S → List ℕ → Served S) → (old new : ConnState S) → (segments messages : List (List ℕ)) → Type 0
@@ -66,7 +67,8 @@ abbrev pub Receives : {S : Type 0} → (S → List ℕ → Served S) → Segment
 Receives after segment old new segments messages =
     MatchBool old.reset (Rests old new segments messages)
     (MatchBool (resets old segment) (TellsDone (record old { reset = true }) new segments messages)
-    (CompletesTurn after (before_segment old segment) (repeats_syn old.south segment) (copies (before_segment old segment) segment (arrived segment old)) (arrived segment old) new segments messages))
+    (CompletesTurn after (before_segment old segment) (repeats_syn old.south segment) (copies (before_segment old segment) segment (arrived segment old))
+    (arrived segment old) new segments messages))
 
 -- the logger has answered that it has this much of the connection
 abbrev pub with_logged : {S : Type 0} → (length : ℕ) → (fin : Bool) → (reads : ℕ) → ConnState S → ConnState S
@@ -75,10 +77,12 @@ with_logged length fin reads c = record c { south = with_stable (length + one_if
 abbrev pub is_news : {S : Type 0} → (length : ℕ) → (fin : Bool) → ConnState S → Bool
 is_news length fin c = nat_lt c.south.answered (length + one_if fin)
 
-abbrev pub Hears : {S : Type 0} → (S → List ℕ → Served S) → (length : ℕ) → (fin : Bool) → (reads : ℕ) → (old new : ConnState S) → (segments messages : List (List ℕ)) → Type 0
+abbrev pub Hears : {S : Type 0} → (S → List ℕ → Served S) → (length : ℕ) → (fin : Bool) → (reads : ℕ) → (old new : ConnState S)
+    → (segments messages : List (List ℕ)) → Type 0
 Hears after length fin reads old new segments messages =
     MatchBool old.reset (Rests (with_logged length fin reads old) new segments messages)
-    (CompletesTurn after (before_other (is_news length fin old) (with_logged length fin reads old)) false [] (with_logged length fin reads old) new segments messages)
+    (CompletesTurn after (before_other (is_news length fin old) (with_logged length fin reads old)) false []
+    (with_logged length fin reads old) new segments messages)
 
 -- a message arrives
 abbrev pub IsTold : {S : Type 0} → (S → List ℕ → Served S) → Said → (old new : ConnState S) → (segments messages : List (List ℕ)) → Type 0
@@ -103,7 +107,7 @@ counted c = record c { end_ticks = if is_end_tick c && nat_lt c.end_ticks 4 then
 pub record TicksLive {S : Type 0} (old new : ConnState S) (segments messages : List (List ℕ)) : Type 0 where
   pub state : new ≡ (if (counted (ticked old)).end_ticks == 4 then with_done (counted (ticked old)) else counted (ticked old))
   pub goes_out : segments ≡ packets (passed (ticked old).south (leaving (after_tick old.endpoint)))
-  pub told : messages ≡ spelled old.boot (messages_of old.key old.north.reads ++ (if (counted (ticked old)).end_ticks == 4 then dones old else []))
+  pub told : messages ≡ spelled old.batches old.boot (messages_of old.key old.north.reads ++ (if (counted (ticked old)).end_ticks == 4 then dones old else []))
 
 abbrev pub Ticks : {S : Type 0} → (old new : ConnState S) → (segments messages : List (List ℕ)) → Type 0
 Ticks old new segments messages = MatchBool old.reset (TellsDone old new segments messages) (TicksLive old new segments messages)

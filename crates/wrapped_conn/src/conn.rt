@@ -62,6 +62,8 @@ pub struct Conn<S: Service> {
     pub(crate) stage: ConnStage,
     /// Whether the ACK of what isn't logged yet waits for the log.
     pub(crate) delays: bool,
+    /// Whether the Data of a turn are a batch, in the wide grammar.
+    pub(crate) batches: bool,
 }
 
 impl<S: Service> Model for Conn<S> {
@@ -81,6 +83,7 @@ impl<S: Service> Model for Conn<S> {
       reset = c.reset;
       stage = c.stage;
       delays = c.delays;
+      batches = c.batches;
     } };
 }
 
@@ -100,7 +103,7 @@ impl<S: Service> Conn<S> {
         requires boot { 1 ≤ boot }
         requires least { 64 ≤ mss }
         requires most { mss ≤ largest_segment }
-        ensures state { IfOk result (λ c. c ≡ first_conn boot key local cisn.0 sisn.0 mss (S.started kind)) }
+        ensures state { IfOk result (λ c. c ≡ first_conn boot key local cisn.0 sisn.0 mss (S.started kind) (S.greeting (S.started kind))) }
         ensures sound { IfOk result (λ c. IsSound c) }
     {
         let opened = Opened {
@@ -124,7 +127,8 @@ impl<S: Service> Conn<S> {
         requires boot { 1 ≤ boot }
         requires least { 64 ≤ opened.mss }
         requires most { opened.mss ≤ largest_segment }
-        ensures state { IfOk result (λ c. c ≡ first_conn boot opened.key local opened.cisn.0 opened.sisn.0 opened.mss (S.started kind)) }
+        ensures state { IfOk result (λ c. c ≡ first_conn boot opened.key local opened.cisn.0 opened.sisn.0 opened.mss
+            (S.started kind) (S.greeting (S.started kind))) }
         ensures sound { IfOk result (λ c. IsSound c) }
     {
         Conn::open_in(Profile::Plain, alloc, boot, local, opened, kind)
@@ -142,7 +146,8 @@ impl<S: Service> Conn<S> {
         requires boot { 1 ≤ boot }
         requires least { 64 ≤ opened.mss }
         requires most { opened.mss ≤ largest_segment }
-        ensures state { IfOk result (λ c. c ≡ first_conn_in (profile_of profile) boot opened.key local opened.cisn.0 opened.sisn.0 opened.mss (S.started kind)) }
+        ensures state { IfOk result (λ c. c ≡ first_conn_in (profile_of profile) boot opened.key local opened.cisn.0 opened.sisn.0 opened.mss
+            (S.started kind) (S.greeting (S.started kind))) }
         ensures sound { IfOk result (λ c. IsSound c) }
     {
         let Opened {
@@ -163,7 +168,7 @@ impl<S: Service> Conn<S> {
             payload: &[],
         });
         let south = South::new(cisn, sisn);
-        let north = North::new(alloc, kind);
+        let north = North::new(alloc, kind)?;
         Ok(Conn::joined_in(profile, boot, key, local, south, endpoint, north))
     }
 
@@ -207,6 +212,7 @@ impl<S: Service> Conn<S> {
             reset: false,
             stage: ConnStage::Live,
             delays: profile.delays(),
+            batches: profile.batches(),
         }
     }
 
@@ -234,9 +240,17 @@ impl<S: Service> Conn<S> {
     /// Returns its service. The service's state is that of an uncrashed server after the same reads.
     pub fn service(&self) -> &S
         ensures value { result.now ≡ self.now.north.run.service }
-        ensures law { (fresh : S) (p : Point) → Stands (machine fresh S.after) self.now p → result.now ≡ (whole_run (machine fresh S.after) p).state }
+        ensures law { (fresh : S) (p : Point) → Stands (machine fresh S.after S.greeting) self.now p
+            → result.now ≡ (whole_run (machine fresh S.after S.greeting) p).state }
     {
         self.north.service()
+    }
+
+    /// Whether its client has reset it.
+    pub fn is_reset(&self) -> bool
+        ensures { result ≡ self.now.reset }
+    {
+        self.reset
     }
 
     /// How far it has come: live, ending or done.

@@ -1,11 +1,15 @@
-//! Wrong results that the contracts of this crate exclude. Each function calls another one of the crate, and promises of its result what a wrong body would make
-//! false. It is proved from the other's contract alone, so it is no longer proved once that contract lets the wrong body pass.
+//! Wrong results that the contracts of this crate exclude. Each function calls another one of the crate, and promises of its result what a wrong body would
+//! make false. It is proved from the other's contract alone, so it is no longer proved once that contract lets the wrong body pass.
 
-ghost use Rattle.limits.specs.Limits.{largest_segment};
-ghost use Rattle.std.specs.Prelude.{◌≡◌, ◌<◌, ◌≤◌, ◌+◌, ◌-◌, ◌==◌, min, true, false, length};
+ghost use Rattle.limits.specs.Limits.{largest_segment, longest_stream};
+ghost use Rattle.std.specs.Prelude.{◌≡◌, ◌<◌, ◌≤◌, ◌+◌, ◌-◌, ◌==◌, ◌∷◌, [], min, true, false, length, IsOk, IfOk};
+ghost use Rattle.seq_arith.specs.Message.{Part};
+ghost use Rattle.seq_arith.specs.Message.Body.{DataMsg};
 ghost use Rattle.seq_arith.specs.Offset.{one_if};
 ghost use Rattle.seq_arith.specs.Packet.{has_rst};
+ghost use Rattle.seq_arith.specs.PacketGrammar.{reading};
 ghost use Rattle.segment_codec.specs.Value.{segment_of};
+ghost use Rattle.wrapped_conn.specs.LoggerMessages.{spelled, own_data, further_data};
 ghost use Rattle.wrapped_conn.specs.Numbers.{units_taken, logged_units, una_units, is_unsent_ack, acknowledgeable, advertised};
 ghost use Rattle.wrapped_conn.specs.Sound.{IsSound};
 
@@ -13,6 +17,7 @@ use crate::conn::Conn;
 use crate::stage::Before;
 use segment_codec::PacketRef;
 use server_trait::Service;
+use tcp_endpoint::Outbox;
 
 /// A tick isn't an end tick while more of the client's units are taken than are known to be logged: the clause `state` of `Conn::count_end_tick`.
 fn counts_ticks_before_all_is_logged<S: Service>(conn: &mut Conn<S>)
@@ -98,4 +103,40 @@ fn delays_in_every_profile<S: Service>(conn: &Conn<S>, before: Before) -> bool
     ensures { result ≡ false }
 {
     conn.is_delayed(before)
+}
+
+/// Of two Data of one turn the first says that another follows, and the last doesn't: the clause `told` of `Conn::send_copy`.
+fn says_so_in_none_or_in_the_last<S: Service>(
+    conn: &Conn<S>,
+    packet: &[u8],
+    before: Before,
+    out: &mut Outbox,
+)
+    requires sound { IsSound conn.now }
+    requires accepted { IsOk (reading packet.now) }
+    requires before { before.taken ≤ longest_stream }
+    requires empty { out.old ≡ [] }
+    requires batches { conn.now.batches ≡ true }
+    ensures { IfOk (reading packet.now) (λ segment. (first last : Part) → own_data segment conn.now ≡ DataMsg first ∷ []
+        → further_data before segment conn.now ≡ DataMsg last ∷ []
+        → out.new ≡ spelled true conn.now.boot (DataMsg (record first { fin = false; more = true }) ∷ DataMsg last ∷ [])) }
+{
+    conn.send_copy(packet, before, out);
+}
+
+/// The only Data of a turn doesn't say that another follows: the clause `told` of `Conn::send_copy`.
+fn says_so_in_the_only_one<S: Service>(
+    conn: &Conn<S>,
+    packet: &[u8],
+    before: Before,
+    out: &mut Outbox,
+)
+    requires sound { IsSound conn.now }
+    requires accepted { IsOk (reading packet.now) }
+    requires before { before.taken ≤ longest_stream }
+    requires empty { out.old ≡ [] }
+    ensures { IfOk (reading packet.now) (λ segment. (only : Part) → own_data segment conn.now ≡ DataMsg only ∷ [] → further_data before segment conn.now ≡ []
+        → out.new ≡ spelled conn.now.batches conn.now.boot (DataMsg only ∷ [])) }
+{
+    conn.send_copy(packet, before, out);
 }

@@ -30,50 +30,55 @@ use server_trait::Service;
 
 /// A connection that a restart joins from three parts, which continue from an entry of the log, is at the point of that entry.
 pub fn joined_connections_stand_at_the_entry<S: Service>()
-    ensures { (fresh : S) (profile : Profile) (boot : ℕ) (local : Addr) (e : Entry) (i : ℕ) (n : NorthState S) → GoesOnFrom (machine fresh S.after) e i
-        → HasReplayed (machine fresh S.after) (point_of (machine fresh S.after) profile e) (resumed_at (machine fresh S.after) e) n
-        → StandsBefore (machine fresh S.after)
-        (joined_conn_in profile boot e.key local (south_at (delta_from (machine fresh S.after) e i) (point_of (machine fresh S.after) profile e))
-        (spliced_measuring profile.measures e.key local e.cisn (length e.bytes) e.mss i e.fin) n) (point_of (machine fresh S.after) profile e) }
+    ensures { (fresh : S) (profile : Profile) (boot : ℕ) (local : Addr) (e : Entry) (i : ℕ) (n : NorthState S)
+        → GoesOnFrom (machine fresh S.after S.greeting) e i
+        → HasReplayed (machine fresh S.after S.greeting) (point_of (machine fresh S.after S.greeting) profile e)
+        (resumed_at (machine fresh S.after S.greeting) e) n
+        → StandsBefore (machine fresh S.after S.greeting)
+        (joined_conn_in profile boot e.key local
+        (south_at (delta_from (machine fresh S.after S.greeting) e i) (point_of (machine fresh S.after S.greeting) profile e))
+        (spliced_measuring profile.measures e.key local e.cisn (length e.bytes) e.mss i e.fin) n) (point_of (machine fresh S.after S.greeting) profile e) }
 {}
 
 /// The turn in which a connection becomes live is lawful: that of a new one from the point that its client's SYN opens, and that of one at the end of a restart
 /// from the point of its parts.
 pub fn connections_start_as_the_law_says<S: Service>()
-    ensures new { (fresh : S) (profile : Profile) (boot : ℕ) (local : Addr) (numbers : Numbers) (new : ConnState S) (segments messages : List (List ℕ)) → MayOpen numbers
+    ensures new { (fresh : S) (profile : Profile) (boot : ℕ) (local : Addr) (numbers : Numbers) (new : ConnState S) (segments messages : List (List ℕ))
+        → MayOpen numbers
         → IsSound new
-        → Starts S.after (first_conn_in profile boot numbers.key local numbers.cisn numbers.sisn numbers.mss fresh) new segments messages
-        → Leads (machine fresh S.after) local boot Begins (point_opened profile numbers) new segments messages }
+        → Starts S.after (first_conn_in profile boot numbers.key local numbers.cisn numbers.sisn numbers.mss fresh (S.greeting fresh)) new segments messages
+        → Leads (machine fresh S.after S.greeting) local boot Begins (point_opened profile numbers) new segments messages }
     ensures joined { (fresh : S) (p : Point) (old new : ConnState S) (segments messages : List (List ℕ)) → IsSound old → IsSound new
-        → StandsBefore (machine fresh S.after) old p
-        → Starts S.after old new segments messages → Leads (machine fresh S.after) old.local old.boot Begins p new segments messages }
+        → StandsBefore (machine fresh S.after S.greeting) old p
+        → Starts S.after old new segments messages → Leads (machine fresh S.after S.greeting) old.local old.boot Begins p new segments messages }
 {}
 
 /// A segment's turn is lawful, also if the segment resets the connection or arrives after a reset.
 pub fn connections_receive_as_the_law_says<S: Service>()
     ensures { (fresh : S) (p : Point) (segment : Segment) (old new : ConnState S) (segments messages : List (List ℕ)) → IsSound old → IsSound new
-        → Stands (machine fresh S.after) old p
+        → Stands (machine fresh S.after S.greeting) old p
         → NewsFit p (Comes segment) → Receives S.after segment old new segments messages
-        → Leads (machine fresh S.after) old.local old.boot (Comes segment) p new segments messages }
+        → Leads (machine fresh S.after S.greeting) old.local old.boot (Comes segment) p new segments messages }
 {}
 
 /// The turn of a message that says how much of the connection is logged is lawful.
 pub fn connections_hear_as_the_law_says<S: Service>()
     ensures stable { (fresh : S) (p : Point) (kept : Kept) (old new : ConnState S) (segments messages : List (List ℕ)) → IsSound old → IsSound new
-        → Stands (machine fresh S.after) old p → IsTold S.after (Stable kept) old new segments messages
-        → Leads (machine fresh S.after) old.local old.boot (Logged (kept_said kept)) p new segments messages }
+        → Stands (machine fresh S.after S.greeting) old p → IsTold S.after (Stable kept) old new segments messages
+        → Leads (machine fresh S.after S.greeting) old.local old.boot (Logged (kept_said kept)) p new segments messages }
     ensures reads { (fresh : S) (p : Point) (kept : Kept) (old new : ConnState S) (segments messages : List (List ℕ)) → IsSound old → IsSound new
-        → Stands (machine fresh S.after) old p → IsTold S.after (Reads kept) old new segments messages
-        → Leads (machine fresh S.after) old.local old.boot (Logged (kept_said kept)) p new segments messages }
+        → Stands (machine fresh S.after S.greeting) old p → IsTold S.after (Reads kept) old new segments messages
+        → Leads (machine fresh S.after S.greeting) old.local old.boot (Logged (kept_said kept)) p new segments messages }
 {}
 
 /// A tick's turn is lawful.
 pub fn connections_tick_as_the_law_says<S: Service>()
-    ensures { (fresh : S) (p : Point) (old new : ConnState S) (segments messages : List (List ℕ)) → IsSound old → Stands (machine fresh S.after) old p
-        → TicksOn old new segments messages → Leads (machine fresh S.after) old.local old.boot Ticks p new segments messages }
+    ensures { (fresh : S) (p : Point) (old new : ConnState S) (segments messages : List (List ℕ)) → IsSound old
+        → Stands (machine fresh S.after S.greeting) old p
+        → TicksOn old new segments messages → Leads (machine fresh S.after S.greeting) old.local old.boot Ticks p new segments messages }
 {}
 
 /// Between two turns the numbers that `inside` returns are the point's, also for a connection that its client has reset.
 pub fn connections_tell_their_point<S: Service>()
-    ensures { (fresh : S) (p : Point) (c : ConnState S) → IsSound c → Stands (machine fresh S.after) c p → Tells p c }
+    ensures { (fresh : S) (p : Point) (c : ConnState S) → IsSound c → Stands (machine fresh S.after S.greeting) c p → Tells p c }
 {}

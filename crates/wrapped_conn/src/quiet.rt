@@ -25,7 +25,8 @@ impl<S: Service> Conn<S> {
     /// Returns the connection's numbers if it is quiet: every read is known to be logged, all output is acknowledged, and the service hasn't closed.
     pub fn quiet(&self) -> Option<Quiet>
         ensures state { result ≡ quiet_in self.now }
-        ensures law { (fresh : S) (p : Point) → IsSound self.now → Stands (machine fresh S.after) self.now p → TellsQuiet (machine fresh S.after) p result }
+        ensures law { (fresh : S) (p : Point) → IsSound self.now → Stands (machine fresh S.after S.greeting) self.now p
+            → TellsQuiet (machine fresh S.after S.greeting) p result }
     {
         self.numbers_if_quiet()
     }

@@ -5,7 +5,7 @@ ghost use Rattle.std.specs.Prelude.{◌≡◌, ◌≤◌, ◌<◌, ◌+◌, ◌*
 ghost use Rattle.seq_arith.specs.PacketGrammar.{reading};
 ghost use Rattle.seq_arith.specs.Message.{Body as Told};
 ghost use Rattle.segment_codec.specs.Change.{changed};
-ghost use Rattle.logger_wire.specs.Value.{IsSendable};
+ghost use Rattle.logger_wire.specs.Value.{IsSendableBy};
 ghost use Rattle.segment_codec.specs.Value.{segment_of};
 ghost use Rattle.south_wrap.specs.Translation.{answer_in, repeats_syn, passed_in};
 ghost use Rattle.north_wrap.specs.NorthState.{Turns};
@@ -17,7 +17,7 @@ ghost use Rattle.wrapped_conn.specs.Numbers.{una_units};
 ghost use Rattle.connection_laws.specs.OutputFeed.{tcp_reader, tcp_writer};
 ghost use Rattle.wrapped_conn.specs.Arrival.{arrived, reached, noted, before_segment, before_other};
 ghost use Rattle.wrapped_conn.specs.Turn.{served, tcp_used, CompletesTurn, Starts, Receives, Hears, with_logged, is_news, IsTold, Ticks, ticked, counted};
-ghost use Rattle.wrapped_conn.specs.LoggerMessages.{spelled, copies, AreShort, AreTellable};
+ghost use Rattle.wrapped_conn.specs.LoggerMessages.{grammar_by, spelled, copies, AreShort, AreTellable};
 ghost use Rattle.wrapped_conn.specs.Sound.{IsSound};
 
 use crate::conn::Conn;
@@ -44,7 +44,7 @@ impl<S: Service> Conn<S> {
         ensures sound { OnOk result (IsSound self.new) }
     {
         let before = self.before(true);
-        self.go_on(alloc, before, false, out)
+        self.proceed(alloc, before, false, out)
     }
 
     /// The turn of a client's segment. A RST at exactly the next number resets the connection, which then only reports to the logger that it has ended.
@@ -66,7 +66,7 @@ impl<S: Service> Conn<S> {
         }
         if self.is_reset_by(&read_accepted(packet)) {
             self.reset = true;
-            self.tell_done(&mut out.messages);
+            self.send_done(&mut out.messages);
             return Ok(());
         }
         self.take_packet(alloc, packet, out)
@@ -85,12 +85,13 @@ impl<S: Service> Conn<S> {
         requires no_message { out.old.messages ≡ [] }
         ensures turn { OnOk result (IfOk (reading packet.old)
             (λ segment. CompletesTurn S.after (before_segment self.old segment) (repeats_syn self.old.south segment)
-            (copies (before_segment self.old segment) segment (arrived segment self.old)) (arrived segment self.old) self.new out.new.segments out.new.messages)) }
+            (copies (before_segment self.old segment) segment (arrived segment self.old))
+            (arrived segment self.old) self.new out.new.segments out.new.messages)) }
         ensures sound { OnOk result (IsSound self.new) }
     {
         let before = self.before_segment(packet);
         let repeats = self.arrive(packet, before, &mut out.messages);
-        self.go_on(alloc, before, repeats, out)
+        self.proceed(alloc, before, repeats, out)
     }
 
     /// What a turn with this segment has to know of the connection before it.
@@ -130,7 +131,7 @@ impl<S: Service> Conn<S> {
         }
     }
 
-    /// Passes a segment to TCP, and sends the logger the Data of `tell_copy`. Returns whether the segment repeats the client's SYN.
+    /// Passes a segment to TCP, and sends the logger the Data of `send_copy`. Returns whether the segment repeats the client's SYN.
     fn arrive(&mut self, packet: &mut [u8], before: Before, messages: &mut Outbox) -> bool
         requires sound { IsSound self.old }
         requires accepted { IsOk (reading packet.old) }
@@ -138,14 +139,15 @@ impl<S: Service> Conn<S> {
         requires empty { messages.old ≡ [] }
         ensures repeats { IfOk (reading packet.old) (λ segment. result ≡ repeats_syn self.old.south segment) }
         ensures state { IfOk (reading packet.old) (λ segment. self.new ≡ arrived segment self.old) }
-        ensures told { IfOk (reading packet.old) (λ segment. messages.new ≡ spelled self.old.boot (copies before segment (arrived segment self.old))) }
+        ensures told { IfOk (reading packet.old) (λ segment. messages.new
+            ≡ spelled self.old.batches self.old.boot (copies before segment (arrived segment self.old))) }
         ensures few { length messages.new ≤ 46 }
         ensures short { AreShort messages.new }
         ensures sound { IsSound self.new }
     {
         let repeats = self.reach_tcp(packet);
         self.note_arrival();
-        self.tell_copy(packet, before, messages);
+        self.send_copy(packet, before, messages);
         repeats
     }
 
@@ -199,7 +201,7 @@ impl<S: Service> Conn<S> {
     }
 
     /// Completes a turn, once its news is noted.
-    fn go_on(
+    fn proceed(
         &mut self,
         alloc: Global,
         before: Before,
@@ -210,7 +212,7 @@ impl<S: Service> Conn<S> {
         requires no_segment { out.old.segments ≡ [] }
         requires few { length out.old.messages ≤ 46 }
         requires short { AreShort out.old.messages }
-        ensures turn { (copied : List Told) → out.old.messages ≡ spelled self.old.boot copied
+        ensures turn { (copied : List Told) → out.old.messages ≡ spelled self.old.batches self.old.boot copied
             → OnOk result (CompletesTurn S.after before repeats copied self.old self.new out.new.segments out.new.messages) }
         ensures sound { OnOk result (IsSound self.new) }
     {
@@ -220,22 +222,22 @@ impl<S: Service> Conn<S> {
         self.flush(&mut out.segments);
         self.send_syn_ack(repeats, &mut out.segments);
         self.send_bare(self.is_ack_pending(before), &mut out.segments);
-        self.tell_reads(&news, &mut out.messages);
+        self.send_reads(&news, &mut out.messages);
         Ok(())
     }
 
     /// The turn of a message from the logger.
     pub fn on_msg(&mut self, alloc: Global, m: &Msg<'_>, out: &mut TurnOut) -> Result<(), NoMemory>
         requires sound { IsSound self.old }
-        requires sendable { IsSendable m.now }
+        requires sendable { IsSendableBy (grammar_by self.old.batches) m.now }
         requires no_segment { out.old.segments ≡ [] }
         requires no_message { out.old.messages ≡ [] }
         ensures turn { OnOk result (IsTold S.after m.now.body self.old self.new out.new.segments out.new.messages) }
         ensures sound { OnOk result (IsSound self.new) }
     {
         match m.body {
-            Body::Stable(kept) => self.hear(alloc, kept, out),
-            Body::Reads(kept) => self.hear(alloc, kept, out),
+            Body::Stable(kept) => self.receive(alloc, kept, out),
+            Body::Reads(kept) => self.receive(alloc, kept, out),
             Body::Ended { .. } => {
                 self.stage = ConnStage::Done;
                 Ok(())
@@ -245,7 +247,7 @@ impl<S: Service> Conn<S> {
     }
 
     /// The turn of an answer that says how much of the connection is logged.
-    fn hear(&mut self, alloc: Global, kept: Kept, out: &mut TurnOut) -> Result<(), NoMemory>
+    fn receive(&mut self, alloc: Global, kept: Kept, out: &mut TurnOut) -> Result<(), NoMemory>
         requires sound { IsSound self.old }
         requires most { kept.length ≤ longest_stream }
         requires no_segment { out.old.segments ≡ [] }
@@ -258,7 +260,7 @@ impl<S: Service> Conn<S> {
             return Ok(());
         }
         let before = self.before(is_news);
-        self.go_on(alloc, before, false, out)
+        self.proceed(alloc, before, false, out)
     }
 
     /// Both wrappers learn what is logged. Returns whether more of the client's units are known to be logged.
@@ -282,12 +284,12 @@ impl<S: Service> Conn<S> {
         ensures sound { IsSound self.new }
     {
         if self.reset {
-            self.tell_done(&mut out.messages);
+            self.send_done(&mut out.messages);
             return;
         }
         self.tick(out);
         if self.end_ticks == 4 {
-            self.tell_done(&mut out.messages);
+            self.send_done(&mut out.messages);
         }
     }
 
@@ -308,14 +310,14 @@ impl<S: Service> Conn<S> {
         requires no_message { out.old.messages ≡ [] }
         ensures state { self.new ≡ counted (ticked self.old) }
         ensures sent { out.new.segments ≡ packets (passed (ticked self.old).south (leaving (after_tick self.old.endpoint))) }
-        ensures told { out.new.messages ≡ spelled self.old.boot (messages_of self.old.key self.old.north.reads) }
+        ensures told { out.new.messages ≡ spelled self.old.batches self.old.boot (messages_of self.old.key self.old.north.reads) }
         ensures few { length out.new.messages ≤ 32 }
         ensures short { AreShort out.new.messages }
         ensures sound { IsSound self.new }
     {
         self.tick_tcp();
         self.flush(&mut out.segments);
-        self.tell_reads(self.north.unanswered(), &mut out.messages);
+        self.send_reads(self.north.unanswered(), &mut out.messages);
         self.count_end_tick();
     }
 

@@ -3,4 +3,4 @@ use Rattle.conn_marks.proofs.Marked.{turn_marks}
 use Rattle.conn_marks.proofs.laws.new_marks_go_out.Goals as goal
 
 pub returns : goal.returns
-returns g c = λ fresh writing every server boot news p q m packets still turn. turn_marks (machine fresh g.S.Service.after) writing every server boot news p q m packets still turn
+returns g c = λ fresh writing every server boot news p q m packets still turn. turn_marks (machine fresh g.S.Service.after g.S.Service.greeting) writing every server boot news p q m packets still turn

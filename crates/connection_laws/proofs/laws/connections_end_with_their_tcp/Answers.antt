@@ -4,4 +4,4 @@ use Rattle.connection_laws.proofs.laws.connections_end_with_their_tcp.Goals as g
 
 pub returns : goal.returns
 returns g c = λ fresh boot u i delta news before after calls e sent st named unreset off kept t leaves.
-    ends_inside (machine fresh g.S.Service.after) boot u i delta news before after calls e sent st named unreset off kept t leaves
+    ends_inside (machine fresh g.S.Service.after g.S.Service.greeting) boot u i delta news before after calls e sent st named unreset off kept t leaves

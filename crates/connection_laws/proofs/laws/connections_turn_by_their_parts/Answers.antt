@@ -4,4 +4,4 @@ use Rattle.connection_laws.proofs.laws.connections_turn_by_their_parts.Goals as 
 
 pub returns : goal.returns
 returns g c = λ fresh boot u i delta given news before old new reads e t st fits later off turns few.
-    turns_together (machine fresh g.S.Service.after) boot u i delta given news before old new reads e t st fits later off turns few
+    turns_together (machine fresh g.S.Service.after g.S.Service.greeting) boot u i delta given news before old new reads e t st fits later off turns few

@@ -5,8 +5,8 @@ use Rattle.wrapped_conn.proofs.laws.connections_hear_as_the_law_says.Goals as go
 
 pub returns-clause-stable : goal.returns-clause-stable
 returns-clause-stable g c = λ fresh p kept old new segments messages sound sound_new stands turn.
-    hears (machine fresh g.S.Service.after) p old new (kept_said kept) segments messages sound sound_new stands turn
+    hears (machine fresh g.S.Service.after g.S.Service.greeting) p old new (kept_said kept) segments messages sound sound_new stands turn
 
 pub returns-clause-reads : goal.returns-clause-reads
 returns-clause-reads g c = λ fresh p kept old new segments messages sound sound_new stands turn.
-    hears (machine fresh g.S.Service.after) p old new (kept_said kept) segments messages sound sound_new stands turn
+    hears (machine fresh g.S.Service.after g.S.Service.greeting) p old new (kept_said kept) segments messages sound sound_new stands turn

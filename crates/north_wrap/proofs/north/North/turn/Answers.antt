@@ -6,7 +6,7 @@ use Rattle.std.proofs.lemmas.Result.{on_ok_weaker}
 
 pub returns-clause-law : goal.returns-clause-law
 returns-clause-law g c =
-    on_ok_weaker c.make_turn.result (λ turn fresh p given st so same may. whole_turn (machine fresh g.S.Service.after) (reader g.K.Socket.unread g.K.Socket.has_end g.K.Socket.after_read)
+    on_ok_weaker c.make_turn.result (λ turn fresh p given st so same may. whole_turn (machine fresh g.S.Service.after g.S.Service.greeting) (reader g.K.Socket.unread g.K.Socket.has_end g.K.Socket.after_read)
     (writer g.K.Socket.write_room g.K.Socket.is_closed g.K.Socket.after_write g.K.Socket.after_close) p given c.args.una c.args.self.now c.args.sock.now c.make_turn.new.news c.make_turn.new.self c.make_turn.new.sock
     (record {
       read_front = g.met.K.Socket.read_takes_the_front;

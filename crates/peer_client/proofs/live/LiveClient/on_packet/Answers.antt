@@ -8,9 +8,9 @@ use Rattle.peer_client.proofs.live.LiveClient.on_packet.Goals as goal
 pub returns-clause-beside : goal.returns-clause-beside
 returns-clause-beside c = λ client between none near.
     subst (λ (l : LiveState). IsDue l (receiving c.args.self.now client (reading c.args.bytes.now)))
-    (sym (c.hear.ensures.state (short_between c.args.self.now client between)))
-    (heard_due c.args.self.now client (reading c.args.bytes.now) between none near c.hear.ensures.fits)
+    (sym (c.receive.ensures.state (short_between c.args.self.now client between)))
+    (heard_due c.args.self.now client (reading c.args.bytes.now) between none near c.receive.ensures.fits)
 
 pub returns-clause-outcome : goal.returns-clause-outcome
 returns-clause-outcome c = λ client between none near.
-    due_outcome c.hear.new.self (receiving c.args.self.now client (reading c.args.bytes.now)) (returns-clause-beside c client between none near)
+    due_outcome c.receive.new.self (receiving c.args.self.now client (reading c.args.bytes.now)) (returns-clause-beside c client between none near)

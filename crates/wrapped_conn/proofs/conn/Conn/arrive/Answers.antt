@@ -10,5 +10,5 @@ returns-clause-state g c =
 
 pub returns-clause-told : goal.returns-clause-told
 returns-clause-told g c =
-    told_by c.args.self.now c.reach_tcp-repeats.new.self c.note_arrival.new.self c.args.packet.now c.reach_tcp-repeats.new.packet c.args.before c.tell_copy.new.out c.requires.accepted
-    c.reach_tcp-repeats.ensures.state c.note_arrival.ensures.state c.reach_tcp-repeats.ensures.read c.tell_copy.ensures.told
+    told_by c.args.self.now c.reach_tcp-repeats.new.self c.note_arrival.new.self c.args.packet.now c.reach_tcp-repeats.new.packet c.args.before c.send_copy.new.out c.requires.accepted
+    c.reach_tcp-repeats.ensures.state c.note_arrival.ensures.state c.reach_tcp-repeats.ensures.read c.send_copy.ensures.told

@@ -14,8 +14,8 @@ returns-clause-state g c =
     let profile = profile_of c.args.profile in
     let is = c.in_ok-endpoint.ensures ∙ ap (λ m. listening_measuring m c.args.local c.args.opened.sisn.0 (2 ^ 24)) c.measures.ensures in
     let short = bounded_is_short e (subst IsBounded (sym is) (bounded_at_listen_measuring profile.measures c.args.local c.args.opened.sisn.0 (2 ^ 24) (omega arith))) in
-    first_is profile c.args.boot c.args.opened.key c.args.local c.args.opened.cisn.0 c.args.opened.sisn.0 c.args.opened.mss (g.S.Service.started c.args.kind) c.new-south.result e c.on_packet.new.self c.new-north.result
-    (record { head = said c.syn_of.result; payload = [] }) c.joined_in.result c.joined_in.ensures c.new-south.ensures c.new-north.ensures (c.on_packet.ensures.whole (omega arith) short) is c.syn_of.ensures
+    first_is profile c.args.boot c.args.opened.key c.args.local c.args.opened.cisn.0 c.args.opened.sisn.0 c.args.opened.mss (g.S.Service.started c.args.kind) (g.S.Service.greeting (g.S.Service.started c.args.kind)) c.new-south.result e c.on_packet.new.self c.in_ok-north.north
+    (record { head = said c.syn_of.result; payload = [] }) c.joined_in.result c.joined_in.ensures c.new-south.ensures c.in_ok-north.ensures (c.on_packet.ensures.whole (omega arith) short) is c.syn_of.ensures
 
 pub returns-clause-sound : goal.returns-clause-sound
 returns-clause-sound g c =
@@ -23,6 +23,7 @@ returns-clause-sound g c =
     let profile = profile_of c.args.profile in
     let is = c.in_ok-endpoint.ensures ∙ ap (λ m. listening_measuring m c.args.local c.args.opened.sisn.0 (2 ^ 24)) c.measures.ensures in
     let short = bounded_is_short e (subst IsBounded (sym is) (bounded_at_listen_measuring profile.measures c.args.local c.args.opened.sisn.0 (2 ^ 24) (omega arith))) in
-    subst IsSound (sym (first_is profile c.args.boot c.args.opened.key c.args.local c.args.opened.cisn.0 c.args.opened.sisn.0 c.args.opened.mss (g.S.Service.started c.args.kind) c.new-south.result e c.on_packet.new.self c.new-north.result
-    (record { head = said c.syn_of.result; payload = [] }) c.joined_in.result c.joined_in.ensures c.new-south.ensures c.new-north.ensures (c.on_packet.ensures.whole (omega arith) short) is c.syn_of.ensures))
-    (first_sound profile c.args.boot c.args.opened.key c.args.local c.args.opened.cisn.0 c.args.opened.sisn.0 c.args.opened.mss (g.S.Service.started c.args.kind) c.requires.boot (search rules))
+    subst IsSound (sym (first_is profile c.args.boot c.args.opened.key c.args.local c.args.opened.cisn.0 c.args.opened.sisn.0 c.args.opened.mss (g.S.Service.started c.args.kind) (g.S.Service.greeting (g.S.Service.started c.args.kind)) c.new-south.result e c.on_packet.new.self c.in_ok-north.north
+    (record { head = said c.syn_of.result; payload = [] }) c.joined_in.result c.joined_in.ensures c.new-south.ensures c.in_ok-north.ensures (c.on_packet.ensures.whole (omega arith) short) is c.syn_of.ensures))
+    (first_sound profile c.args.boot c.args.opened.key c.args.local c.args.opened.cisn.0 c.args.opened.sisn.0 c.args.opened.mss (g.S.Service.started c.args.kind) (g.S.Service.greeting (g.S.Service.started c.args.kind))
+    (g.met.S.Service.greets_shortly (g.S.Service.started c.args.kind)) c.requires.boot (search rules))

@@ -6,5 +6,5 @@ use Rattle.wrapped_conn.proofs.conn.Conn.quiet.Goals as goal
 
 pub returns-clause-law : goal.returns-clause-law
 returns-clause-law g c = λ fresh p sound st.
-    subst (TellsQuiet (machine fresh g.S.Service.after) p) (sym c.numbers_if_quiet.ensures)
-    (tells_quiet (machine fresh g.S.Service.after) p c.args.self.now g.met.S.Service.closes sound st)
+    subst (TellsQuiet (machine fresh g.S.Service.after g.S.Service.greeting) p) (sym c.numbers_if_quiet.ensures)
+    (tells_quiet (machine fresh g.S.Service.after g.S.Service.greeting) p c.args.self.now g.met.S.Service.closes sound st)

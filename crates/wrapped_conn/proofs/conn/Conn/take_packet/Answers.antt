@@ -6,8 +6,8 @@ pub returns-clause-turn : goal.returns-clause-turn
 returns-clause-turn g c =
     let before = c.before_segment-before in
     let arrive = c.arrive-repeats in
-    on_ok_weaker c.go_on.result
-    (takes g.S.Service.after c.args.self.now arrive.new.self c.go_on.new.self before.result arrive.result c.args.packet.now c.go_on.new.out.segments c.go_on.new.out.messages c.requires.accepted before.ensures.value
+    on_ok_weaker c.proceed.result
+    (takes g.S.Service.after c.args.self.now arrive.new.self c.proceed.new.self before.result arrive.result c.args.packet.now c.proceed.new.out.segments c.proceed.new.out.messages c.requires.accepted before.ensures.value
     arrive.ensures.repeats arrive.ensures.state)
-    (c.go_on.ensures.turn (copied_now c.args.self.now before.result c.args.packet.now)
+    (c.proceed.ensures.turn (copied_now c.args.self.now before.result c.args.packet.now)
     (told_now c.args.self.now arrive.new.self before.result c.args.packet.now arrive.new.messages c.requires.accepted arrive.ensures.state arrive.ensures.told))

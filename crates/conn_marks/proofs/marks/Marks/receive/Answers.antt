@@ -8,8 +8,8 @@ use Rattle.ft_io.specs.Key.{key_eq}
 use Rattle.mark_laws.specs.Marking.{marking_answered}
 use Rattle.conn_marks.specs.contracts.marks.Marks.{the_view}
 use Rattle.conn_marks.proofs.KeyMarks.{changes_by, changes_none, marking_none}
-use Rattle.conn_marks.proofs.marks.Marks.hear.Goals as goal
-use Rattle.conn_marks.proofs.marks.Marks.hear.Goals.{in-Some, in_default}
+use Rattle.conn_marks.proofs.marks.Marks.receive.Goals as goal
+use Rattle.conn_marks.proofs.marks.Marks.receive.Goals.{in-Some, in_default}
 use Rattle.conn_marks.specs.KeyMarks.{Changes, marking_in, no_marking}
 
 pub returns : goal.returns
@@ -17,8 +17,8 @@ returns c =
     elim c.match-get_mut.branch [
       | in-Some w ↦
           let found : lookup (key_eq c.args.key) c.self.inside.of.entries ≡ Some w.in-Some.marking.now = search rules in
-          changes_by (marking_answered c.args.reads) c.args.self.now (the_view c.match-get_mut.self-inside) c.self.inside.every c.self.inside.of.entries (c.get_mut.follows.lender w.hear.new.self).entries
-          c.args.key w.in-Some.marking.now w.hear.new.self c.self.view_is found w.hear.ensures (c.get_mut.follows.holds w.hear.new.self).0 (ap the_view w.self-inside-is)
+          changes_by (marking_answered c.args.reads) c.args.self.now (the_view c.match-get_mut.self-inside) c.self.inside.every c.self.inside.of.entries (c.get_mut.follows.lender w.receive.new.self).entries
+          c.args.key w.in-Some.marking.now w.receive.new.self c.self.view_is found w.receive.ensures (c.get_mut.follows.holds w.receive.new.self).0 (ap the_view w.self-inside-is)
       | in_default w ↦
           let none : lookup (key_eq c.args.key) c.self.inside.of.entries ≡ None = search rules in
           let same : the_view c.match-get_mut.self-inside ≡ c.args.self.now =

@@ -4,10 +4,10 @@ use Rattle.seq_arith.specs.PacketGrammar.{segment_in}
 use Rattle.segment_codec.proofs.Accepting.{is_read}
 use Rattle.wrapped_conn.proofs.Copied.{start_low, copies_told}
 use Rattle.wrapped_conn.proofs.Small.{taken_small}
-use Rattle.wrapped_conn.proofs.conn.Conn.tell_copy.Goals as goal
+use Rattle.wrapped_conn.proofs.conn.Conn.send_copy.Goals as goal
 
-pub tell_further-requires-clause-start : goal.tell_further-requires-clause-start
-tell_further-requires-clause-start g c = λ held.
+pub send_further-requires-clause-start : goal.send_further-requires-clause-start
+send_further-requires-clause-start g c = λ held.
     let here = c.args.self.now in
     let segment = segment_in c.args.packet.now in
     let start = IfOk-at_ok _ (is_read c.args.packet.now c.requires.accepted) c.further_start-start.ensures in
@@ -16,5 +16,5 @@ tell_further-requires-clause-start g c = λ held.
 
 pub returns-clause-told : goal.returns-clause-told
 returns-clause-told g c =
-    copies_told c.args.packet.now c.args.before c.args.self.now c.tell_own-own.result c.further_start-start.result c.takes_held_fin-fin.result c.tell_own-own.new.out c.tell_further.new.out c.tell_una.new.out
-    c.requires.accepted c.tell_own-own.ensures.told c.tell_own-own.ensures.fin c.further_start-start.ensures c.takes_held_fin-fin.ensures c.tell_further.ensures.told c.tell_una.ensures.told
+    copies_told c.args.packet.now c.args.before c.args.self.now c.copies_fin.result c.has_more-more.result c.further_start-start.result c.takes_held_fin-fin.result c.send_own.new.out c.send_further.new.out c.send_una.new.out
+    c.requires.accepted c.send_own.ensures.told c.copies_fin.ensures c.further_start-start.ensures c.takes_held_fin-fin.ensures c.has_more-more.ensures.value c.send_further.ensures.told c.send_una.ensures.told
