@@ -3,3 +3,4 @@ pub mod Lived
 pub mod Kept
 pub mod Told
 pub mod Rests
+pub mod Restarted

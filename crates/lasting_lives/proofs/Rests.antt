@@ -62,14 +62,14 @@ module _ (key : Key) (test : Quarantined → Bool) where
   abbrev both : Quarantined → Bool
   both q = key_eq q.named.key key && test q
 
-  none_passes : (qs : List Quarantined) → quarantined_at key qs ≡ None → list_any both qs ≡ false
+  pub none_passes : (qs : List Quarantined) → quarantined_at key qs ≡ None → list_any both qs ≡ false
   none_passes [] e = refl
   none_passes (q ∷ qs) e =
       by_cases (key_eq q.named.key key)
       (λ t. none_is_some q (sym e ∙ if_true (key_eq q.named.key key) (Some q) (quarantined_at key qs) t))
       (λ f. or_from (both q) (list_any both qs) (ap (λ b. b && test q) f) (none_passes qs (sym (if_false (key_eq q.named.key key) (Some q) (quarantined_at key qs) f) ∙ e)))
 
-  its_passes : (qs : List Quarantined) (q : Quarantined) → quarantined_at key qs ≡ Some q → test q ≡ true → list_any both qs ≡ true
+  pub its_passes : (qs : List Quarantined) (q : Quarantined) → quarantined_at key qs ≡ Some q → test q ≡ true → list_any both qs ≡ true
   its_passes [] q e t = none_is_some q e
   its_passes (x ∷ qs) q e t =
       by_cases (key_eq x.named.key key)
@@ -84,7 +84,7 @@ module _ (key : Key) (test : Quarantined → Bool) where
       let parts = or_parts (key_eq q.named.key key) (has_key key (map (λ q. q.named.key) qs)) e in
       or_from (both q) (list_any both qs) (ap (λ b. b && test q) parts.0) (no_other qs parts.1)
 
-  its_fails : (qs : List Quarantined) (q : Quarantined) → AreDistinct (map (λ q. q.named.key) qs) → quarantined_at key qs ≡ Some q → test q ≡ false → list_any both qs ≡ false
+  pub its_fails : (qs : List Quarantined) (q : Quarantined) → AreDistinct (map (λ q. q.named.key) qs) → quarantined_at key qs ≡ Some q → test q ≡ false → list_any both qs ≡ false
   its_fails [] q d e t = none_is_some q e
   its_fails (x ∷ qs) q d e t =
       by_cases (key_eq x.named.key key)

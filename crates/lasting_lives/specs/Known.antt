@@ -13,11 +13,13 @@ use Rattle.ft_model.specs.ServingTurn.{concerns}
 use Rattle.long_laws.specs.Quarantine.{Quarantined, quarantined_at, named_head, named_point, begun}
 use Rattle.lasting_laws.specs.Closing.{end_of_head}
 use Rattle.lasting_laws.specs.LastingTurn as law
+use Rattle.lasting_laws.specs.Watching.{is_empty}
 use Rattle.forget_wire.specs.Value.{named_said}
 use Rattle.lasting_lives.specs.declared.life.Life.{Life}
 use Rattle.lasting_lives.specs.declared.life.Life.TheVariants as life
 use Rattle.lasting_lives.specs.declared.life.Resting.{Resting}
 use Rattle.lasting_lives.specs.declared.watch.Watch.{Watch}
+use Rattle.lasting_lives.specs.declared.watch.Origin.{Origin}
 use Rattle.lasting_lives.specs.declared.watch.Origin.TheVariants as origin
 use Rattle.lasting_lives.specs.Lives.{heard, older}
 use Rattle.lasting_lives.specs.Watches.{WatchStands, QuarantineStands, end_there}
@@ -69,6 +71,14 @@ Settles (Some (Lives p)) (Some (Ended k)) (Some r) old new = new ≡ Some (life.
 Settles (Some (Lives p)) (Some (Ended k)) None old new = ⊥
 Settles (Some (Opens n)) (Some (Lives q)) ends old new = new ≡ Some (life.Watched new_watch)
 Settles _ _ ends old new = new ≡ old
+
+-- .. and one of a restored connection where a restart ends
+abbrev pub begun_life : Origin → Life
+begun_life o = life.Watched (record { origin = o; age = 0; silent = 0 })
+
+abbrev pub restored_life : Option Place → Option Life → Option Life
+restored_life (Some (Lives p)) l = Some (begun_life (if is_empty p then origin.RestoredEmpty else origin.Restored))
+restored_life _ l = l
 
 -- the live connection that a message ends, with its quarantine as it begins and its client's next number
 abbrev pub EndsPlace : Option Place → Option Resting → Type 0

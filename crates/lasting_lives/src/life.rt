@@ -93,11 +93,11 @@ impl Resting {
 
 impl Life {
     /// Notes that a packet of its client came.
-    pub fn hear(&mut self)
+    pub fn receive(&mut self)
         ensures { self.new ≡ heard self.old }
     {
         if let Life::Watched(watch) = self {
-            watch.hear();
+            watch.receive();
         }
     }
 

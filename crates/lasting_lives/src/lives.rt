@@ -13,8 +13,8 @@ use indexmap::IndexMap;
 use std::alloc::Global;
 use std::marker::Model;
 
-/// The watches of all live connections, and the quarantine of all that are done, by their keys. It has no other keys, so its memory is bounded by the places that
-/// are alive or in quarantine.
+/// The watches of all live connections, and the quarantine of all that are done, by their keys. It has no other keys, so its memory is bounded by the places
+/// that are alive or in quarantine.
 #[derive(Drop)]
 pub struct Lives {
     of: IndexMap<Key, Life>,
@@ -69,12 +69,12 @@ impl Lives {
     }
 
     /// Notes that a packet of a live connection's client came.
-    pub fn hear(&mut self, key: Key)
+    pub fn receive(&mut self, key: Key)
         ensures its { lookup (key_eq key) self.new ≡ option_map heard (lookup (key_eq key) self.old) }
         ensures others { (k : key_type) → key_eq key k ≡ false → lookup (key_eq k) self.new ≡ lookup (key_eq k) self.old }
     {
         if let Some(life) = self.of.get_mut(&key) {
-            life.hear();
+            life.receive();
         }
     }
 

@@ -55,7 +55,7 @@ impl Watch {
     }
 
     /// Notes that a packet of the client came.
-    pub fn hear(&mut self)
+    pub fn receive(&mut self)
         ensures { self.new ≡ heard_watch self.old }
     {
         if let Origin::RestoredEmpty = self.origin {

@@ -4,7 +4,7 @@ use Rattle.std.proofs.lemmas.Bool.{false≢true}
 use Rattle.std.proofs.lemmas.List.{length-replicate}
 use Rattle.ft_io.specs.declared.Addr.{Addr}
 use Rattle.ft_io.specs.declared.Key.{Key}
-use Rattle.server_trait.specs.Service.{Machine, machine}
+use Rattle.server_trait.specs.Service.{Machine, silent}
 use Rattle.tcp_rules.specs.Profile.{Profile}
 use Rattle.ft_model.specs.Log.{Entry}
 use Rattle.ft_model.specs.News.News.{Comes}
@@ -40,7 +40,7 @@ syn_short measures key local cisn fetched mss i h =
 
 -- a service that writes nothing
 abbrev pub idle : Machine ℕ
-idle = machine 0 (λ s chunk. record { next = s; output = []; closed = false })
+idle = silent 0 (λ s chunk. record { next = s; output = []; closed = false })
 
 abbrev logged : Key → (cisn fetched mss : ℕ) → Entry
 logged key cisn fetched mss = record {
@@ -70,6 +70,6 @@ connected_short measures key local cisn fetched mss i h segments fits =
       sisn = omega arith;
       i_fits = fits;
     } in
-    let profile : Profile = record { measures = measures; delays = false } in
+    let profile : Profile = record { measures = measures; delays = false; batches = false } in
     let s = splices idle profile local e i g in
     subst (λ n. IsShort (connected_measuring measures key local cisn n mss i).sending) size (bounded_is_short (connected_measuring measures key local cisn (length e.bytes) mss i) s.tcp.stands.between.bounds)

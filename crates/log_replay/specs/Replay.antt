@@ -1,7 +1,7 @@
 -- A service that gets the logged reads again (FT-TCP, INFOCOM 2001: the restarted server replays its input). No more input and output is stored than is still
 -- needed.
 use Rattle.limits.specs.Limits.{longest_stream}
-use Rattle.std.specs.Prelude.{◌≡◌, ℕ, ◌+◌, ◌-◌, ◌^◌, Bool, true, nat_lt, List, ◌++◌, length, take, drop, if◌then◌else◌}
+use Rattle.std.specs.Prelude.{◌≡◌, ℕ, ◌+◌, ◌-◌, ◌^◌, Bool, true, false, nat_lt, List, [], ◌++◌, length, take, drop, if◌then◌else◌}
 use Rattle.server_trait.specs.Service.{Served, Run}
 
 pub record ReplayState (S : Type 0) : Type 0 where
@@ -11,6 +11,17 @@ pub record ReplayState (S : Type 0) : Type 0 where
   pub acked : ℕ  -- the units of it that the client has acknowledged
   pub pending : List ℕ  -- the output after those
   pub held : List ℕ  -- the bytes that are fetched and not replayed
+
+-- before its first read a service has made its greeting, and nothing of it that the client has acknowledged is pending
+abbrev pub begun_replay : {S : Type 0} → S → (greeting : List ℕ) → (acked : ℕ) → ReplayState S
+begun_replay fresh greeting acked = record {
+  service = fresh;
+  closed = false;
+  made = length greeting;
+  acked = acked;
+  pending = drop acked greeting;
+  held = [];
+}
 
 -- a stream has 2^24 bytes. No server that keeps its limits has made more output
 abbrev pub passes_the_stream : {S : Type 0} → ReplayState S → Served S → Bool

@@ -1,10 +1,10 @@
 //! A service that gets the logged reads again.
 
 ghost use Rattle.limits.specs.Limits.{longest_stream};
-ghost use Rattle.std.specs.Prelude.{◌≡◌, ℕ, ◌^◌, ◌-◌, ◌+◌, ◌≤◌, List, [], ◌++◌, length, take, drop, true, false, OnOk};
+ghost use Rattle.std.specs.Prelude.{◌≡◌, ℕ, ◌^◌, ◌-◌, ◌+◌, ◌≤◌, List, [], ◌++◌, length, take, drop, true, false, IfOk, OnOk};
 ghost use Rattle.north_wrap.specs.NorthState.{resumed_north};
 ghost use Rattle.log_replay.specs.ReadLengths.{HaveBytes};
-ghost use Rattle.log_replay.specs.Replay.{served_on, fed_on};
+ghost use Rattle.log_replay.specs.Replay.{begun_replay, served_on, fed_on};
 
 use crate::cuts::Cuts;
 use crate::held::Held;
@@ -47,19 +47,24 @@ impl<S: Service> Model for Replay<S> {
 }
 
 impl<S: Service> Replay<S> {
-    /// A service before its first read, of a connection whose client has acknowledged `acked` units of output.
-    pub fn new(alloc: Global, kind: u8, acked: u32) -> Replay<S>
-        ensures { result ≡ record { service = S.started kind; closed = false; made = 0; acked = acked; pending = []; held = [] } }
+    /// A service before its first read, of a connection whose client has acknowledged `acked` units of output: its output is its greeting.
+    pub fn new(alloc: Global, kind: u8, acked: u32) -> Result<Replay<S>, NoMemory>
+        ensures { IfOk result (λ replay. replay ≡ begun_replay (S.started kind) (S.greeting (S.started kind)) acked) }
     {
-        Replay {
-            service: S::fresh(alloc, kind),
+        let service = S::fresh(alloc, kind);
+        let mut output = Vec::new(alloc);
+        let greeting = service.greeting();
+        let made = greeting.len() as u32;
+        hold_unacknowledged(&mut output, greeting, acked)?;
+        Ok(Replay {
+            service,
             closed: false,
-            made: 0,
+            made,
             acked,
-            output: Vec::new(alloc),
+            output,
             fresh: Vec::new(alloc),
             held: Held::new(alloc),
-        }
+        })
     }
 
     /// A service at a mark. It has made `made` bytes of output, and the client has acknowledged them all.
@@ -178,7 +183,7 @@ impl<S: Service> Replay<S> {
     }
 }
 
-/// Stores the output of a chunk from where the client's acknowledgement ends, which is after its first `known` bytes.
+/// Stores the output of a chunk, or the greeting, from where the client's acknowledgement ends, which is after its first `known` bytes.
 fn hold_unacknowledged(output: &mut Vec<u8>, fresh: &[u8], known: u32) -> Result<(), NoMemory>
     ensures items { OnOk result (output.new.items ≡ output.old.items ++ drop known fresh.now) }
     ensures few { length output.new.items ≤ length output.old.items + length fresh.now }

@@ -111,7 +111,8 @@ pub fn spliced_endpoint(
 ) -> Result<Endpoint, NoMemory>
     requires stream { head.now.length ≤ longest_stream }
     requires segments { IsSegmentSize head.now.mss }
-    ensures { IfOk result (λ e. e ≡ spliced_measuring measures head.now.key local head.now.cisn head.now.length head.now.mss isn.0 (has_end (head_said head.now))) }
+    ensures { IfOk result (λ e. e ≡ spliced_measuring measures head.now.key local head.now.cisn head.now.length head.now.mss isn.0
+        (has_end (head_said head.now))) }
 {
     let mut out = Outbox::new(alloc)?;
     let mut endpoint = connected(alloc, head, local, isn, measures, &mut out)?;

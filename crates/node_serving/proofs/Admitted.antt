@@ -8,6 +8,7 @@ use Rattle.ft_io.specs.declared.Key.{Key}
 use Rattle.ft_io.specs.Key.{key_eq}
 use Rattle.seq_arith.specs.Packet.{Segment, segment_size}
 use Rattle.server_trait.specs.Service.{Machine}
+use Rattle.tcp_rules.specs.Profile.{grammar_of}
 use Rattle.ft_model.specs.Network.{source_of}
 use Rattle.ft_model.specs.Node.{Node, Place, key_of, is_for, is_known, place_at, is_pending, pending_count}
 use Rattle.ft_model.specs.Node.Place.{Opens, Lives, Ended}
@@ -86,13 +87,13 @@ next_number isn n = omega arith
 module _ {S : Type 0} (service : Machine S) (node : Node) (segment : Segment) (opened : ℕ) (places : List Place) where
   -- what a segment admits, from what it makes
   admits : (came : List Place) (next : ℕ) (es : List (Key × Slot S)) (old new : List Wire) → newcomers node (Packet_comes segment) opened places ≡ came
-      → next ≡ initial_number node.isn (opened + length came) → AllStand service node es (places ++ came) → ArePut (all_opens node (Packet_comes segment) es) old new
+      → next ≡ initial_number node.isn (opened + length came) → AllStand service node es (places ++ came) → ArePut (grammar_of node.profile) (all_opens node (Packet_comes segment) es) old new
       → Admits service node segment opened places next es old new
   admits came next es old new is number stands asked = record {
     number = number ∙ ap (λ ps. initial_number node.isn (opened + length ps)) (sym is);
     stands = subst (λ ps. AllStand service node es (places ++ ps)) (sym is) stands;
-    opens = subst (λ ps. ArePut (flat_map (opens_at node (Packet_comes segment)) (places ++ ps)) old new) (sym is)
-        (subst (λ ps. ArePut ps old new) (sym (opens_are service node (Packet_comes segment) es (places ++ came) stands)) asked);
+    opens = subst (λ ps. ArePut (grammar_of node.profile) (flat_map (opens_at node (Packet_comes segment)) (places ++ ps)) old new) (sym is)
+        (subst (λ ps. ArePut (grammar_of node.profile) ps old new) (sym (opens_are service node (Packet_comes segment) es (places ++ came) stands)) asked);
   }
 
   unasked_all : (es : List (Key × Slot S)) → lookup (key_eq (source_of segment)) es ≡ None → all_opens node (Packet_comes segment) es ≡ []
@@ -102,7 +103,7 @@ module _ {S : Type 0} (service : Machine S) (node : Node) (segment : Segment) (o
   pub none_admitted : (next : ℕ) (es : List (Key × Slot S)) (told : List Wire) → lookup (key_eq (source_of segment)) es ≡ None → next ≡ initial_number node.isn opened
       → AllStand service node es places → (is_syn segment && nat_lt (pending_slots es) 64) ≡ false → Admits service node segment opened places next es told told
   none_admitted next es told none number st shut = admits [] next es told told nothing (number ∙ ap (initial_number node.isn) same)
-      (subst (AllStand service node es) (sym (append-nil places)) st) (subst (λ ps. ArePut ps told told) (sym (unasked_all es none)) (put_none told))
+      (subst (AllStand service node es) (sym (append-nil places)) st) (subst (λ ps. ArePut (grammar_of node.profile) ps told told) (sym (unasked_all es none)) (put_none (grammar_of node.profile) told))
     where
       same : opened ≡ opened + 0
       same = omega arith
@@ -121,12 +122,12 @@ module _ {S : Type 0} (service : Machine S) (node : Node) (segment : Segment) (o
   pub one_admitted : (key : Key) (o : Opening) (next : ℕ) (es : List (Key × Slot S)) (old new : List Wire) → source_of segment ≡ key → lookup (key_eq key) es ≡ None
       → is_for node.server segment ≡ true → is_syn segment ≡ true → nat_lt (pending_slots es) 64 ≡ true → AllStand service node es places
       → numbers_for node.isn opened segment ≡ numbers_of key o → next ≡ initial_number node.isn (opened + 1)
-      → ArePut (told_by node.boot (OpenMsg (numbers_of key o)) ∷ []) old new
+      → ArePut (grammar_of node.profile) (told_by node.boot (OpenMsg (numbers_of key o)) ∷ []) old new
       → Admits service node segment opened places next (es ++ (key, slot.Pending o) ∷ []) old new
   one_admitted key o next es old new from none mine syn few st numbers number asked =
       admits (Opens (numbers_for node.isn opened segment) ∷ []) next (es ++ (key, slot.Pending o) ∷ []) old new one number
       (one_stands_more service node es places key (slot.Pending o) (Opens (numbers_for node.isn opened segment)) st numbers)
-      (subst (λ ps. ArePut ps old new) (sym opens) asked)
+      (subst (λ ps. ArePut (grammar_of node.profile) ps old new) (sym opens) asked)
     where
       gone : lookup (key_eq (source_of segment)) es ≡ None
       gone = subst (λ k. lookup (key_eq k) es ≡ None) (sym from) none

@@ -4,6 +4,7 @@ use Rattle.std.proofs.lemmas.List.{map-append}
 use Rattle.indexmap.specs.IndexMap.{set_value_at}
 use Rattle.ft_io.specs.declared.Key.{Key}
 use Rattle.server_trait.specs.Service.{Machine}
+use Rattle.tcp_rules.specs.Profile.{grammar_of}
 use Rattle.ft_model.specs.Network.{Packet}
 use Rattle.ft_model.specs.Point.{Point}
 use Rattle.ft_model.specs.News.News.{Ticks}
@@ -15,14 +16,14 @@ use Rattle.wrapped_conn.specs.ConnState.{ConnState}
 use Rattle.node_serving.specs.declared.slot.Slot.{Slot}
 use Rattle.node_serving.specs.declared.slot.Slot.TheVariants as slot
 use Rattle.ft_model.proofs.Lists.{all_append}
-use Rattle.ft_model.specs.Wire.{Wire, wire_of, HasWire}
+use Rattle.ft_model.specs.Wire.{Wire, wire_by, HasWireBy}
 use Rattle.node_serving.specs.Conn.{IsOursAt, ConnGoes}
 use Rattle.node_serving.specs.Slots.{SlotStands, AllStand, SlotGoes, AllSlotsGo, FirstGo}
 
 -- a live connection's tick is its slot's
 pub live_ticks : {S : Type 0} (service : Machine S) (node : Node) (key : Key) (place : Place) (c now : ConnState S) (old new : List Wire)
     → SlotStands service node key (slot.Live c) place
-    → ((p : Point) → p.key ≡ key → IsOursAt service node.server node.boot c p → ConnGoes service node.server node.boot Ticks p now old new)
+    → ((p : Point) → p.key ≡ key → IsOursAt service node.server node.boot c p → ConnGoes (grammar_of node.profile) service node.server node.boot Ticks p now old new)
     → SlotGoes service node Tick_comes key place (slot.Live now) old new
 live_ticks service node key (Lives p) c now old new st h =
     let g = h p st.0 st.1 in record {
@@ -105,9 +106,9 @@ module _ {S : Type 0} (service : Machine S) (node : Node) (input : Input) where
             at = length-append f.went (s.after ∷ []) ∙ ap (λ n. n + 1) f.at;
             stands = put_slot es f.went others place s.after i now stood f.at (λ d at. subst (λ (o : Key × Slot S). SlotStands service node o.0 now s.after) (same is at) s.stands);
             go = go_on (PlaceTurn service node input) f.done f.went f.packets s.packets place s.after f.go s.turn;
-            wires = s.wires ∙ (ap (λ xs. xs ++ map wire_of s.packets) f.wires
-                ∙ (append_assoc old (map wire_of f.packets) (map wire_of s.packets) ∙ ap (λ xs. old ++ xs) (sym (map-append wire_of f.packets s.packets))));
-            spelled = all_append HasWire f.packets s.packets f.spelled s.spelled;
+            wires = s.wires ∙ (ap (λ xs. xs ++ map (wire_by (grammar_of node.profile)) s.packets) f.wires
+                ∙ (append_assoc old (map (wire_by (grammar_of node.profile)) f.packets) (map (wire_by (grammar_of node.profile)) s.packets) ∙ ap (λ xs. old ++ xs) (sym (map-append (wire_by (grammar_of node.profile)) f.packets s.packets))));
+            spelled = all_append (HasWireBy (grammar_of node.profile)) f.packets s.packets f.spelled s.spelled;
           }
         where
           same : {d e : Key × Slot S} → slice_get es i ≡ Some e → slice_get es i ≡ Some d → e ≡ d

@@ -7,11 +7,13 @@ use Rattle.ft_io.specs.declared.Key.{Key}
 use Rattle.ft_io.specs.Key.{key_eq}
 use Rattle.seq_arith.specs.Mark.{Mark, MarkMessage}
 use Rattle.server_trait.specs.Service.{Machine}
+use Rattle.seq_arith.specs.declared.kinds.Grammar.{Grammar}
+use Rattle.tcp_rules.specs.Profile.{grammar_of}
 use Rattle.ft_model.specs.Node.{Node, Input}
 use Rattle.ft_model.specs.Node.Input.{Noise_comes, Tick_comes}
 use Rattle.ft_model.specs.Opening.{initial_number}
 use Rattle.ft_model.specs.ServingTurn.{concerns}
-use Rattle.ft_model.specs.Wire.{Wire, wire_of}
+use Rattle.ft_model.specs.Wire.{Wire, wire_by}
 use Rattle.ft_model.proofs.Lists.{same_key}
 use Rattle.mark_laws.specs.MarkedNode.{MarkedInput}
 use Rattle.mark_laws.specs.MarkedNode.MarkedInput.{Plain_comes, Mark_comes}
@@ -56,15 +58,15 @@ among_weaker P Q few (w ∷ all) f (inl (front, is, a)) = inl (front, is, among_
 among_weaker P Q few (w ∷ all) f (inr (its, a)) = inr (f w its, among_weaker P Q few all f a)
 
 -- marks that are sent stand among what was sent
-pub marks_among : (boot : ℕ) (key : Key) (from : ℕ) (ms : List Mark) (old new : List Wire) → SendsMarks boot key from ms old new → AreAmong (IsMarkOf boot key) old new
-marks_among boot key from ms old new sends =
+pub marks_among : (grammar : Grammar) (boot : ℕ) (key : Key) (from : ℕ) (ms : List Mark) (old new : List Wire) → SendsMarks grammar boot key from ms old new → AreAmong (IsMarkOf boot key) old new
+marks_among grammar boot key from ms old new sends =
     let Is : Wire → Type 0 = IsMarkOf boot key in
     subst (AreAmong Is old) (sym sends.wires)
     (subst (λ l. AreAmong Is l (take at old ++ (mark_wires boot key ms ++ drop at old))) (take-append-drop at old)
     (among_front Is (take at old) (drop at old) (mark_wires boot key ms ++ drop at old) (among_more Is (mark_wires boot key ms) (drop at old) (its ms))))
   where
     at : ℕ
-    at = length old - length (filter is_done_wire (drop from old))
+    at = length old - length (filter (is_done_wire grammar) (drop from old))
 
     its : (ms : List Mark) → AllByRecursion (IsMarkOf boot key) (mark_wires boot key ms)
     its [] = tt
@@ -117,7 +119,7 @@ module _ {S : Type 0} (service : Machine S) (node : Node) where
 
   -- a tick of all, and the Opens after it
   pub ticks_beside : (was now : Serving S) (marks : KeyMarks) (opened : ℕ) (old mid new : List Wire) → was.next.0 ≡ initial_number node.isn opened → IsDistinct key_eq (keys_of now.slots.entries)
-      → AllTickBeside service node was.slots.entries now.slots.entries old mid → ArePut (all_opens node Tick_comes now.slots.entries) mid new
+      → AllTickBeside service node was.slots.entries now.slots.entries old mid → ArePut (grammar_of node.profile) (all_opens node Tick_comes now.slots.entries) mid new
       → GoesBesideMarks service node (Plain_comes Tick_comes) was now marks marks old new
   ticks_beside was now marks opened old mid new number distinct t asked = record {
     told = s.told;
@@ -133,7 +135,7 @@ module _ {S : Type 0} (service : Machine S) (node : Node) where
       Is = IsMarkOfSubject node (Plain_comes Tick_comes)
 
       opens : List Wire
-      opens = map wire_of (all_opens node Tick_comes now.slots.entries)
+      opens = map (wire_by (grammar_of node.profile)) (all_opens node Tick_comes now.slots.entries)
 
       s : ServesAlone service node Tick_comes was now [] (t.told ++ opens)
       s = served_alone service node Tick_comes was now [] t.told (t.told ++ opens) opened number

@@ -6,6 +6,7 @@ use Rattle.ft_io.specs.Key.{key_eq}
 use Rattle.seq_arith.specs.Message.{Kept, Body, Message}
 use Rattle.seq_arith.specs.Message.{Body as body}
 use Rattle.server_trait.specs.Service.{Machine}
+use Rattle.tcp_rules.specs.Profile.{grammar_of}
 use Rattle.ft_model.specs.Point.{Point}
 use Rattle.ft_model.specs.News.News.{Logged}
 use Rattle.ft_model.specs.Node.{Node, Place, key_of}
@@ -62,7 +63,7 @@ module _ {S : Type 0} (service : Machine S) (node : Node) (message : Message) (b
   -- a live connection's turn is its slot's
   pub live_hears : (key : Key) (kept : Kept) → logged_in message.body ≡ Some kept → kept.key ≡ key → (place : Place) (c now : ConnState S) (old new : List Wire)
       → SlotStands service node key (slot.Live c) place
-      → ((p : Point) → p.key ≡ key → IsOursAt service node.server node.boot c p → ConnGoes service node.server node.boot (Logged kept) p now old new)
+      → ((p : Point) → p.key ≡ key → IsOursAt service node.server node.boot c p → ConnGoes (grammar_of node.profile) service node.server node.boot (Logged kept) p now old new)
       → SlotGoes service node (Message_comes message) key place (slot.Live now) old new
   live_hears key kept says from (Lives p) c now old new st h =
       let g = h p st.0 st.1 in

@@ -3,14 +3,15 @@ use Rattle.std.proofs.Common.{◌≡◌, ℕ, ◌≤◌, true, false, ◌&&◌, 
 use Rattle.std.proofs.lemmas.Bool.{leb-true, and_parts}
 use Rattle.ft_io.specs.declared.Key.{Key}
 use Rattle.seq_arith.specs.Message.{Body as said, Message}
-use Rattle.seq_arith.specs.MessageGrammar.{is_sound, kind_of, numbers_of, behind_of, lens_of}
+use Rattle.seq_arith.specs.MessageGrammar.{kind_of, numbers_of, behind_of, lens_of, is_sound_by}
 use Rattle.logger_wire.specs.declared.Msg.{Msg}
 use Rattle.ft_model.specs.ServingTurn.{names}
 use Rattle.logger_wire.specs.declared.Body.{Body}
 use Rattle.logger_wire.specs.declared.Body.TheVariants as body
 use Rattle.logger_wire.specs.declared.records.Kept.{Kept}
 use Rattle.logger_wire.specs.declared.records.Numbers.{Numbers}
-use Rattle.logger_wire.specs.Value.{body_of, IsSendable}
+use Rattle.seq_arith.specs.declared.kinds.Grammar.{Grammar}
+use Rattle.logger_wire.specs.Value.{body_of, IsSendableBy}
 use Rattle.node_serving.specs.Clients.{Known, known_after}
 
 -- a message by its parts
@@ -18,12 +19,12 @@ pub message_is : (message : Message) (boot : ℕ) (says : said) → message.boot
 message_is message boot says b s = ap₂ (λ (x : ℕ) (y : said). let m : Message = record { boot = x; body = y } in m) b s
 
 -- the segment size of a logged opening
-pub opened_range : (msg : Msg) (numbers : Numbers) → IsSendable msg → msg.body ≡ body.Opened numbers → (64 ≤ numbers.mss) × (numbers.mss ≤ 1460)
-unfolding is_sound
-opened_range msg numbers sendable is =
+pub opened_range : (grammar : Grammar) (msg : Msg) (numbers : Numbers) → IsSendableBy grammar msg → msg.body ≡ body.Opened numbers → (64 ≤ numbers.mss) × (numbers.mss ≤ 1460)
+unfolding is_sound_by
+opened_range grammar msg numbers sendable is =
     let mss : ℕ = numbers.mss in
     let sound : ((nat_le 1 msg.boot && ((nat_le 64 mss && nat_le mss 1460) && true)) && true) ≡ true =
-    subst (λ b. is_sound (kind_of (body_of b)) msg.boot (length (behind_of (body_of b))) (numbers_of (body_of b)) (lens_of (body_of b)) ≡ true) is sendable.spellable.sound in
+    subst (λ b. is_sound_by grammar (kind_of (body_of b)) msg.boot (length (behind_of (body_of b))) (numbers_of (body_of b)) (lens_of (body_of b)) ≡ true) is sendable.spellable.sound in
     let first : (nat_le 1 msg.boot && ((nat_le 64 mss && nat_le mss 1460) && true)) ≡ true = (and_parts (nat_le 1 msg.boot && ((nat_le 64 mss && nat_le mss 1460) && true)) true sound).0 in
     let second : ((nat_le 64 mss && nat_le mss 1460) && true) ≡ true = (and_parts (nat_le 1 msg.boot) ((nat_le 64 mss && nat_le mss 1460) && true) first).1 in
     let range = and_parts (nat_le 64 mss) (nat_le mss 1460) (and_parts (nat_le 64 mss && nat_le mss 1460) true second).0 in

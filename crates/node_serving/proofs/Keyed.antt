@@ -9,17 +9,19 @@ use Rattle.ft_io.specs.Key.{key_eq}
 use Rattle.seq_arith.specs.declared.kinds.BadMsg.{BadMsg}
 use Rattle.seq_arith.specs.Message.{Body, Message, EntryHead}
 use Rattle.seq_arith.specs.Message.{Body as body}
-use Rattle.seq_arith.specs.MessageGrammar.{reading}
+use Rattle.seq_arith.specs.MessageGrammar.{reading_by}
 use Rattle.seq_arith.proofs.MessageSpelling.{message_is_read}
 use Rattle.server_trait.specs.Service.{Machine}
 use Rattle.seq_arith.specs.Packet.{Segment, has_rst, has_ack}
+use Rattle.seq_arith.specs.declared.kinds.Grammar.{Grammar}
+use Rattle.tcp_rules.specs.Profile.{grammar_of}
 use Rattle.ft_model.specs.Network.{Packet, source_of, destination_of}
 use Rattle.ft_model.specs.Refusal.{as_listen, as_closed, full_rst, rst_at_ack, rst_behind}
 use Rattle.ft_model.specs.Network.Packet.{To_server, To_client, To_logger, From_logger}
 use Rattle.ft_model.specs.Restart.{holding_segment}
 use Rattle.ft_model.specs.Node.{Node, Place, Input}
 use Rattle.ft_model.specs.ServingTurn.{concerns}
-use Rattle.ft_model.specs.Wire.{Wire, Party, wire_of, HasWire}
+use Rattle.ft_model.specs.Wire.{Wire, Party, wire_by, HasWireBy}
 use Rattle.ft_model.specs.Wire.Party.{A_client, The_server, The_logger}
 use Rattle.ft_model.proofs.Lists.{same_key, key_is, all_weaker}
 use Rattle.node_serving.specs.declared.slot.Slot.{Slot}
@@ -59,50 +61,50 @@ read_other : (r : Result Message BadMsg) (key k : Key) → IfOk r (λ message. t
 read_other (Ok message) key k its other = told_other message.body key k its other
 read_other (Err e) key k its other = refl
 
-between_other : (key k : Key) (to : Party) (bytes : List ℕ) → IsBetween key to bytes → key_eq key k ≡ false → goes_to k to bytes ≡ false
-between_other key k (A_client client) bytes its other = key_told client key k its other
-between_other key k The_logger bytes its other = read_other (reading bytes) key k its other
-between_other key k The_server bytes its other = absurd its
+between_other : (grammar : Grammar) (key k : Key) (to : Party) (bytes : List ℕ) → IsBetween grammar key to bytes → key_eq key k ≡ false → goes_to grammar k to bytes ≡ false
+between_other grammar key k (A_client client) bytes its other = key_told client key k its other
+between_other grammar key k The_logger bytes its other = read_other (reading_by grammar bytes) key k its other
+between_other grammar key k The_server bytes its other = absurd its
 
 -- a packet of one key is none of another's
-pub none_of : (key k : Key) (sent : List Wire) → AllByRecursion (IsFor key) sent → key_eq key k ≡ false → of_key k sent ≡ []
-none_of key k [] its other = refl
-none_of key k (w ∷ ws) its other = ap (λ b. if b then w ∷ of_key k ws else of_key k ws) (between_other key k w.to w.bytes its.0 other) ∙ none_of key k ws its.1 other
+pub none_of : (grammar : Grammar) (key k : Key) (sent : List Wire) → AllByRecursion (IsFor grammar key) sent → key_eq key k ≡ false → of_key grammar k sent ≡ []
+none_of grammar key k [] its other = refl
+none_of grammar key k (w ∷ ws) its other = ap (λ b. if b then w ∷ of_key grammar k ws else of_key grammar k ws) (between_other grammar key k w.to w.bytes its.0 other) ∙ none_of grammar key k ws its.1 other
 
 -- one that can be sent and is the key's is among the key's packets
-is_its : (key : Key) (packet : Packet) → IsFor key (wire_of packet) → HasWire packet → is_of key (wire_of packet) ≡ true
-is_its key (To_client segment) its spelled = its
-is_its key (To_logger message) its spelled =
+is_its : (grammar : Grammar) (key : Key) (packet : Packet) → IsFor grammar key (wire_by grammar packet) → HasWireBy grammar packet → is_of grammar key (wire_by grammar packet) ≡ true
+is_its grammar key (To_client segment) its spelled = its
+is_its grammar key (To_logger message) its spelled =
     let read = message_is_read message spelled.0 in
     ap (is_told_of key) read ∙ subst (λ r. IfOk r (λ m. tells_of m.body key ≡ true)) read its
-is_its key (To_server segment) its spelled = absurd its
-is_its key (From_logger message) its spelled = absurd its
+is_its grammar key (To_server segment) its spelled = absurd its
+is_its grammar key (From_logger message) its spelled = absurd its
 
-pub all_its : (key : Key) (packets : List Packet) → AllByRecursion (IsFor key) (map wire_of packets) → AllByRecursion HasWire packets → of_key key (map wire_of packets) ≡ map wire_of packets
-all_its key [] its spelled = refl
-all_its key (p ∷ ps) its spelled =
-    ap (λ b. if b then wire_of p ∷ of_key key (map wire_of ps) else of_key key (map wire_of ps)) (is_its key p its.0 spelled.0)
-    ∙ ap (λ ws. wire_of p ∷ ws) (all_its key ps its.1 spelled.1)
+pub all_its : (grammar : Grammar) (key : Key) (packets : List Packet) → AllByRecursion (IsFor grammar key) (map (wire_by grammar) packets) → AllByRecursion (HasWireBy grammar) packets → of_key grammar key (map (wire_by grammar) packets) ≡ map (wire_by grammar) packets
+all_its grammar key [] its spelled = refl
+all_its grammar key (p ∷ ps) its spelled =
+    ap (λ b. if b then wire_by grammar p ∷ of_key grammar key (map (wire_by grammar) ps) else of_key grammar key (map (wire_by grammar) ps)) (is_its grammar key p its.0 spelled.0)
+    ∙ ap (λ ws. wire_by grammar p ∷ ws) (all_its grammar key ps its.1 spelled.1)
 
 -- what is told of a key that these packets are
-pub told_its : (key : Key) (told : List Wire) (packets : List Packet) → AllByRecursion (IsFor key) told → told ≡ map wire_of packets → AllByRecursion HasWire packets
-    → of_key key told ≡ map wire_of packets
-told_its key told packets its is spelled = ap (of_key key) is ∙ all_its key packets (subst (AllByRecursion (IsFor key)) is its) spelled
+pub told_its : (grammar : Grammar) (key : Key) (told : List Wire) (packets : List Packet) → AllByRecursion (IsFor grammar key) told → told ≡ map (wire_by grammar) packets → AllByRecursion (HasWireBy grammar) packets
+    → of_key grammar key told ≡ map (wire_by grammar) packets
+told_its grammar key told packets its is spelled = ap (of_key grammar key) is ∙ all_its grammar key packets (subst (AllByRecursion (IsFor grammar key)) is its) spelled
 
-pub told_is : (old new told : List Wire) (packets : List Packet) → new ≡ old ++ told → new ≡ old ++ map wire_of packets → told ≡ map wire_of packets
-told_is old new told packets put wires = append_cancel_left old told (map wire_of packets) (sym put ∙ wires)
+pub told_is : (grammar : Grammar) (old new told : List Wire) (packets : List Packet) → new ≡ old ++ told → new ≡ old ++ map (wire_by grammar) packets → told ≡ map (wire_by grammar) packets
+told_is grammar old new told packets put wires = append_cancel_left old told (map (wire_by grammar) packets) (sym put ∙ wires)
 
-pub quiet_for : (key : Key) (told : List Wire) → IsOnlyFor key told told
-quiet_for key told = record { told = []; put = sym (append-nil told); alone = tt }
+pub quiet_for : (grammar : Grammar) (key : Key) (told : List Wire) → IsOnlyFor grammar key told told
+quiet_for grammar key told = record { told = []; put = sym (append-nil told); alone = tt }
 
 -- segments to one client, as refusals are
 abbrev pub AreBack : Key → List Segment → Type 0
 AreBack key segments = AllByRecursion (λ segment. destination_of segment ≡ key) segments
 
-pub refused_for : (key : Key) (segments : List Segment) (old new : List Wire) → AreBack key segments → AreSent segments old new → IsOnlyFor key old new
-refused_for key segments old new back sent = record { told = map wire_of (map To_client segments); put = sent.wires; alone = each segments back }
+pub refused_for : (grammar : Grammar) (key : Key) (segments : List Segment) (old new : List Wire) → AreBack key segments → AreSent segments old new → IsOnlyFor grammar key old new
+refused_for grammar key segments old new back sent = record { told = map (wire_by grammar) (map To_client segments); put = (sent.each grammar).wires; alone = each segments back }
   where
-    each : (xs : List Segment) → AllByRecursion (λ segment. destination_of segment ≡ key) xs → AllByRecursion (IsFor key) (map wire_of (map To_client xs))
+    each : (xs : List Segment) → AllByRecursion (λ segment. destination_of segment ≡ key) xs → AllByRecursion (IsFor grammar key) (map (wire_by grammar) (map To_client xs))
     each [] a = tt
     each (x ∷ xs) a = (ap (λ k. key_eq k key) a.0 ∙ key_is key, each xs a.1)
 
@@ -131,7 +133,7 @@ full_back server key o = (refl, tt)
 module _ {S : Type 0} (service : Machine S) (node : Node) (input : Input) where
   -- a key that the input isn't about keeps its place
   pub stays_for : (key : Key) (place : Option Place) (slot : Option (Slot S)) (told : List Wire) → concerns node input key ≡ false → StandsFor service node key slot place
-      → of_key key told ≡ [] → KeyMeets service node input key place slot told
+      → of_key (grammar_of node.profile) key told ≡ [] → KeyMeets service node input key place slot told
   stays_for key (Some place) (Some s) told other st none = record {
     after = Some place;
     packets = [];
@@ -145,7 +147,7 @@ module _ {S : Type 0} (service : Machine S) (node : Node) (input : Input) where
   stays_for key None (Some s) told other st none = absurd st
 
   -- one whose slot goes by the law goes so alone
-  pub goes_for : (key : Key) (place : Option Place) (was now : Slot S) (old new : List Wire) (put : IsOnlyFor key old new) → StandsFor service node key (Some was) place
+  pub goes_for : (key : Key) (place : Option Place) (was now : Slot S) (old new : List Wire) (put : IsOnlyFor (grammar_of node.profile) key old new) → StandsFor service node key (Some was) place
       → ((q : Place) → place ≡ Some q → SlotStands service node key was q → SlotGoes service node input key q now old new)
       → KeyMeets service node input key place (Some now) put.told
   goes_for key (Some q) was now old new put st h =
@@ -154,12 +156,12 @@ module _ {S : Type 0} (service : Machine S) (node : Node) (input : Input) where
         packets = s.packets;
         stands = s.stands;
         turn = s.turn;
-        wires = told_its key put.told s.packets put.alone (told_is old new put.told s.packets put.put s.wires) s.spelled;
+        wires = told_its (grammar_of node.profile) key put.told s.packets put.alone (told_is (grammar_of node.profile) old new put.told s.packets put.put s.wires) s.spelled;
         spelled = s.spelled;
       }
   goes_for key None was now old new put st h = absurd st
 
-  pub leaves_for : (key : Key) (place : Option Place) (was : Slot S) (old new : List Wire) (put : IsOnlyFor key old new) → StandsFor service node key (Some was) place
+  pub leaves_for : (key : Key) (place : Option Place) (was : Slot S) (old new : List Wire) (put : IsOnlyFor (grammar_of node.profile) key old new) → StandsFor service node key (Some was) place
       → ((q : Place) → SlotStands service node key was q → SlotLeaves service node input q old new)
       → KeyMeets service node input key place None put.told
   leaves_for key (Some q) was old new put st h =
@@ -168,7 +170,7 @@ module _ {S : Type 0} (service : Machine S) (node : Node) (input : Input) where
         packets = s.packets;
         stands = tt;
         turn = s.turn;
-        wires = told_its key put.told s.packets put.alone (told_is old new put.told s.packets put.put s.wires) s.spelled;
+        wires = told_its (grammar_of node.profile) key put.told s.packets put.alone (told_is (grammar_of node.profile) old new put.told s.packets put.put s.wires) s.spelled;
         spelled = s.spelled;
       }
   leaves_for key None was old new put st h = absurd st
@@ -194,7 +196,7 @@ module _ {S : Type 0} (service : Machine S) (node : Node) (input : Input) where
         go false t = t
 
     -- from the turn of that key, where the others' slots are as before
-    by_one : (was now : List (Key × Slot S)) (old new : List Wire) (put : IsOnlyFor key old new) → ((k : Key) → key_eq key k ≡ false → lookup (key_eq k) now ≡ lookup (key_eq k) was)
+    by_one : (was now : List (Key × Slot S)) (old new : List Wire) (put : IsOnlyFor (grammar_of node.profile) key old new) → ((k : Key) → key_eq key k ≡ false → lookup (key_eq k) now ≡ lookup (key_eq k) was)
         → ((place : Option Place) → StandsFor service node key (lookup (key_eq key) was) place → IsNearFor node.server input place
         → KeyMeets service node input key place (lookup (key_eq key) now) put.told)
         → SlotsAlone service node input was now old new
@@ -202,7 +204,7 @@ module _ {S : Type 0} (service : Machine S) (node : Node) (input : Input) where
       told = put.told;
       put = put.put;
       slots = λ k e. same k (other_key k e);
-      whose = all_weaker (IsFor key) (IsForSubject node input) put.told (λ w a. (key, its, a)) put.alone;
+      whose = all_weaker (IsFor (grammar_of node.profile) key) (IsForSubject node input) put.told (λ w a. (key, its, a)) put.alone;
       turn = λ k place. go k place (key_eq key k) refl;
     }
       where
@@ -213,10 +215,10 @@ module _ {S : Type 0} (service : Machine S) (node : Node) (input : Input) where
             subst (λ x. KeyMeets service node input x place (lookup (key_eq x) now) put.told) is
             (meets place (subst (λ x. StandsFor service node x (lookup (key_eq x) was) place) (sym is) st) near)
         go k place false t st near =
-            stays_for k place (lookup (key_eq k) now) put.told (only k t) (subst (λ s. StandsFor service node k s place) (sym (same k t)) st) (none_of key k put.told put.alone t)
+            stays_for k place (lookup (key_eq k) now) put.told (only k t) (subst (λ s. StandsFor service node k s place) (sym (same k t)) st) (none_of (grammar_of node.profile) key k put.told put.alone t)
 
     -- its slot goes on
-    pub set_alone : (es : List (Key × Slot S)) (was now : Slot S) (old new : List Wire) → lookup (key_eq key) es ≡ Some was → IsOnlyFor key old new
+    pub set_alone : (es : List (Key × Slot S)) (was now : Slot S) (old new : List Wire) → lookup (key_eq key) es ≡ Some was → IsOnlyFor (grammar_of node.profile) key old new
         → ((q : Place) → IsNearFor node.server input (Some q) → SlotStands service node key was q → SlotGoes service node input key q now old new)
         → SlotsAlone service node input es (set_value (key_eq key) es now) old new
     set_alone es was now old new found put h = by_one es (set_value (key_eq key) es now) old new put (λ k t. other_set key k t es now)
@@ -226,7 +228,7 @@ module _ {S : Type 0} (service : Machine S) (node : Node) (input : Input) where
         (λ q is stands. h q (subst (IsNearFor node.server input) is near) stands)))
 
     -- its slot goes away
-    pub drop_alone : (es : List (Key × Slot S)) (was : Slot S) (old new : List Wire) → IsDistinct key_eq (keys_of es) → lookup (key_eq key) es ≡ Some was → IsOnlyFor key old new
+    pub drop_alone : (es : List (Key × Slot S)) (was : Slot S) (old new : List Wire) → IsDistinct key_eq (keys_of es) → lookup (key_eq key) es ≡ Some was → IsOnlyFor (grammar_of node.profile) key old new
         → ((q : Place) → SlotStands service node key was q → SlotLeaves service node input q old new)
         → SlotsAlone service node input es (remove_entry (key_eq key) es) old new
     drop_alone es was old new distinct found put h = by_one es (remove_entry (key_eq key) es) old new put (λ k t. other_dropped key k t es)
@@ -239,7 +241,7 @@ module _ {S : Type 0} (service : Machine S) (node : Node) (input : Input) where
         → ((s : Slot S) → lookup (key_eq key) es ≡ Some s → (q : Place) → SlotStands service node key s q → SlotGoes service node input key q s told told)
         → SlotsAlone service node input es es told told
     unfolding quiet_for
-    same_alone es told h = by_one es es told told (quiet_for key told) (λ k t. refl) (λ place st near. go place (lookup (key_eq key) es) refl st)
+    same_alone es told h = by_one es es told told (quiet_for (grammar_of node.profile) key told) (λ k t. refl) (λ place st near. go place (lookup (key_eq key) es) refl st)
       where
         go : (place : Option Place) (slot : Option (Slot S)) → lookup (key_eq key) es ≡ slot → StandsFor service node key slot place
             → KeyMeets service node input key place (lookup (key_eq key) es) []
@@ -248,4 +250,4 @@ module _ {S : Type 0} (service : Machine S) (node : Node) (input : Input) where
             gone : (q : Option Place) → StandsFor service node key None q → KeyMeets service node input key q None []
             gone None x = record { after = None; packets = []; stands = tt; turn = (refl, refl); wires = refl; spelled = tt }
             gone (Some q) x = absurd x
-        go place (Some s) f st = subst (λ x. KeyMeets service node input key place x []) (sym f) (goes_for key place s s told told (quiet_for key told) st (λ q is stands. h s f q stands))
+        go place (Some s) f st = subst (λ x. KeyMeets service node input key place x []) (sym f) (goes_for key place s s told told (quiet_for (grammar_of node.profile) key told) st (λ q is stands. h s f q stands))

@@ -4,6 +4,7 @@ use Rattle.std.specs.Bool.{MatchBool}
 use Rattle.ft_io.specs.declared.Key.{Key}
 use Rattle.seq_arith.specs.Packet.{Segment, segment_size}
 use Rattle.seq_arith.specs.Message.Body.{OpenMsg}
+use Rattle.tcp_rules.specs.Profile.{grammar_of}
 use Rattle.ft_model.specs.Connection.{told_by}
 use Rattle.ft_model.specs.Network.{source_of}
 use Rattle.ft_model.specs.Node.{Node}
@@ -23,7 +24,7 @@ module _ {S : Type 0} (node : Node) (segment : Segment) (key : Key) (number : �
 
   pub comes_in : (next : ℕ) (was now : List (Key × Slot S)) (old new : List Wire) (o : Opening) → (is_syn segment && nat_lt (pending_slots was) 64) ≡ true
       → numbers_of key o ≡ record { key = source_of segment; cisn = segment.head.seq; sisn = number; mss = segment_size segment.head.mss }
-      → next ≡ (number + 65536) % 2 ^ 32 → now ≡ was ++ (key, slot.Pending o) ∷ [] → ArePut (told_by node.boot (OpenMsg (numbers_of key o)) ∷ []) old new
+      → next ≡ (number + 65536) % 2 ^ 32 → now ≡ was ++ (key, slot.Pending o) ∷ [] → ArePut (grammar_of node.profile) (told_by node.boot (OpenMsg (numbers_of key o)) ∷ []) old new
       → Knocks node segment key number next was now old new
   comes_in next was now old new o free numbers counted slots asked =
       let opened : Opened node segment key number next was now old new = record { opening = o; numbers = numbers; counted = counted; slots = slots; asked = asked } in

@@ -10,6 +10,8 @@ use Rattle.seq_arith.specs.Message.{Message, Numbers}
 use Rattle.seq_arith.specs.Message.Body.{OpenMsg}
 use Rattle.seq_arith.proofs.MessageSpelling.{message_is_read}
 use Rattle.server_trait.specs.Service.{Machine}
+use Rattle.seq_arith.specs.declared.kinds.Grammar.{Grammar}
+use Rattle.tcp_rules.specs.Profile.{grammar_of}
 use Rattle.ft_model.specs.Connection.{told_by}
 use Rattle.ft_model.specs.Network.{Packet, source_of}
 use Rattle.ft_model.specs.Node.{Node, Place, Input, is_for}
@@ -17,7 +19,7 @@ use Rattle.ft_model.specs.Node.Place.{Opens, Lives, Ended}
 use Rattle.ft_model.specs.Node.Input.{Packet_comes, Message_comes, Noise_comes, Tick_comes}
 use Rattle.ft_model.specs.Opening.{is_syn, initial_number}
 use Rattle.ft_model.specs.ServingTurn.{ServingTurn, concerns, is_asked, opens_at, newcomers, refusals}
-use Rattle.ft_model.specs.Wire.{Wire, wire_of, HasWire}
+use Rattle.ft_model.specs.Wire.{Wire, wire_by, HasWireBy}
 use Rattle.ft_model.proofs.Lists.{same_key, key_is, all_append, all_weaker}
 use Rattle.ft_model.proofs.AuthorTurns.{all_split}
 use Rattle.node_serving.specs.declared.serving.Serving.{Serving}
@@ -46,30 +48,30 @@ asked_about node (Message_comes message) n e = absurd (true≢false (sym e))
 asked_about node Noise_comes n e = absurd (true≢false (sym e))
 
 -- an Open tells of its key
-pub open_for : (boot : ℕ) (n : Numbers) (key : Key) → key ≡ n.key → HasWire (told_by boot (OpenMsg n)) → IsFor key (wire_of (told_by boot (OpenMsg n)))
-open_for boot n key same spelled =
+pub open_for : (grammar : Grammar) (boot : ℕ) (n : Numbers) (key : Key) → key ≡ n.key → HasWireBy grammar (told_by boot (OpenMsg n)) → IsFor grammar key (wire_by grammar (told_by boot (OpenMsg n)))
+open_for grammar boot n key same spelled =
     let message : Message = record { boot = boot; body = OpenMsg n } in
     subst (λ r. IfOk r (λ m. Rattle.node_serving.specs.Ownership.tells_of m.body key ≡ true)) (sym (message_is_read message spelled.0)) (ap (λ k. key_eq n.key k) same ∙ key_is n.key)
 
 -- packets of those that an input is about are none of another key's
-silent_whose : (node : Node) (input : Input) (key : Key) (told : List Wire) → concerns node input key ≡ false → AllByRecursion (IsForSubject node input) told → of_key key told ≡ []
+silent_whose : (node : Node) (input : Input) (key : Key) (told : List Wire) → concerns node input key ≡ false → AllByRecursion (IsForSubject node input) told → of_key (grammar_of node.profile) key told ≡ []
 silent_whose node input key [] other whose = refl
 silent_whose node input key (w ∷ ws) other whose = one w whose.0 (silent_whose node input key ws other whose.1)
   where
-    one : (w : Wire) → IsForSubject node input w → of_key key ws ≡ [] → of_key key (w ∷ ws) ≡ []
+    one : (w : Wire) → IsForSubject node input w → of_key (grammar_of node.profile) key ws ≡ [] → of_key (grammar_of node.profile) key (w ∷ ws) ≡ []
     one w (k, about, its) rest = go (key_eq k key) refl
       where
-        go : (b : Bool) → key_eq k key ≡ b → of_key key (w ∷ ws) ≡ []
+        go : (b : Bool) → key_eq k key ≡ b → of_key (grammar_of node.profile) key (w ∷ ws) ≡ []
         go true t = absurd (true≢false (sym (subst (λ x. concerns node input x ≡ true) (same_key k key t) about) ∙ other))
-        go false t = of_both key (w ∷ []) ws ∙ (ap (λ x. x ++ of_key key ws) (none_of k key (w ∷ []) (its, tt) t) ∙ rest)
+        go false t = of_both (grammar_of node.profile) key (w ∷ []) ws ∙ (ap (λ x. x ++ of_key (grammar_of node.profile) key ws) (none_of (grammar_of node.profile) k key (w ∷ []) (its, tt) t) ∙ rest)
 
 module _ {S : Type 0} (node : Node) (input : Input) where
-  opens_for : (key : Key) (s : Slot S) → AllByRecursion HasWire (slot_opens node input key s) → AllByRecursion (IsFor key) (map wire_of (slot_opens node input key s))
+  opens_for : (key : Key) (s : Slot S) → AllByRecursion (HasWireBy (grammar_of node.profile)) (slot_opens node input key s) → AllByRecursion (IsFor (grammar_of node.profile) key) (map (wire_by (grammar_of node.profile)) (slot_opens node input key s))
   opens_for key (slot.Pending o) spelled = go (is_asked node input (numbers_of key o)) spelled
     where
-      go : (b : Bool) → AllByRecursion HasWire (if b then told_by node.boot (OpenMsg (numbers_of key o)) ∷ [] else [])
-          → AllByRecursion (IsFor key) (map wire_of (if b then told_by node.boot (OpenMsg (numbers_of key o)) ∷ [] else []))
-      go true a = (open_for node.boot (numbers_of key o) key refl a.0, tt)
+      go : (b : Bool) → AllByRecursion (HasWireBy (grammar_of node.profile)) (if b then told_by node.boot (OpenMsg (numbers_of key o)) ∷ [] else [])
+          → AllByRecursion (IsFor (grammar_of node.profile) key) (map (wire_by (grammar_of node.profile)) (if b then told_by node.boot (OpenMsg (numbers_of key o)) ∷ [] else []))
+      go true a = (open_for (grammar_of node.profile) node.boot (numbers_of key o) key refl a.0, tt)
       go false a = tt
   opens_for key (slot.Live c) spelled = tt
   opens_for key slot.Done spelled = tt
@@ -88,20 +90,20 @@ module _ {S : Type 0} (node : Node) (input : Input) where
   none_asked [] none = refl
   none_asked (e ∷ es) none = ap₂ ◌++◌ (unasked_slot e.0 e.1 (none e.0)) (none_asked es none)
 
-  slot_whose : (key : Key) (s : Slot S) → AllByRecursion HasWire (slot_opens node input key s) → AllByRecursion (IsForSubject node input) (map wire_of (slot_opens node input key s))
+  slot_whose : (key : Key) (s : Slot S) → AllByRecursion (HasWireBy (grammar_of node.profile)) (slot_opens node input key s) → AllByRecursion (IsForSubject node input) (map (wire_by (grammar_of node.profile)) (slot_opens node input key s))
   slot_whose key s spelled = go (concerns node input key) refl
     where
-      go : (b : Bool) → concerns node input key ≡ b → AllByRecursion (IsForSubject node input) (map wire_of (slot_opens node input key s))
-      go true t = all_weaker (IsFor key) (IsForSubject node input) (map wire_of (slot_opens node input key s)) (λ w a. (key, t, a)) (opens_for key s spelled)
-      go false t = subst (λ ps. AllByRecursion (IsForSubject node input) (map wire_of ps)) (sym (unasked_slot key s t)) tt
+      go : (b : Bool) → concerns node input key ≡ b → AllByRecursion (IsForSubject node input) (map (wire_by (grammar_of node.profile)) (slot_opens node input key s))
+      go true t = all_weaker (IsFor (grammar_of node.profile) key) (IsForSubject node input) (map (wire_by (grammar_of node.profile)) (slot_opens node input key s)) (λ w a. (key, t, a)) (opens_for key s spelled)
+      go false t = subst (λ ps. AllByRecursion (IsForSubject node input) (map (wire_by (grammar_of node.profile)) ps)) (sym (unasked_slot key s t)) tt
 
-  opens_whose : (es : List (Key × Slot S)) → AllByRecursion HasWire (all_opens node input es) → AllByRecursion (IsForSubject node input) (map wire_of (all_opens node input es))
+  opens_whose : (es : List (Key × Slot S)) → AllByRecursion (HasWireBy (grammar_of node.profile)) (all_opens node input es) → AllByRecursion (IsForSubject node input) (map (wire_by (grammar_of node.profile)) (all_opens node input es))
   opens_whose [] spelled = tt
   opens_whose (e ∷ es) spelled =
       let first = slot_opens node input e.0 e.1 in
-      let parts = all_split HasWire first (all_opens node input es) spelled in
-      subst (AllByRecursion (IsForSubject node input)) (sym (map-append wire_of first (all_opens node input es)))
-      (all_append (IsForSubject node input) (map wire_of first) (map wire_of (all_opens node input es)) (slot_whose e.0 e.1 parts.0) (opens_whose es parts.1))
+      let parts = all_split (HasWireBy (grammar_of node.profile)) first (all_opens node input es) spelled in
+      subst (AllByRecursion (IsForSubject node input)) (sym (map-append (wire_by (grammar_of node.profile)) first (all_opens node input es)))
+      (all_append (IsForSubject node input) (map (wire_by (grammar_of node.profile)) first) (map (wire_by (grammar_of node.profile)) (all_opens node input es)) (slot_whose e.0 e.1 parts.0) (opens_whose es parts.1))
 
   -- the Open of a key is that of its slot
   abbrev pub key_opens : Key → Option (Slot S) → List Packet
@@ -109,15 +111,15 @@ module _ {S : Type 0} (node : Node) (input : Input) where
   key_opens key None = []
 
   pub record HasOpens (key : Key) (s : Option (Slot S)) (packets : List Packet) : Type 0 where
-    pub wires : of_key key (map wire_of packets) ≡ map wire_of (key_opens key s)
-    pub spelled : AllByRecursion HasWire (key_opens key s)
+    pub wires : of_key (grammar_of node.profile) key (map (wire_by (grammar_of node.profile)) packets) ≡ map (wire_by (grammar_of node.profile)) (key_opens key s)
+    pub spelled : AllByRecursion (HasWireBy (grammar_of node.profile)) (key_opens key s)
 
-  pub opens_of_key : (key : Key) (es : List (Key × Slot S)) → IsDistinct key_eq (keys_of es) → AllByRecursion HasWire (all_opens node input es)
+  pub opens_of_key : (key : Key) (es : List (Key × Slot S)) → IsDistinct key_eq (keys_of es) → AllByRecursion (HasWireBy (grammar_of node.profile)) (all_opens node input es)
       → HasOpens key (lookup (key_eq key) es) (all_opens node input es)
   unfolding IsDistinct
   opens_of_key key [] distinct spelled = record { wires = refl; spelled = tt }
   opens_of_key key (e ∷ es) distinct spelled =
-      let parts = all_split HasWire (slot_opens node input e.0 e.1) (all_opens node input es) spelled in
+      let parts = all_split (HasWireBy (grammar_of node.profile)) (slot_opens node input e.0 e.1) (all_opens node input es) spelled in
       go (key_eq key e.0) refl parts.0 (opens_of_key key es distinct.1 parts.1)
     where
       first : List Packet
@@ -126,25 +128,25 @@ module _ {S : Type 0} (node : Node) (input : Input) where
       rest : List Packet
       rest = all_opens node input es
 
-      split : of_key key (map wire_of (all_opens node input (e ∷ es))) ≡ of_key key (map wire_of first) ++ of_key key (map wire_of rest)
-      split = ap (of_key key) (map-append wire_of first rest) ∙ of_both key (map wire_of first) (map wire_of rest)
+      split : of_key (grammar_of node.profile) key (map (wire_by (grammar_of node.profile)) (all_opens node input (e ∷ es))) ≡ of_key (grammar_of node.profile) key (map (wire_by (grammar_of node.profile)) first) ++ of_key (grammar_of node.profile) key (map (wire_by (grammar_of node.profile)) rest)
+      split = ap (of_key (grammar_of node.profile) key) (map-append (wire_by (grammar_of node.profile)) first rest) ∙ of_both (grammar_of node.profile) key (map (wire_by (grammar_of node.profile)) first) (map (wire_by (grammar_of node.profile)) rest)
 
-      go : (b : Bool) → key_eq key e.0 ≡ b → AllByRecursion HasWire first → HasOpens key (lookup (key_eq key) es) rest → HasOpens key (lookup (key_eq key) (e ∷ es)) (all_opens node input (e ∷ es))
+      go : (b : Bool) → key_eq key e.0 ≡ b → AllByRecursion (HasWireBy (grammar_of node.profile)) first → HasOpens key (lookup (key_eq key) es) rest → HasOpens key (lookup (key_eq key) (e ∷ es)) (all_opens node input (e ∷ es))
       go true t own others =
           let its : key ≡ e.0 = same_key key e.0 t in
           let gone : lookup (key_eq key) es ≡ None = not_found key es (subst (λ k. AllByRecursion (λ y. key_eq k y ≡ false) (keys_of es)) (sym its) distinct.0) in
           let here : key_opens key (lookup (key_eq key) (e ∷ es)) ≡ first =
           ap (λ b. key_opens key (cond b (Some e.1) (lookup (key_eq key) es))) t ∙ ap (λ k. slot_opens node input k e.1) its in
-          let mine : of_key key (map wire_of first) ≡ map wire_of first = subst (λ k. of_key k (map wire_of first) ≡ map wire_of first) (sym its) (all_its e.0 first (opens_for e.0 e.1 own) own) in
-          let none : of_key key (map wire_of rest) ≡ [] = others.wires ∙ ap (λ s. map wire_of (key_opens key s)) gone in record {
-            wires = split ∙ (ap₂ ◌++◌ mine none ∙ (append-nil (map wire_of first) ∙ ap (map wire_of) (sym here)));
-            spelled = subst (AllByRecursion HasWire) (sym here) own;
+          let mine : of_key (grammar_of node.profile) key (map (wire_by (grammar_of node.profile)) first) ≡ map (wire_by (grammar_of node.profile)) first = subst (λ k. of_key (grammar_of node.profile) k (map (wire_by (grammar_of node.profile)) first) ≡ map (wire_by (grammar_of node.profile)) first) (sym its) (all_its (grammar_of node.profile) e.0 first (opens_for e.0 e.1 own) own) in
+          let none : of_key (grammar_of node.profile) key (map (wire_by (grammar_of node.profile)) rest) ≡ [] = others.wires ∙ ap (λ s. map (wire_by (grammar_of node.profile)) (key_opens key s)) gone in record {
+            wires = split ∙ (ap₂ ◌++◌ mine none ∙ (append-nil (map (wire_by (grammar_of node.profile)) first) ∙ ap (map (wire_by (grammar_of node.profile))) (sym here)));
+            spelled = subst (AllByRecursion (HasWireBy (grammar_of node.profile))) (sym here) own;
           }
       go false t own others =
           let here : key_opens key (lookup (key_eq key) (e ∷ es)) ≡ key_opens key (lookup (key_eq key) es) = ap (λ b. key_opens key (cond b (Some e.1) (lookup (key_eq key) es))) t in
-          let none : of_key key (map wire_of first) ≡ [] = none_of e.0 key (map wire_of first) (opens_for e.0 e.1 own) (Rattle.ft_model.proofs.Keys.key_eq_turns key e.0 t) in record {
-            wires = split ∙ (ap (λ ws. ws ++ of_key key (map wire_of rest)) none ∙ (others.wires ∙ ap (map wire_of) (sym here)));
-            spelled = subst (AllByRecursion HasWire) (sym here) others.spelled;
+          let none : of_key (grammar_of node.profile) key (map (wire_by (grammar_of node.profile)) first) ≡ [] = none_of (grammar_of node.profile) e.0 key (map (wire_by (grammar_of node.profile)) first) (opens_for e.0 e.1 own) (Rattle.ft_model.proofs.Keys.key_eq_turns key e.0 t) in record {
+            wires = split ∙ (ap (λ ws. ws ++ of_key (grammar_of node.profile) key (map (wire_by (grammar_of node.profile)) rest)) none ∙ (others.wires ∙ ap (map (wire_by (grammar_of node.profile))) (sym here)));
+            spelled = subst (AllByRecursion (HasWireBy (grammar_of node.profile))) (sym here) others.spelled;
           }
 
 module _ {S : Type 0} (service : Machine S) (node : Node) (input : Input) where
@@ -172,7 +174,7 @@ module _ {S : Type 0} (service : Machine S) (node : Node) (input : Input) where
   rests opened None = record { went = []; by_places = []; all_go = (refl, refl); places = refl; packets = refl }
 
   pub rests_key : (key : Key) (place : Option Place) (was now : Serving S) (told : List Wire) (opened : ℕ) → was.next.0 ≡ initial_number node.isn opened
-      → concerns node input key ≡ false → StandsFor service node key (slot_of key was) place → slot_of key now ≡ slot_of key was → of_key key told ≡ []
+      → concerns node input key ≡ false → StandsFor service node key (slot_of key was) place → slot_of key now ≡ slot_of key was → of_key (grammar_of node.profile) key told ≡ []
       → KeyGoes service node input key place was now told
   rests_key key place was now told opened number other st same none = record {
     opened = opened;
@@ -217,11 +219,11 @@ module _ {S : Type 0} (service : Machine S) (node : Node) (input : Input) where
       → ((key : Key) → HasOpens node input key (slot_of key now) (all_opens node input now.slots.entries))
       → ((key : Key) (place : Option Place) → StandsFor service node key (slot_of key was) place → concerns node input key ≡ true
       → (newcomers node input opened (option_to_list place) ≡ []) × (refusals node input (option_to_list place) ≡ []))
-      → SlotsAlone service node input was.slots.entries now.slots.entries old mid → ArePut (all_opens node input now.slots.entries) mid new
+      → SlotsAlone service node input was.slots.entries now.slots.entries old mid → ArePut (grammar_of node.profile) (all_opens node input now.slots.entries) mid new
       → ServesAlone service node input was now old new
   served_alone was now old mid new opened number owns calm s asked = record {
     told = told;
-    put = asked.wires ∙ (ap (λ ws. ws ++ map wire_of opens) s.put ∙ append_assoc old s.told (map wire_of opens));
+    put = asked.wires ∙ (ap (λ ws. ws ++ map (wire_by (grammar_of node.profile)) opens) s.put ∙ append_assoc old s.told (map (wire_by (grammar_of node.profile)) opens));
     others = record { slots = s.slots; whose = whose };
     alone = λ key place st near. go key place st near (concerns node input key) refl;
   }
@@ -230,10 +232,10 @@ module _ {S : Type 0} (service : Machine S) (node : Node) (input : Input) where
       opens = all_opens node input now.slots.entries
 
       told : List Wire
-      told = s.told ++ map wire_of opens
+      told = s.told ++ map (wire_by (grammar_of node.profile)) opens
 
       whose : AllByRecursion (IsForSubject node input) told
-      whose = all_append (IsForSubject node input) s.told (map wire_of opens) s.whose (opens_whose node input now.slots.entries asked.spelled)
+      whose = all_append (IsForSubject node input) s.told (map (wire_by (grammar_of node.profile)) opens) s.whose (opens_whose node input now.slots.entries asked.spelled)
 
       go : (key : Key) (place : Option Place) → StandsFor service node key (slot_of key was) place → IsNearFor node.server input place → (b : Bool) → concerns node input key ≡ b
           → KeyGoes service node input key place was now told
@@ -249,8 +251,8 @@ module _ {S : Type 0} (service : Machine S) (node : Node) (input : Input) where
             stands = m.stands;
             turn = inl (subst (λ i. ServingTurn service node i opened (option_to_list place) (option_to_list m.after) (m.packets ++ key_opens node input key (slot_of key now))) (sym (comes key t))
                 (place_turn key place (slot_of key now) s.told opened m calms.0 calms.1));
-            wires = of_both key s.told (map wire_of opens) ∙ (ap₂ ◌++◌ m.wires own.wires ∙ sym (map-append wire_of m.packets (key_opens node input key (slot_of key now))));
-            spelled = all_append HasWire m.packets (key_opens node input key (slot_of key now)) m.spelled own.spelled;
+            wires = of_both (grammar_of node.profile) key s.told (map (wire_by (grammar_of node.profile)) opens) ∙ (ap₂ ◌++◌ m.wires own.wires ∙ sym (map-append (wire_by (grammar_of node.profile)) m.packets (key_opens node input key (slot_of key now))));
+            spelled = all_append (HasWireBy (grammar_of node.profile)) m.packets (key_opens node input key (slot_of key now)) m.spelled own.spelled;
           }
 
 module _ {S : Type 0} (service : Machine S) (node : Node) where
@@ -269,8 +271,8 @@ module _ {S : Type 0} (service : Machine S) (node : Node) where
 
   message_asks : (message : Message) (key : Key) (s : Option (Slot S)) (es : List (Key × Slot S)) → HasOpens node (Message_comes message) key s (all_opens node (Message_comes message) es)
   message_asks message key s es = record {
-    wires = ap (λ ps. of_key key (map wire_of ps)) (no_asks message es) ∙ ap (map wire_of) (sym (asks_none message key s));
-    spelled = subst (AllByRecursion HasWire) (sym (asks_none message key s)) tt;
+    wires = ap (λ ps. of_key (grammar_of node.profile) key (map (wire_by (grammar_of node.profile)) ps)) (no_asks message es) ∙ ap (map (wire_by (grammar_of node.profile))) (sym (asks_none message key s));
+    spelled = subst (AllByRecursion (HasWireBy (grammar_of node.profile))) (sym (asks_none message key s)) tt;
   }
 
   pub message_alone : (message : Message) (was now : Serving S) (old new : List Wire) (opened : ℕ) → was.next.0 ≡ initial_number node.isn opened
@@ -278,4 +280,4 @@ module _ {S : Type 0} (service : Machine S) (node : Node) where
   message_alone message was now old new opened number s =
       served_alone service node (Message_comes message) was now old new new opened number (λ key. message_asks message key (slot_of key now) now.slots.entries)
       (λ key place st about. (refl, refl)) s
-      (subst (λ ps. ArePut ps new new) (sym (no_asks message now.slots.entries)) (record { wires = sym (append-nil new); spelled = tt }))
+      (subst (λ ps. ArePut (grammar_of node.profile) ps new new) (sym (no_asks message now.slots.entries)) (record { wires = sym (append-nil new); spelled = tt }))

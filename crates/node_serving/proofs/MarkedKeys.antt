@@ -12,19 +12,20 @@ use Rattle.seq_arith.specs.MarkGrammar as marks
 use Rattle.server_trait.specs.Service.{Machine, AreBytes}
 use Rattle.logger_wire.specs.declared.marks.mark_msg.MarkMsg.{MarkMsg as CodeMsg}
 use Rattle.logger_wire.specs.MarkValue.{message_of}
+use Rattle.seq_arith.specs.declared.kinds.Grammar.{Grammar}
+use Rattle.tcp_rules.specs.Profile.{grammar_of}
 use Rattle.ft_model.specs.Node.{Node, Place}
 use Rattle.ft_model.specs.Node.Place.{Opens, Lives, Ended}
 use Rattle.ft_model.specs.Point.{Point}
 use Rattle.ft_model.specs.Wire.{Wire}
 use Rattle.ft_model.proofs.Lists.{none_is_some, some_is, key_is}
 use Rattle.mark_laws.specs.Marking.{Marking, with_new, new_marks, outstanding_in}
-use Rattle.mark_laws.specs.Marking.Outgoing.{Mark_to_logger}
 use Rattle.mark_laws.specs.MarkedNode.{Marker}
 use Rattle.wrapped_conn.specs.ConnState.{ConnState}
 use Rattle.wrapped_conn.specs.Refinement.{Stands}
 use Rattle.wrapped_conn.specs.Sound.{IsSound as IsSoundConn}
 use Rattle.conn_marks.specs.KeyMarks.{KeyMarks, marking_in, every_for, Changes}
-use Rattle.conn_marks.specs.MarkSends.{outgoing_wire, SendsMarks, mark_message, put_before, is_done_wire}
+use Rattle.conn_marks.specs.MarkSends.{mark_wire, SendsMarks, mark_message, put_before, is_done_wire}
 use Rattle.conn_marks.specs.Settled.{MarksNew, MarksPlace}
 use Rattle.conn_marks.proofs.MarkWires.{sends_none}
 use Rattle.conn_marks.proofs.Settling.{made_are}
@@ -59,20 +60,20 @@ told_is boot key o m b is waits = go o m.outstanding is waits
     go (Some x) None e w = none_is_some (message_of x) (sym e)
 
 -- one does: no other is made
-pub waits_not : {S : Type 0} (by : Marker S) (boot : ℕ) (key : Key) (p : Point) (was now : KeyMarks) (from : ℕ) (told : List Wire) → was.every ≡ by.every
-    → Changes key (with_new by.service by.writing was.every p (marking_in was key)) was now → is_none (marking_in was key).outstanding ≡ false → MarksNew by boot key p was now from told told
-waits_not by boot key p was now from told number changes waits =
+pub waits_not : {S : Type 0} (grammar : Grammar) (by : Marker S) (boot : ℕ) (key : Key) (p : Point) (was now : KeyMarks) (from : ℕ) (told : List Wire) → was.every ≡ by.every
+    → Changes key (with_new by.service by.writing was.every p (marking_in was key)) was now → is_none (marking_in was key).outstanding ≡ false → MarksNew by grammar boot key p was now from told told
+waits_not grammar by boot key p was now from told number changes waits =
     let none : new_marks by.service by.writing by.every (marking_in was key) p ≡ [] =
     made_are by (marking_in was key) p ∙ if_false (is_none (marking_in was key).outstanding) _ [] waits in record {
       changes = subst (λ n. Changes key (with_new by.service by.writing n p (marking_in was key)) was now) number changes;
-      sends = subst (λ ms. SendsMarks boot key from ms told told) (sym none) (sends_none boot key from told);
+      sends = subst (λ ms. SendsMarks grammar boot key from ms told told) (sym none) (sends_none grammar boot key from told);
     }
 
 -- none does: what is then outstanding was made
-pub waits_new : {S : Type 0} (by : Marker S) (boot : ℕ) (key : Key) (p : Point) (was now : KeyMarks) (from : ℕ) (old new : List Wire) → was.every ≡ by.every
+pub waits_new : {S : Type 0} (grammar : Grammar) (by : Marker S) (boot : ℕ) (key : Key) (p : Point) (was now : KeyMarks) (from : ℕ) (old new : List Wire) → was.every ≡ by.every
     → Changes key (with_new by.service by.writing was.every p (marking_in was key)) was now → is_none (marking_in was key).outstanding ≡ true
-    → SendsMarks boot key from (outstanding_in (marking_in now key)) old new → MarksNew by boot key p was now from old new
-waits_new by boot key p was now from old new number changes waits sends =
+    → SendsMarks grammar boot key from (outstanding_in (marking_in now key)) old new → MarksNew by grammar boot key p was now from old new
+waits_new grammar by boot key p was now from old new number changes waits sends =
     let changed : Changes key (with_new by.service by.writing by.every p (marking_in was key)) was now =
     subst (λ n. Changes key (with_new by.service by.writing n p (marking_in was key)) was now) number changes in
     let now_is : marking_in now key ≡ with_new by.service by.writing by.every p (marking_in was key) =
@@ -81,42 +82,42 @@ waits_new by boot key p was now from old new number changes waits sends =
     let made : new_marks by.service by.writing by.every (marking_in was key) p ≡ outstanding_in (with_new by.service by.writing by.every p (marking_in was key)) =
     made_are by (marking_in was key) p ∙ ap (λ b. if b then outstanding_in (with_new by.service by.writing by.every p (marking_in was key)) else []) waits in record {
       changes = changed;
-      sends = subst (λ ms. SendsMarks boot key from ms old new) (ap outstanding_in now_is ∙ sym made) sends;
+      sends = subst (λ ms. SendsMarks grammar boot key from ms old new) (ap outstanding_in now_is ∙ sym made) sends;
     }
 
 -- the message that is sent, if there is one
-pub sends_one : (boot : ℕ) (key : Key) (from : ℕ) (o : CodeMsg) (m : Marking) (old new : List Wire) → option_map message_of (Some o) ≡ option_map (λ mark. record { boot = boot; body = MarkMsg key mark }) m.outstanding
+pub sends_one : (grammar : Grammar) (boot : ℕ) (key : Key) (from : ℕ) (o : CodeMsg) (m : Marking) (old new : List Wire) → option_map message_of (Some o) ≡ option_map (λ mark. record { boot = boot; body = MarkMsg key mark }) m.outstanding
     → marks.IsSpellable (message_of o)
-    → new ≡ put_before (length (filter is_done_wire (drop from old))) (outgoing_wire (Mark_to_logger (message_of o)) ∷ []) old
-    → SendsMarks boot key from (outstanding_in m) old new
-sends_one boot key from o m old new is spells wires = go m.outstanding is
+    → new ≡ put_before (length (filter (is_done_wire grammar) (drop from old))) (mark_wire (message_of o) ∷ []) old
+    → SendsMarks grammar boot key from (outstanding_in m) old new
+sends_one grammar boot key from o m old new is spells wires = go m.outstanding is
   where
-    go : (p : Option Mark) → Some (message_of o) ≡ option_map (λ mark. mark_message boot key mark) p → SendsMarks boot key from (outstanding_in (record m { outstanding = p })) old new
+    go : (p : Option Mark) → Some (message_of o) ≡ option_map (λ mark. mark_message boot key mark) p → SendsMarks grammar boot key from (outstanding_in (record m { outstanding = p })) old new
     go None e = none_is_some (message_of o) (sym e)
     go (Some mark) e =
         let same : message_of o ≡ mark_message boot key mark = some_is (message_of o) (mark_message boot key mark) e in record {
-          wires = wires ∙ ap (λ x. put_before (length (filter is_done_wire (drop from old))) (outgoing_wire (Mark_to_logger x) ∷ []) old) same;
+          wires = wires ∙ ap (λ x. put_before (length (filter (is_done_wire grammar) (drop from old))) (mark_wire x ∷ []) old) same;
           spelled = (subst marks.IsSpellable same spells, tt);
         }
 
-pub sends_nothing : (boot : ℕ) (key : Key) (from : ℕ) (o : Option CodeMsg) (m : Marking) (told : List Wire) → option_map message_of o ≡ option_map (λ mark. record { boot = boot; body = MarkMsg key mark }) m.outstanding
-    → o ≡ None → SendsMarks boot key from (outstanding_in m) told told
-sends_nothing boot key from o m told is none = go m.outstanding (sym (ap (option_map message_of) none) ∙ is)
+pub sends_nothing : (grammar : Grammar) (boot : ℕ) (key : Key) (from : ℕ) (o : Option CodeMsg) (m : Marking) (told : List Wire) → option_map message_of o ≡ option_map (λ mark. record { boot = boot; body = MarkMsg key mark }) m.outstanding
+    → o ≡ None → SendsMarks grammar boot key from (outstanding_in m) told told
+sends_nothing grammar boot key from o m told is none = go m.outstanding (sym (ap (option_map message_of) none) ∙ is)
   where
-    go : (p : Option Mark) → None ≡ option_map (λ mark. mark_message boot key mark) p → SendsMarks boot key from (outstanding_in (record m { outstanding = p })) told told
-    go None e = sends_none boot key from told
+    go : (p : Option Mark) → None ≡ option_map (λ mark. mark_message boot key mark) p → SendsMarks grammar boot key from (outstanding_in (record m { outstanding = p })) told told
+    go None e = sends_none grammar boot key from told
     go (Some mark) e = none_is_some (mark_message boot key mark) e
 
 -- the mark of a place, by the connection that is there
 pub place_marked : {S : Type 0} (by : Marker S) (node : Node) (boot : ℕ) (key : Key) (from : ℕ) (c : ConnState S) (o : Option Place) (was now : KeyMarks) (old new : List Wire) → IsConnAt by.service node (Some c) o
-    → ((p : Point) → IsOursAt by.service node.server node.boot c p → AreBytes p.taken → MarksNew by boot key p was now from old new) → MarksPlace by boot key from o was now old new
+    → ((p : Point) → IsOursAt by.service node.server node.boot c p → AreBytes p.taken → MarksNew by (grammar_of node.profile) boot key p was now from old new) → MarksPlace by (grammar_of node.profile) boot key from o was now old new
 place_marked by node boot key from c (Some (Lives p)) was now old new at h = h p at
 place_marked by node boot key from c (Some (Opens n)) was now old new at h = absurd at
 place_marked by node boot key from c (Some (Ended k)) was now old new at h = absurd at
 place_marked by node boot key from c None was now old new at h = absurd at
 
 pub place_unmarked : {S : Type 0} (by : Marker S) (node : Node) (boot : ℕ) (key : Key) (from : ℕ) (o : Option Place) (was : KeyMarks) (told : List Wire) → IsConnAt {S = S} by.service node None o
-    → MarksPlace by boot key from o was was told told
+    → MarksPlace by (grammar_of node.profile) boot key from o was was told told
 place_unmarked by node boot key from (Some (Lives p)) was told at = absurd at
 place_unmarked by node boot key from (Some (Opens n)) was told at = (refl, refl)
 place_unmarked by node boot key from (Some (Ended k)) was told at = (refl, refl)
@@ -124,8 +125,8 @@ place_unmarked by node boot key from None was told at = (refl, refl)
 
 -- .. and of a slot
 pub slot_marked : {S : Type 0} (by : Marker S) (node : Node) (boot : ℕ) (key : Key) (from : ℕ) (s : Slot S) (c : ConnState S) (place : Place) (was now : KeyMarks) (old new : List Wire) → Some c ≡ conn_in (Some s)
-    → SlotStands by.service node key s place → ((p : Point) → IsOursAt by.service node.server node.boot c p → AreBytes p.taken → MarksNew by boot key p was now from old new)
-    → MarksPlace by boot key from (Some place) was now old new
+    → SlotStands by.service node key s place → ((p : Point) → IsOursAt by.service node.server node.boot c p → AreBytes p.taken → MarksNew by (grammar_of node.profile) boot key p was now from old new)
+    → MarksPlace by (grammar_of node.profile) boot key from (Some place) was now old new
 slot_marked by node boot key from (slot.Live d) c (Lives p) was now old new is st h =
     h p (subst (λ x. IsOursAt by.service node.server node.boot x p) (sym (some_is c d is)) st.1)
 slot_marked by node boot key from (slot.Live d) c (Opens n) was now old new is st h = absurd st
@@ -134,7 +135,7 @@ slot_marked by node boot key from (slot.Pending o) c place was now old new is st
 slot_marked by node boot key from slot.Done c place was now old new is st h = none_is_some c (sym is)
 
 pub slot_unmarked : {S : Type 0} (by : Marker S) (node : Node) (boot : ℕ) (key : Key) (from : ℕ) (s : Slot S) (place : Place) (was : KeyMarks) (told : List Wire) → None ≡ conn_in (Some s)
-    → SlotStands by.service node key s place → MarksPlace by boot key from (Some place) was was told told
+    → SlotStands by.service node key s place → MarksPlace by (grammar_of node.profile) boot key from (Some place) was was told told
 slot_unmarked by node boot key from (slot.Live d) place was told is st = none_is_some d is
 slot_unmarked by node boot key from (slot.Pending o) (Opens n) was told is st = (refl, refl)
 slot_unmarked by node boot key from (slot.Pending o) (Lives p) was told is st = absurd st

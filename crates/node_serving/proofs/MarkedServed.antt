@@ -9,6 +9,9 @@ use Rattle.ft_io.proofs.Choices.{by_cases}
 use Rattle.seq_arith.specs.Mark.{MarkMessage}
 use Rattle.seq_arith.specs.Mark.MarkBody.{MarkedMsg}
 use Rattle.server_trait.specs.Service.{AreBytes}
+use Rattle.server_trait.specs.Service.{Machine}
+use Rattle.seq_arith.specs.declared.kinds.Grammar.{Grammar}
+use Rattle.tcp_rules.specs.Profile.{grammar_of}
 use Rattle.ft_model.specs.Network.{Packet, source_of}
 use Rattle.ft_model.specs.Node.{Node, Place, Stage as law_stage, Input, key_of, place_at, is_for, is_known, pending_count}
 use Rattle.ft_model.specs.Node.Input.{Packet_comes}
@@ -38,7 +41,7 @@ use Rattle.node_serving.specs.declared.identity.Identity.{Identity}
 use Rattle.node_serving.specs.declared.serving.Serving.{Serving as CodeServing}
 use Rattle.node_serving.specs.declared.slot.Slot.{Slot}
 use Rattle.node_serving.specs.Conn.{IsOursAt}
-use Rattle.node_serving.specs.Identity.{node_of}
+use Rattle.node_serving.specs.Identity.{node_of, grammar_in}
 use Rattle.node_serving.specs.Loan.{IsConnAt}
 use Rattle.node_serving.specs.MarkedServing.{ServingGoesMarked, HeardOfMark}
 use Rattle.node_serving.specs.Markers.{node_at}
@@ -48,31 +51,31 @@ use Rattle.node_serving.proofs.OneKey.{place_key}
 use Rattle.node_serving.proofs.Turned.{packet_is}
 
 -- the places of distinct keys have distinct keys
-absent_places : {S : Type 0} (by : Marker S) (node : Node) (key : Key) (es : List (Key × Slot S)) (places : List Place) → AllStand by.service node es places
+absent_places : {S : Type 0} (service : Machine S) (node : Node) (key : Key) (es : List (Key × Slot S)) (places : List Place) → AllStand service node es places
     → AllByRecursion (λ y. key_eq key y ≡ false) (keys_of es) → has_key key (map key_of places) ≡ false
-absent_places by node key [] [] st none = refl
-absent_places by node key [] (q ∷ qs) st none = absurd st
-absent_places by node key (e ∷ es) [] st none = absurd st
-absent_places by node key (e ∷ es) (q ∷ qs) st none =
-    or_from (key_eq (key_of q) key) (has_key key (map key_of qs)) (ap (λ k. key_eq k key) (place_key by.service node e.0 e.1 q st.0) ∙ key_eq_turns key e.0 none.0) (absent_places by node key es qs st.1 none.1)
+absent_places service node key [] [] st none = refl
+absent_places service node key [] (q ∷ qs) st none = absurd st
+absent_places service node key (e ∷ es) [] st none = absurd st
+absent_places service node key (e ∷ es) (q ∷ qs) st none =
+    or_from (key_eq (key_of q) key) (has_key key (map key_of qs)) (ap (λ k. key_eq k key) (place_key service node e.0 e.1 q st.0) ∙ key_eq_turns key e.0 none.0) (absent_places service node key es qs st.1 none.1)
 
-pub places_apart : {S : Type 0} (by : Marker S) (node : Node) (es : List (Key × Slot S)) (places : List Place) → AllStand by.service node es places → IsDistinct key_eq (keys_of es) → AreDistinct (map key_of places)
+pub places_apart : {S : Type 0} (service : Machine S) (node : Node) (es : List (Key × Slot S)) (places : List Place) → AllStand service node es places → IsDistinct key_eq (keys_of es) → AreDistinct (map key_of places)
 unfolding IsDistinct
-places_apart by node [] [] st d = tt
-places_apart by node [] (q ∷ qs) st d = absurd st
-places_apart by node (e ∷ es) [] st d = absurd st
-places_apart by node (e ∷ es) (q ∷ qs) st d =
-    (subst (λ k. has_key k (map key_of qs) ≡ false) (sym (place_key by.service node e.0 e.1 q st.0)) (absent_places by node e.0 es qs st.1 d.0), places_apart by node es qs st.1 d.1)
+places_apart service node [] [] st d = tt
+places_apart service node [] (q ∷ qs) st d = absurd st
+places_apart service node (e ∷ es) [] st d = absurd st
+places_apart service node (e ∷ es) (q ∷ qs) st d =
+    (subst (λ k. has_key k (map key_of qs) ≡ false) (sym (place_key service node e.0 e.1 q st.0)) (absent_places service node e.0 es qs st.1 d.0), places_apart service node es qs st.1 d.1)
 
 -- a turn other than a tick's, with the mark of the one key that it may concern
 pub served_marked : {S : Type 0} (by : Marker S) (who : Identity) (standing : law_stage) (awaits : Bool) (marking : Key → Marking) (input : Input) (key : Key) (opened : ℕ) (places : List Place)
     (es : List (Key × Slot S)) (now : CodeServing S) (m later : KeyMarks) (mid new : List Wire) → ((k : Key) → key_eq key k ≡ false → concerns (node_of who standing) input k ≡ false)
     → is_tick_input input ≡ false → InputBytes input → AllStand by.service (node_of who standing) es places → IsDistinct key_eq (keys_of es) → Keeps by marking m → AllSettled by marking places
     → ServingGoes by.service (node_of who standing) input opened places now [] mid
-    → ((ps : List Place) → AllStand by.service (node_of who standing) now.slots.entries ps → MarksPlace by who.boot key 0 (place_at key ps) m later mid new)
+    → ((ps : List Place) → AllStand by.service (node_of who standing) now.slots.entries ps → MarksPlace by (grammar_in who) who.boot key 0 (place_at key ps) m later mid new)
     → ServingGoesMarked by (node_at who standing awaits marking) input opened places now later [] new
 served_marked by who standing awaits marking input key opened places es now m later mid new only still bytes st distinct keeps settled g marks =
-    let r = serves_one by (node_at who standing awaits marking) input key only still bytes opened places g.later g.packets (places_apart by (node_of who standing) es places st distinct) settled g.turn
+    let r = serves_one by (node_at who standing awaits marking) input key only still bytes opened places g.later g.packets (places_apart by.service (node_of who standing) es places st distinct) settled g.turn
     m later mid new g.wires g.spelled keeps (marks g.later g.stands.slots) in record {
       later = g.later;
       marking = r.marking;
@@ -85,19 +88,19 @@ served_marked by who standing awaits marking input key opened places es now m la
     }
 
 -- where none of these is concerned, nothing is due
-pub unmarked_place : {S : Type 0} (by : Marker S) (boot : ℕ) (key : Key) (marking : Key → Marking) (places : List Place) (m : KeyMarks) (told : List Wire) (o : Option Place) → place_at key places ≡ o → Keeps by marking m
-    → AllSettled by marking places → MarksPlace by boot key 0 o m m told told
-unmarked_place by boot key marking places m told (Some (Lives p)) e keeps settled = λ bytes.
+pub unmarked_place : {S : Type 0} (grammar : Grammar) (by : Marker S) (boot : ℕ) (key : Key) (marking : Key → Marking) (places : List Place) (m : KeyMarks) (told : List Wire) (o : Option Place) → place_at key places ≡ o → Keeps by marking m
+    → AllSettled by marking places → MarksPlace by grammar boot key 0 o m m told told
+unmarked_place grammar by boot key marking places m told (Some (Lives p)) e keeps settled = λ bytes.
     let at : IsSettledPoint by (marking p.key) p = all_find (IsSettledPlace by marking) (λ x. key_eq (key_of x) key) places (Lives p) settled e in
     let is : p.key ≡ key = same_key p.key key (found_passes (λ x. key_eq (key_of x) key) places (Lives p) e) in
     let held : marking p.key ≡ marking_in m key = ap marking is ∙ sym (keeps.each key) in
     let off = subst (λ x. is_due by.service by.every x p ≡ false) held at.settled.marked in record {
       changes = changes_none m key (with_new by.service by.writing by.every p (marking_in m key)) (sym (new_same by (marking_in m key) p off));
-      sends = subst (λ ms. SendsMarks boot key 0 ms told told) (sym (new_none by (marking_in m key) p off)) (sends_none boot key 0 told);
+      sends = subst (λ ms. SendsMarks grammar boot key 0 ms told told) (sym (new_none by (marking_in m key) p off)) (sends_none grammar boot key 0 told);
     }
-unmarked_place by boot key marking places m told (Some (Opens n)) e keeps settled = (refl, refl)
-unmarked_place by boot key marking places m told (Some (Ended k)) e keeps settled = (refl, refl)
-unmarked_place by boot key marking places m told None e keeps settled = (refl, refl)
+unmarked_place grammar by boot key marking places m told (Some (Opens n)) e keeps settled = (refl, refl)
+unmarked_place grammar by boot key marking places m told (Some (Ended k)) e keeps settled = (refl, refl)
+unmarked_place grammar by boot key marking places m told None e keeps settled = (refl, refl)
 
 -- an answer to a mark
 
@@ -105,7 +108,7 @@ unmarked_place by boot key marking places m told None e keeps settled = (refl, r
 pub not_heard : {S : Type 0} (by : Marker S) (node : MarkedNode) (places : List Place) (message : MarkMessage) (m : KeyMarks) (told : List Wire) → HearsOfMark by node places message.body [] node → told ≡ []
     → Keeps by node.marking m → AllSettled by node.marking places → HeardOfMark by node places message m told told
 not_heard by node places message m told hears none keeps settled =
-    record { marking = node.marking; sent = []; hears = hears; keeps = keeps; settled = settled; out = out_none told }
+    record { marking = node.marking; sent = []; hears = hears; keeps = keeps; settled = settled; out = out_none (grammar_of node.plain.profile) told }
 
 -- what an answer leads to, at what is live of its key
 abbrev AtLive : {S : Type 0} → Marker S → MarkedNode → (reads : ℕ) → Option Point → List Outgoing → MarkedNode → Type 0
@@ -123,7 +126,7 @@ none_live by node key reads places None e c = subst (λ o. AtLive by node reads 
 -- it is heard: the next mark may be due
 pub heard_live : {S : Type 0} (by : Marker S) (node : MarkedNode) (key : Key) (reads : ℕ) (boot_of : ℕ) (places : List Place) (p : Point) (was mid later : KeyMarks) (new : List Wire) → AreDistinct (map key_of places)
     → place_at key places ≡ Some (Lives p) → Keeps by node.marking was → AllSettled by node.marking places → Changes key (marking_answered reads (marking_in was key)) was mid
-    → MarksNew by node.plain.boot key p mid later 0 [] new → HeardOfMark by node places (record { boot = boot_of; body = MarkedMsg key reads }) later [] new
+    → MarksNew by (grammar_of node.plain.profile) node.plain.boot key p mid later 0 [] new → HeardOfMark by node places (record { boot = boot_of; body = MarkedMsg key reads }) later [] new
 heard_live {S} by node key reads boot_of places p was mid later new apart e keeps settled changes marks =
     let is : p.key ≡ key = same_key p.key key (found_passes (λ x. key_eq (key_of x) key) places (Lives p) e) in
     let at : IsSettledPoint by (node.marking p.key) p = all_find (IsSettledPlace by node.marking) (λ x. key_eq (key_of x) key) places (Lives p) settled e in
@@ -134,7 +137,7 @@ heard_live {S} by node key reads boot_of places p was mid later new apart e keep
     let next : Marking = with_new by.service by.writing by.every p answered in
     let then_marking : Key → Marking = with_marking p.key next node.marking in
     let ms = new_marks by.service by.writing by.every answered p in
-    let sends : SendsMarks node.plain.boot key 0 ms [] new = subst (λ x. SendsMarks node.plain.boot key 0 (new_marks by.service by.writing by.every x p) [] new) mid_is marks.sends in
+    let sends : SendsMarks (grammar_of node.plain.profile) node.plain.boot key 0 ms [] new = subst (λ x. SendsMarks (grammar_of node.plain.profile) node.plain.boot key 0 (new_marks by.service by.writing by.every x p) [] new) mid_is marks.sends in
     let settles : IsSettledPoint by next p =
     record { taken = at.taken; held = at.held; settled = record { marked = none_due by answered p; read_out = at.settled.read_out } } in
     record {
@@ -154,7 +157,7 @@ heard_live {S} by node key reads boot_of places p was mid later new apart e keep
       };
       settled = all_from_get (IsSettledPlace by then_marking) places
           (λ i x at_i. one x (all_slice_get (IsSettledPlace by node.marking) places i x settled at_i) (finds_itself key_of places i x apart at_i) is settles);
-      out = subst (λ l. AreOut l [] new) (append-nil (marks_out node.plain.boot p ms)) (put_out node.plain.boot key p ms [] [] [] new is refl tt sends);
+      out = subst (λ l. AreOut (grammar_of node.plain.profile) l [] new) (append-nil (marks_out node.plain.boot p ms)) (put_out (grammar_of node.plain.profile) node.plain.boot key p ms [] [] [] new is refl tt sends);
     }
   where
     one : (x : Place) → IsSettledPlace by node.marking x → place_at (key_of x) places ≡ Some x → p.key ≡ key
@@ -185,8 +188,8 @@ pub served_unmarked : {S : Type 0} (by : Marker S) (who : Identity) (standing : 
 served_unmarked by who standing awaits marking input key opened places es now m mid none nobody still bytes st distinct keeps settled g =
     let same : g.later ≡ places =
     g.turn.places ∙ (ap (λ l. g.turn.went ++ l) nobody ∙ (append-nil g.turn.went ∙ none_stay by (node_of who standing) input none places g.turn.went g.turn.by_places g.turn.all_go)) in
-    let r = serves_one by (node_at who standing awaits marking) input key (λ k other. none k) still bytes opened places g.later g.packets (places_apart by (node_of who standing) es places st distinct) settled g.turn
-    m m mid mid g.wires g.spelled keeps (unmarked_place by who.boot key marking g.later m mid (place_at key g.later) refl keeps (subst (AllSettled by marking) (sym same) settled)) in record {
+    let r = serves_one by (node_at who standing awaits marking) input key (λ k other. none k) still bytes opened places g.later g.packets (places_apart by.service (node_of who standing) es places st distinct) settled g.turn
+    m m mid mid g.wires g.spelled keeps (unmarked_place (grammar_in who) by who.boot key marking g.later m mid (place_at key g.later) refl keeps (subst (AllSettled by marking) (sym same) settled)) in record {
       later = g.later;
       marking = r.marking;
       sent = r.sent;
@@ -215,7 +218,7 @@ payload_bytes bytes segment reads h = subst AreBytes (ap (λ (s : Segment). s.pa
 pub heard_at : {S : Type 0} (by : Marker S) (node : MarkedNode) (key : Key) (reads : ℕ) (boot_of : ℕ) (places : List Place) (c : ConnState S) (was mid later : KeyMarks) (new : List Wire) → AreDistinct (map key_of places)
     → (o : Option Place) → place_at key places ≡ o → IsConnAt by.service node.plain (Some c) o → Keeps by node.marking was → AllSettled by node.marking places
     → Changes key (marking_answered reads (marking_in was key)) was mid
-    → ((p : Point) → IsOursAt by.service node.plain.server node.plain.boot c p → AreBytes p.taken → MarksNew by node.plain.boot key p mid later 0 [] new)
+    → ((p : Point) → IsOursAt by.service node.plain.server node.plain.boot c p → AreBytes p.taken → MarksNew by (grammar_of node.plain.profile) node.plain.boot key p mid later 0 [] new)
     → HeardOfMark by node places (record { boot = boot_of; body = MarkedMsg key reads }) later [] new
 heard_at by node key reads boot_of places c was mid later new apart (Some (Lives p)) e at keeps settled changes marks =
     let calm : IsSettledPoint by (node.marking p.key) p = all_find (IsSettledPlace by node.marking) (λ x. key_eq (key_of x) key) places (Lives p) settled e in

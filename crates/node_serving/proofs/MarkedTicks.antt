@@ -4,6 +4,8 @@ use Rattle.std.specs.List.{AllByRecursion, flat_map}
 use Rattle.indexmap.specs.IndexMap.{set_value_at}
 use Rattle.ft_io.specs.declared.Key.{Key}
 use Rattle.ft_io.specs.Key.{key_eq}
+use Rattle.seq_arith.specs.declared.kinds.Grammar.{Grammar}
+use Rattle.tcp_rules.specs.Profile.{grammar_of}
 use Rattle.ft_model.specs.Connection.{ConnectionTurn}
 use Rattle.ft_model.specs.Network.{Packet}
 use Rattle.ft_model.specs.News.News.{Ticks}
@@ -13,7 +15,7 @@ use Rattle.ft_model.specs.Node.Input.{Tick_comes}
 use Rattle.ft_model.specs.Opening.{initial_number}
 use Rattle.ft_model.specs.Point.{Point}
 use Rattle.ft_model.specs.ServingTurn.{PlaceTurn, Stays, LivesOn, opens_at}
-use Rattle.ft_model.specs.Wire.{Wire, wire_of, HasWire}
+use Rattle.ft_model.specs.Wire.{Wire, wire_by, HasWireBy}
 use Rattle.ft_model.proofs.Lists.{all_append, all_find, found_passes, same_key, none_is_some}
 use Rattle.mark_laws.specs.Marking.{Marking, Outgoing, IsSettled, is_due, with_new, new_marks, outstanding_in, with_marks, marks_out}
 use Rattle.mark_laws.specs.Marking.Outgoing.{Plain}
@@ -30,7 +32,7 @@ use Rattle.node_serving.specs.declared.identity.Identity.{Identity}
 use Rattle.node_serving.specs.declared.serving.Serving.{Serving}
 use Rattle.node_serving.specs.declared.slot.Slot.{Slot}
 use Rattle.node_serving.specs.declared.slot.Slot.TheVariants as slot
-use Rattle.node_serving.specs.Identity.{node_of}
+use Rattle.node_serving.specs.Identity.{node_of, grammar_in}
 use Rattle.node_serving.specs.Loan.{conn_in}
 use Rattle.node_serving.specs.MarkedServing.{SlotTicks, AllTick, FirstTick, ServingGoesMarked}
 use Rattle.node_serving.specs.Markers.{node_at}
@@ -46,15 +48,15 @@ TickLaw by node =
     → m ≡ with_new by.service by.writing by.every q m
 
 -- what is sent of the marks of a slot at a tick
-abbrev pub SendsAgain : {S : Type 0} → (boot : ℕ) → Key → (from : ℕ) → Slot S → Marking → (old new : List Wire) → Type 0
-SendsAgain boot key from (slot.Live c) m old new = SendsMarks boot key from (outstanding_in m) old new
-SendsAgain boot key from _ m old new = new ≡ old
+abbrev pub SendsAgain : {S : Type 0} → Grammar → (boot : ℕ) → Key → (from : ℕ) → Slot S → Marking → (old new : List Wire) → Type 0
+SendsAgain grammar boot key from (slot.Live c) m old new = SendsMarks grammar boot key from (outstanding_in m) old new
+SendsAgain grammar boot key from _ m old new = new ≡ old
 
 module _ {S : Type 0} (by : Marker S) (node : Node) (marking : Key → Marking) where
   -- one slot
   live_ticks_on : (key : Key) (p q : Point) (now : Slot S) (packets : List Packet) (old mid new : List Wire) → TickLaw by node → SlotStands by.service node key now (Lives q)
-      → ConnectionTurn by.service node.server node.boot Ticks p q packets → q.key ≡ p.key → IsSettledPoint by (marking p.key) p → mid ≡ old ++ map wire_of packets → AllByRecursion HasWire packets
-      → SendsAgain node.boot key (length old) now (marking key) mid new → SlotTicks by node marking key (Lives p) now old new
+      → ConnectionTurn by.service node.server node.boot Ticks p q packets → q.key ≡ p.key → IsSettledPoint by (marking p.key) p → mid ≡ old ++ map (wire_by (grammar_of node.profile)) packets → AllByRecursion (HasWireBy (grammar_of node.profile)) packets
+      → SendsAgain (grammar_of node.profile) node.boot key (length old) now (marking key) mid new → SlotTicks by node marking key (Lives p) now old new
   live_ticks_on key p q (slot.Pending o) packets old mid new law st t same s wires spelled sends = absurd st
   live_ticks_on key p q slot.Done packets old mid new law st t same s wires spelled sends = absurd st
   live_ticks_on key p q (slot.Live c) packets old mid new law st t same s wires spelled sends =
@@ -72,8 +74,8 @@ module _ {S : Type 0} (by : Marker S) (node : Node) (marking : Key → Marking) 
         stands = st;
         goes = record { packets = packets; goes = (q, refl, t); sent_are = ap (λ l. with_marks (length (filter is_done packets)) l packets) (sym ms) };
         settled = record { taken = b.taken; held = b.held; settled = subst (λ x. IsSettled by.service by.every x q) (sym still) (settles by node.server node.boot Ticks p q m packets t) };
-        out = put_out node.boot key q (outstanding_in m) packets old mid new key_is wires spelled
-            (subst (λ k. SendsMarks node.boot key (length old) (outstanding_in (marking k)) mid new) (sym key_is) sends);
+        out = put_out (grammar_of node.profile) node.boot key q (outstanding_in m) packets old mid new key_is wires spelled
+            (subst (λ k. SendsMarks (grammar_of node.profile) node.boot key (length old) (outstanding_in (marking k)) mid new) (sym key_is) sends);
       }
 
   rest_ticks : (key : Key) (place : Place) (now : Slot S) (old mid new : List Wire) → marks_at by node.boot true marking place ≡ [] → IsSettledPlace by marking place → SlotStands by.service node key now place
@@ -88,7 +90,7 @@ module _ {S : Type 0} (by : Marker S) (node : Node) (marking : Key → Marking) 
   }
 
   pub slot_ticks : (key : Key) (place : Place) (now : Slot S) (old mid new : List Wire) → TickLaw by node → IsSettledPlace by marking place → SlotGoes by.service node Tick_comes key place now old mid
-      → SendsAgain node.boot key (length old) now (marking key) mid new → SlotTicks by node marking key place now old new
+      → SendsAgain (grammar_of node.profile) node.boot key (length old) now (marking key) mid new → SlotTicks by node marking key place now old new
   slot_ticks key (Lives p) now old mid new law s g sends = go g.after g.turn g.stands
     where
       first : Place → List Place → Place
@@ -106,12 +108,12 @@ module _ {S : Type 0} (by : Marker S) (node : Node) (marking : Key → Marking) 
       first other [] = other
       first other (x ∷ xs) = x
 
-      go : (now : Slot S) (after : Place) → Stays (Opens n) (after ∷ []) g.packets → SlotStands by.service node key now after → SendsAgain node.boot key (length old) now (marking key) mid new
+      go : (now : Slot S) (after : Place) → Stays (Opens n) (after ∷ []) g.packets → SlotStands by.service node key now after → SendsAgain (grammar_of node.profile) node.boot key (length old) now (marking key) mid new
           → SlotTicks by node marking key (Opens n) now old new
       go now after (e, none) st sends = unsent now (subst (SlotStands by.service node key now) (ap (first after) e) st) sends
         where
-          unsent : (now : Slot S) → SlotStands by.service node key now (Opens n) → SendsAgain node.boot key (length old) now (marking key) mid new → SlotTicks by node marking key (Opens n) now old new
-          unsent (slot.Pending o) st same = rest_ticks key (Opens n) (slot.Pending o) old mid new refl tt st (refl, refl) (g.wires ∙ ap (λ l. old ++ map wire_of l) none) same
+          unsent : (now : Slot S) → SlotStands by.service node key now (Opens n) → SendsAgain (grammar_of node.profile) node.boot key (length old) now (marking key) mid new → SlotTicks by node marking key (Opens n) now old new
+          unsent (slot.Pending o) st same = rest_ticks key (Opens n) (slot.Pending o) old mid new refl tt st (refl, refl) (g.wires ∙ ap (λ l. old ++ map (wire_by (grammar_of node.profile)) l) none) same
           unsent (slot.Live c) st same = absurd st
           unsent slot.Done st same = absurd st
   slot_ticks key (Ended k) now old mid new law s g sends = go now g.after g.turn g.stands sends
@@ -120,12 +122,12 @@ module _ {S : Type 0} (by : Marker S) (node : Node) (marking : Key → Marking) 
       first other [] = other
       first other (x ∷ xs) = x
 
-      go : (now : Slot S) (after : Place) → Stays (Ended k) (after ∷ []) g.packets → SlotStands by.service node key now after → SendsAgain node.boot key (length old) now (marking key) mid new
+      go : (now : Slot S) (after : Place) → Stays (Ended k) (after ∷ []) g.packets → SlotStands by.service node key now after → SendsAgain (grammar_of node.profile) node.boot key (length old) now (marking key) mid new
           → SlotTicks by node marking key (Ended k) now old new
       go now after (e, none) st sends = unsent now (subst (SlotStands by.service node key now) (ap (first after) e) st) sends
         where
-          unsent : (now : Slot S) → SlotStands by.service node key now (Ended k) → SendsAgain node.boot key (length old) now (marking key) mid new → SlotTicks by node marking key (Ended k) now old new
-          unsent slot.Done st same = rest_ticks key (Ended k) slot.Done old mid new refl tt st (refl, refl) (g.wires ∙ ap (λ l. old ++ map wire_of l) none) same
+          unsent : (now : Slot S) → SlotStands by.service node key now (Ended k) → SendsAgain (grammar_of node.profile) node.boot key (length old) now (marking key) mid new → SlotTicks by node marking key (Ended k) now old new
+          unsent slot.Done st same = rest_ticks key (Ended k) slot.Done old mid new refl tt st (refl, refl) (g.wires ∙ ap (λ l. old ++ map (wire_by (grammar_of node.profile)) l) none) same
           unsent (slot.Live c) st same = absurd st
           unsent (slot.Pending o) st same = absurd st
 
@@ -177,7 +179,7 @@ module _ {S : Type 0} (by : Marker S) (node : Node) (marking : Key → Marking) 
             go = go_on_marked (GoesMarked (PlaceTurn by.service node Tick_comes) (marks_at by node.boot true marking)) f.done f.went f.sent s.sent place s.after f.go s.goes;
             settled = all_append (IsSettledPlace by marking) f.went (s.after ∷ []) f.settled (s.settled, tt);
             waiting = waiting.1;
-            out = out_on f.sent s.sent old mid new f.out s.out;
+            out = out_on (grammar_of node.profile) f.sent s.sent old mid new f.out s.out;
           }
         where
           same : {d e : Key × Slot S} → slice_get es i ≡ Some e → slice_get es i ≡ Some d → e ≡ d
@@ -221,10 +223,10 @@ module _ {S : Type 0} (by : Marker S) (node : Node) (marking : Key → Marking) 
 
 pub serving_ticks : {S : Type 0} (by : Marker S) (who : Identity) (standing : law_stage) (awaits : Bool) (marking : Key → Marking) (opened : ℕ) (places : List Place) (now : Serving S) (marks : KeyMarks)
     (old mid new : List Wire) → now.next.0 ≡ initial_number who.isn opened → Keeps by marking marks → AllTick by (node_of who standing) marking places now.slots.entries old mid
-    → ArePut (all_opens (node_of who standing) Tick_comes now.slots.entries) mid new → ServingGoesMarked by (node_at who standing awaits marking) Tick_comes opened places now marks old new
+    → ArePut (grammar_in who) (all_opens (node_of who standing) Tick_comes now.slots.entries) mid new → ServingGoesMarked by (node_at who standing awaits marking) Tick_comes opened places now marks old new
 serving_ticks by who standing awaits marking opened places now marks old mid new number keeps t asked =
     let node : Node = node_of who standing in
-    let opens : ArePut (flat_map (opens_at node Tick_comes) t.after) mid new = subst (λ ps. ArePut ps mid new) (sym (opens_are by.service node Tick_comes now.slots.entries t.after t.stands)) asked in
+    let opens : ArePut (grammar_in who) (flat_map (opens_at node Tick_comes) t.after) mid new = subst (λ ps. ArePut (grammar_in who) ps mid new) (sym (opens_are by.service node Tick_comes now.slots.entries t.after t.stands)) asked in
     let then_at : Key → Marking = λ key. marking_then by (place_at key t.after) (marking key) in
     let same : (k : Key) → then_at k ≡ marking k = λ k. same_then by node marking t.after t.settled k (place_at k t.after) refl in
     record {
@@ -235,21 +237,21 @@ serving_ticks by who standing awaits marking opened places now marks old mid new
       turn = record { went = t.after; by_places = t.sent; all_go = t.go; places = sym (append-nil t.after); marking_is = refl; packets = refl };
       keeps = record { every = keeps.every; each = λ k. keeps.each k ∙ sym (same k) };
       settled = like by node marking then_at same t.after t.settled;
-      out = out_on t.sent (map Plain (flat_map (opens_at node Tick_comes) t.after)) old mid new t.out
-          (plain_out (flat_map (opens_at node Tick_comes) t.after) mid new opens.wires opens.spelled);
+      out = out_on (grammar_in who) t.sent (map Plain (flat_map (opens_at node Tick_comes) t.after)) old mid new t.out
+          (plain_out (grammar_in who) (flat_map (opens_at node Tick_comes) t.after) mid new opens.wires opens.spelled);
     }
   where
     plus_none : (n : ℕ) → n ≡ n + 0
     plus_none n = omega arith
 
 -- what a slot sends again, by the connection that it lends
-pub again_live : {S : Type 0} (boot : ℕ) (key : Key) (from : ℕ) (s : Slot S) (c : ConnState S) (m : Marking) (old new : List Wire) → Some c ≡ conn_in (Some s) → SendsMarks boot key from (outstanding_in m) old new
-    → SendsAgain boot key from s m old new
-again_live boot key from (slot.Live d) c m old new is sends = sends
-again_live boot key from (slot.Pending o) c m old new is sends = none_is_some c (sym is)
-again_live boot key from slot.Done c m old new is sends = none_is_some c (sym is)
+pub again_live : {S : Type 0} (grammar : Grammar) (boot : ℕ) (key : Key) (from : ℕ) (s : Slot S) (c : ConnState S) (m : Marking) (old new : List Wire) → Some c ≡ conn_in (Some s) → SendsMarks grammar boot key from (outstanding_in m) old new
+    → SendsAgain grammar boot key from s m old new
+again_live grammar boot key from (slot.Live d) c m old new is sends = sends
+again_live grammar boot key from (slot.Pending o) c m old new is sends = none_is_some c (sym is)
+again_live grammar boot key from slot.Done c m old new is sends = none_is_some c (sym is)
 
-pub again_none : {S : Type 0} (boot : ℕ) (key : Key) (from : ℕ) (s : Slot S) (m : Marking) (told : List Wire) → None ≡ conn_in (Some s) → SendsAgain boot key from s m told told
-again_none boot key from (slot.Live d) m told is = none_is_some d is
-again_none boot key from (slot.Pending o) m told is = refl
-again_none boot key from slot.Done m told is = refl
+pub again_none : {S : Type 0} (grammar : Grammar) (boot : ℕ) (key : Key) (from : ℕ) (s : Slot S) (m : Marking) (told : List Wire) → None ≡ conn_in (Some s) → SendsAgain grammar boot key from s m told told
+again_none grammar boot key from (slot.Live d) m told is = none_is_some d is
+again_none grammar boot key from (slot.Pending o) m told is = refl
+again_none grammar boot key from slot.Done m told is = refl

@@ -1,5 +1,5 @@
 -- What a turn of a connection sends is for its client or for the logger, and each number in it fits its field.
-use Rattle.std.proofs.Common.{◌≡◌, ℕ, ◌+◌, ◌<◌, ◌≤◌, ◌^◌, true, ◌&&◌, ◌||◌, nat_le, refl, sym, subst, Option, Some, None, IfSome, List, [], ◌∷◌, ◌++◌, map, length, take, drop, arith, length-drop, length-take}
+use Rattle.std.proofs.Common.{◌≡◌, ◌∙◌, ℕ, Bool, false, true≢false, ◌+◌, ◌<◌, ◌≤◌, ◌^◌, true, ◌&&◌, ◌||◌, nat_le, refl, sym, subst, Option, Some, None, IfSome, List, [], ◌∷◌, ◌++◌, map, length, take, drop, arith, length-drop, length-take}
 use Rattle.std.specs.List.{AllByRecursion}
 use Rattle.std.proofs.lemmas.Bool.{and_from, le-leb}
 use Rattle.ft_io.specs.declared.Addr.{Addr}
@@ -9,7 +9,8 @@ use Rattle.seq_arith.specs.PacketGrammar as packet
 use Rattle.seq_arith.specs.Message.{Part, Body}
 use Rattle.seq_arith.specs.Message.Body.{DataMsg, DoneMsg}
 use Rattle.seq_arith.specs.MessageGrammar as message
-use Rattle.seq_arith.specs.MessageGrammar.{flag, is_sound, has_length}
+use Rattle.seq_arith.specs.MessageGrammar.{ending, has_length, is_sound_by, most_ending}
+use Rattle.seq_arith.specs.declared.kinds.Grammar.{Grammar}
 use Rattle.server_trait.specs.Service.{Machine}
 use Rattle.ft_model.specs.Connection.{LiveTurn, ResetTurn, told_by}
 use Rattle.ft_model.specs.Copy.{copies}
@@ -26,9 +27,9 @@ use Rattle.ft_model.specs.Segments.{head_to, segments_of}
 use Rattle.ft_model.proofs.Lists.{all_weaker, all_map, all_append}
 use Rattle.ft_model.proofs.Spoken.{Spoken, segments_spoken}
 use Rattle.ft_model.proofs.Spoken.Spoken.{spoken_syn, spoken_text, spoken_fin, spoken_bare}
-use Rattle.wrapped_conn.proofs.Sendable.{FitsKey, done_sendable, read_sendable}
-use Rattle.ft_io.proofs.Choices.{holds_if}
-use Rattle.ft_model.proofs.Wires.{flag_low}
+use Rattle.wrapped_conn.specs.LoggerMessages.{grammar_by}
+use Rattle.wrapped_conn.proofs.Sendable.{FitsKey, done_sendable, ending_low, least_ending, read_sendable}
+use Rattle.ft_io.proofs.Choices.{by_cases, holds_if}
 use Rattle.ft_model.proofs.Copied.{Grows, text_in, all_copies}
 use Rattle.ft_model.proofs.Running.{taken_more}
 
@@ -41,11 +42,11 @@ pub record IsInRange (q : Point) : Type 0 where
   pub una : q.una ≤ 2 ^ 24 + 1
   pub count : length q.lengths ≤ 2 ^ 24 + 1
 
--- a packet is this connection's, and can be spelled but for its bytes
-abbrev pub IsWritten : Key → Packet → Type 0
-IsWritten key (To_client segment) = (destination_of segment ≡ key) × packet.IsSpellable segment
-IsWritten key (To_logger told) = message.IsSpellable told
-IsWritten key _ = ⊥
+-- a packet is this connection's, and can be spelled in this grammar but for its bytes
+abbrev pub IsWritten : Grammar → Key → Packet → Type 0
+IsWritten grammar key (To_client segment) = (destination_of segment ≡ key) × packet.IsSpellable segment
+IsWritten grammar key (To_logger told) = message.IsSpellableBy grammar told
+IsWritten grammar key _ = ⊥
 
 -- segments
 spells : (server : Addr) (q : Point) (seq flags : ℕ) (mss : Option ℕ) (payload : List ℕ) → FitsAddr server → FitsKey q.key → seq < 2 ^ 32 → flags < 2 ^ 8 → IfSome mss (λ m. m < 2 ^ 16)
@@ -63,36 +64,42 @@ spells server q seq flags mss payload a k low few fits short = record {
   size = omega (arith, short);
 }
 
-segment_written : {State : Type 0} (service : Machine State) (server : Addr) (news : News) (p q : Point) (segment : Segment) → FitsAddr server → IsInRange q
-    → Spoken service server news p q segment → IsWritten q.key (To_client segment)
-segment_written service server news p q segment a r (spoken_syn e) =
-    subst (λ s. IsWritten q.key (To_client s)) (sym e) (refl, spells server q q.sisn _ (Some 1460) [] a r.key r.sisn (omega arith) (omega arith) (omega arith))
-segment_written service server news p q segment a r (spoken_text offset n short e) =
+segment_written : {State : Type 0} (grammar : Grammar) (service : Machine State) (server : Addr) (news : News) (p q : Point) (segment : Segment) → FitsAddr server → IsInRange q
+    → Spoken service server news p q segment → IsWritten grammar q.key (To_client segment)
+segment_written grammar service server news p q segment a r (spoken_syn e) =
+    subst (λ s. IsWritten grammar q.key (To_client s)) (sym e) (refl, spells server q q.sisn _ (Some 1460) [] a r.key r.sisn (omega arith) (omega arith) (omega arith))
+segment_written grammar service server news p q segment a r (spoken_text offset n short e) =
     let size = length-take n (drop offset (answered_run service q).output) in
-    subst (λ s. IsWritten q.key (To_client s)) (sym e) (refl, spells server q _ _ None (take n (drop offset (answered_run service q).output)) a r.key (omega arith) (omega arith) tt (omega (arith, size, short, r.size)))
-segment_written service server news p q segment a r (spoken_fin f e) =
-    subst (λ s. IsWritten q.key (To_client s)) (sym e) (refl, spells server q _ _ None [] a r.key (omega arith) (omega arith) tt (omega arith))
-segment_written service server news p q segment a r (spoken_bare offset e) =
-    subst (λ s. IsWritten q.key (To_client s)) (sym e) (refl, spells server q _ _ None [] a r.key (omega arith) (omega arith) tt (omega arith))
+    subst (λ s. IsWritten grammar q.key (To_client s)) (sym e) (refl, spells server q _ _ None (take n (drop offset (answered_run service q).output)) a r.key (omega arith) (omega arith) tt (omega (arith, size, short, r.size)))
+segment_written grammar service server news p q segment a r (spoken_fin f e) =
+    subst (λ s. IsWritten grammar q.key (To_client s)) (sym e) (refl, spells server q _ _ None [] a r.key (omega arith) (omega arith) tt (omega arith))
+segment_written grammar service server news p q segment a r (spoken_bare offset e) =
+    subst (λ s. IsWritten grammar q.key (To_client s)) (sym e) (refl, spells server q _ _ None [] a r.key (omega arith) (omega arith) tt (omega arith))
 
 -- and messages
-abbrev IsTold : ℕ → Body → Type 0
-IsTold boot body = message.IsSpellable (record { boot = boot; body = body })
+abbrev IsTold : Grammar → ℕ → Body → Type 0
+IsTold grammar boot body = message.IsSpellableBy grammar (record { boot = boot; body = body })
 
 pub record IsBoot (boot : ℕ) : Type 0 where
   pub least : 1 ≤ boot
   pub most : boot < 2 ^ 64
 
-data_told : (boot : ℕ) (part : Part) → IsBoot boot → FitsKey part.key → part.offset + length part.bytes ≤ 2 ^ 24 → part.acked ≤ 2 ^ 24 + 1 → length part.bytes ≤ 1460
-    → IsTold boot (DataMsg part)
-unfolding is_sound has_length
-data_told boot part b k within few short = record {
-  boot = omega (arith, b.most);
-  numbers = (omega (arith, k.ip), (omega (arith, k.port), (omega (arith, within), (omega (arith, few), (omega (arith, flag_low part.fin), tt)))));
-  sound = and_from (nat_le 1 boot && _) true (and_from (nat_le 1 boot) _ (le-leb 1 boot b.least)
-      (and_from _ _ (le-leb (part.offset + length part.bytes) (2 ^ 24) within) (and_from _ _ (le-leb part.acked (2 ^ 24 + 1) few) (and_from _ _ (le-leb (flag part.fin) 1 (flag_low part.fin)) refl)))) refl;
-  size = and_from _ true (and_from (nat_le (31 + 0) (31 + length part.bytes)) (nat_le (31 + length part.bytes) (31 + 1460)) (le-leb _ _ (omega arith)) (le-leb _ _ (omega (arith, short)))) refl;
-}
+-- where another Data follows, the FIN doesn't
+no_fin_before : (part : Part) → (part.more ≡ true → part.fin ≡ false) → part.fin ≡ true → part.more ≡ false
+no_fin_before part others ends = by_cases part.more (λ more. absurd (true≢false (sym ends ∙ others more))) (λ last. last)
+
+data_told : (batches : Bool) (boot : ℕ) (part : Part) → IsBoot boot → FitsKey part.key → part.offset + length part.bytes ≤ 2 ^ 24 → part.acked ≤ 2 ^ 24 + 1 → length part.bytes ≤ 1460
+    → (part.more ≡ true → (part.fin ≡ false) × (batches ≡ true)) → IsTold (grammar_by batches) boot (DataMsg part)
+unfolding is_sound_by has_length
+data_told batches boot part b k within few short batch =
+    let last : ending part ≤ most_ending (grammar_by batches) =
+    ending_low batches part.fin part.more (no_fin_before part (λ more. (batch more).0)) (λ more. (batch more).1) in record {
+      boot = omega (arith, b.most);
+      numbers = (omega (arith, k.ip), (omega (arith, k.port), (omega (arith, within), (omega (arith, few), (omega (arith, last, least_ending batches), tt)))));
+      sound = and_from (nat_le 1 boot && _) true (and_from (nat_le 1 boot) _ (le-leb 1 boot b.least)
+          (and_from _ _ (le-leb (part.offset + length part.bytes) (2 ^ 24) within) (and_from _ _ (le-leb part.acked (2 ^ 24 + 1) few) (and_from _ _ (le-leb (ending part) (most_ending (grammar_by batches)) last) refl)))) refl;
+      size = and_from _ true (and_from (nat_le (31 + 0) (31 + length part.bytes)) (nat_le (31 + length part.bytes) (31 + 1460)) (le-leb _ _ (omega arith)) (le-leb _ _ (omega (arith, short)))) refl;
+    }
 
 -- the text of what comes fits a packet
 abbrev pub IsShort : News → Type 0
@@ -108,48 +115,49 @@ news_short (Logged kept) h = omega arith
 news_short Ticks h = omega arith
 news_short Begins h = omega arith
 
-copies_told : (boot : ℕ) (news : News) (p q : Point) → IsBoot boot → IsShort news → IsInRange q → Grows p q → AllByRecursion (IsTold boot) (copies news p q)
+copies_told : (boot : ℕ) (news : News) (p q : Point) → IsBoot boot → IsShort news → IsInRange q → Grows p q → AllByRecursion (IsTold (grammar_by q.batches) boot) (copies news p q)
 copies_told boot news p q b short r grows =
-    all_copies (IsTold boot) news p q
+    all_copies (IsTold (grammar_by q.batches) boot) news p q
     (λ part c. let within = c.within grows in
-    data_told boot part b (subst FitsKey (sym c.key) r.key) (omega (arith, within, r.taken)) (subst (λ n. n ≤ 2 ^ 24 + 1) (sym c.acked) r.una)
-    (c.short (news_short news short)))
+    data_told q.batches boot part b (subst FitsKey (sym c.key) r.key) (omega (arith, within, r.taken)) (subst (λ n. n ≤ 2 ^ 24 + 1) (sym c.acked) r.una)
+    (c.short (news_short news short)) c.batch)
 
 abbrev pub AreLow : List ℕ → Type 0
 AreLow lengths = AllByRecursion (λ n. n ≤ 2048) lengths
 
-reads_in_order : (boot : ℕ) (key : Key) (index : ℕ) (lengths : List ℕ) → IsBoot boot → FitsKey key → AreLow lengths → (0 < length lengths → index + length lengths ≤ 2 ^ 24 + 1)
-    → AllByRecursion (IsTold boot) (read_messages key index lengths)
-reads_in_order boot key index [] b k low few = tt
-reads_in_order boot key index (n ∷ lengths) b k low few =
+reads_in_order : (grammar : Grammar) (boot : ℕ) (key : Key) (index : ℕ) (lengths : List ℕ) → IsBoot boot → FitsKey key → AreLow lengths → (0 < length lengths → index + length lengths ≤ 2 ^ 24 + 1)
+    → AllByRecursion (IsTold grammar boot) (read_messages key index lengths)
+reads_in_order grammar boot key index [] b k low few = tt
+reads_in_order grammar boot key index (n ∷ lengths) b k low few =
     let all = few (omega arith) in
-    ((read_sendable boot key index n b.least b.most k (omega (arith, all)) low.0).spellable, reads_in_order boot key (index + 1) lengths b k low.1 (λ some. omega (arith, all)))
+    ((read_sendable grammar boot key index n b.least b.most k (omega (arith, all)) low.0).spellable, reads_in_order grammar boot key (index + 1) lengths b k low.1 (λ some. omega (arith, all)))
 
-reads_are_told : (boot : ℕ) (news : News) (p q : Point) → IsBoot boot → IsInRange q → AreLow (drop (first_told news p q) q.lengths) → AllByRecursion (IsTold boot) (reads_told news p q)
+reads_are_told : (grammar : Grammar) (boot : ℕ) (news : News) (p q : Point) → IsBoot boot → IsInRange q → AreLow (drop (first_told news p q) q.lengths) → AllByRecursion (IsTold grammar boot) (reads_told news p q)
 unfolding reads_told
-reads_are_told boot news p q b r low =
+reads_are_told grammar boot news p q b r low =
     let rest = length-drop (first_told news p q) q.lengths in
-    reads_in_order boot q.key (first_told news p q) (drop (first_told news p q) q.lengths) b r.key low (λ some. omega (arith, some, rest, r.count))
+    reads_in_order grammar boot q.key (first_told news p q) (drop (first_told news p q) q.lengths) b r.key low (λ some. omega (arith, some, rest, r.count))
 
-dones_told : (boot : ℕ) (news : News) (p q : Point) → IsBoot boot → FitsKey q.key → AllByRecursion (IsTold boot) (dones news p q)
+dones_told : (grammar : Grammar) (boot : ℕ) (news : News) (p q : Point) → IsBoot boot → FitsKey q.key → AllByRecursion (IsTold grammar boot) (dones news p q)
 unfolding dones
-dones_told boot news p q b k =
-    holds_if (AllByRecursion (IsTold boot)) (tells_done news p q) (DoneMsg q.key ∷ []) [] (λ t. ((done_sendable boot q.key b.least b.most k).spellable, tt)) (λ t. tt)
+dones_told grammar boot news p q b k =
+    holds_if (AllByRecursion (IsTold grammar boot)) (tells_done news p q) (DoneMsg q.key ∷ []) [] (λ t. ((done_sendable grammar boot q.key b.least b.most k).spellable, tt)) (λ t. tt)
 
 -- a turn's packets
 pub live_written : {State : Type 0} (service : Machine State) (server : Addr) (boot : ℕ) (news : News) (p q : Point) (sent : List Packet) → FitsAddr server → IsBoot boot
-    → IsShort news → IsInRange q → AreLow (drop (first_told news p q) q.lengths) → LiveTurn service server boot news p q sent → AllByRecursion (IsWritten q.key) sent
+    → IsShort news → IsInRange q → AreLow (drop (first_told news p q) q.lengths) → LiveTurn service server boot news p q sent → AllByRecursion (IsWritten (grammar_by q.batches) q.key) sent
 live_written service server boot news p q sent a b short r low t =
-    let segments : AllByRecursion (λ s. IsWritten q.key (To_client s)) (segments_of service server news p q) =
-    all_weaker (Spoken service server news p q) (λ s. IsWritten q.key (To_client s)) (segments_of service server news p q)
-    (λ s spoken. segment_written service server news p q s a r spoken) (segments_spoken service server news p q) in
-    let bodies : AllByRecursion (IsTold boot) (copies news p q ++ (reads_told news p q ++ dones news p q)) =
-    all_append (IsTold boot) (copies news p q) _ (copies_told boot news p q b short r (taken_more news p q t.taken))
-    (all_append (IsTold boot) (reads_told news p q) (dones news p q) (reads_are_told boot news p q b r low) (dones_told boot news p q b r.key)) in
-    subst (AllByRecursion (IsWritten q.key)) (sym t.packets)
-    (all_append (IsWritten q.key) (map To_client (segments_of service server news p q)) _ (all_map (IsWritten q.key) To_client (segments_of service server news p q) segments)
-    (all_map (IsWritten q.key) (told_by boot) (copies news p q ++ (reads_told news p q ++ dones news p q)) bodies))
+    let grammar : Grammar = grammar_by q.batches in
+    let segments : AllByRecursion (λ s. IsWritten grammar q.key (To_client s)) (segments_of service server news p q) =
+    all_weaker (Spoken service server news p q) (λ s. IsWritten grammar q.key (To_client s)) (segments_of service server news p q)
+    (λ s spoken. segment_written grammar service server news p q s a r spoken) (segments_spoken service server news p q) in
+    let bodies : AllByRecursion (IsTold grammar boot) (copies news p q ++ (reads_told news p q ++ dones news p q)) =
+    all_append (IsTold grammar boot) (copies news p q) _ (copies_told boot news p q b short r (taken_more news p q t.taken))
+    (all_append (IsTold grammar boot) (reads_told news p q) (dones news p q) (reads_are_told grammar boot news p q b r low) (dones_told grammar boot news p q b r.key)) in
+    subst (AllByRecursion (IsWritten grammar q.key)) (sym t.packets)
+    (all_append (IsWritten grammar q.key) (map To_client (segments_of service server news p q)) _ (all_map (IsWritten grammar q.key) To_client (segments_of service server news p q) segments)
+    (all_map (IsWritten grammar q.key) (told_by boot) (copies news p q ++ (reads_told news p q ++ dones news p q)) bodies))
 
-pub reset_written : (boot : ℕ) (news : News) (p q : Point) (sent : List Packet) → IsBoot boot → FitsKey q.key → ResetTurn boot news p q sent → AllByRecursion (IsWritten q.key) sent
-reset_written boot news p q sent b k t =
-    subst (AllByRecursion (IsWritten q.key)) (sym t.packets) (all_map (IsWritten q.key) (told_by boot) (dones news p q) (dones_told boot news p q b k))
+pub reset_written : (grammar : Grammar) (boot : ℕ) (news : News) (p q : Point) (sent : List Packet) → IsBoot boot → FitsKey q.key → ResetTurn boot news p q sent → AllByRecursion (IsWritten grammar q.key) sent
+reset_written grammar boot news p q sent b k t =
+    subst (AllByRecursion (IsWritten grammar q.key)) (sym t.packets) (all_map (IsWritten grammar q.key) (told_by boot) (dones news p q) (dones_told grammar boot news p q b k))

@@ -8,6 +8,7 @@ use Rattle.ft_io.specs.Key.{key_eq}
 use Rattle.seq_arith.specs.Message.{Message}
 use Rattle.seq_arith.specs.Message.{Body as body}
 use Rattle.server_trait.specs.Service.{Machine}
+use Rattle.tcp_rules.specs.Profile.{grammar_of}
 use Rattle.ft_model.specs.Network.{Packet}
 use Rattle.ft_model.specs.Network.Packet.{To_client}
 use Rattle.ft_model.specs.News.News.{Begins}
@@ -89,7 +90,7 @@ module _ {S : Type 0} (service : Machine S) (node : Node) (message : Message) (b
   -- Opened with the client's number makes the connection
   pub opening_lives : (numbers : Opening) → message.body ≡ body.OpenedMsg (numbers_of key numbers) → (place : Place) (o : Opening) (c : ConnState S) (old new : List Wire)
       → SlotStands service node key (slot.Pending o) place → o.cisn.0 ≡ numbers.cisn.0
-      → ConnGoes service node.server node.boot Begins (point_opened node.profile (numbers_of key numbers)) c old new
+      → ConnGoes (grammar_of node.profile) service node.server node.boot Begins (point_opened node.profile (numbers_of key numbers)) c old new
       → SlotGoes service node (Message_comes message) key place (slot.Live c) old new
   opening_lives numbers says (Opens n) o c old new st same g =
       let equal : (numbers.cisn.0 == n.cisn) ≡ true = eq-eqb numbers.cisn.0 n.cisn (sym same ∙ sym (ap (λ x. x.cisn) st)) in
@@ -131,8 +132,8 @@ module _ {S : Type 0} (service : Machine S) (node : Node) (message : Message) (b
         packets = To_client (full_rst node.server n) ∷ [];
         turn = place_meets service node (Message_comes message) (Opens n) [] (To_client (full_rst node.server n) ∷ []) (its_key node message key boot named n.key (ap (λ x. x.key) st))
             (subst (λ b. Hears service node b (Opens n) [] (To_client (full_rst node.server n) ∷ [])) (sym says) (refl, refl));
-        wires = at.wires;
-        spelled = at.spelled;
+        wires = (at.each (grammar_of node.profile)).wires;
+        spelled = (at.each (grammar_of node.profile)).spelled;
       }
   opening_refused says (Lives p) o old new st told = absurd st
   opening_refused says (Ended k) o old new st told = absurd st

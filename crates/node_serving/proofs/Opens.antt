@@ -7,12 +7,13 @@ use Rattle.std.proofs.lemmas.Grind.{flat_map-append}
 use Rattle.std.specs.List.{flat_map}
 use Rattle.ft_io.specs.declared.Key.{Key}
 use Rattle.server_trait.specs.Service.{Machine}
+use Rattle.seq_arith.specs.declared.kinds.Grammar.{Grammar}
 use Rattle.ft_model.specs.Network.{Packet}
 use Rattle.ft_model.specs.Node.{Node, Place, Input}
 use Rattle.ft_model.specs.Node.Place.{Opens, Lives, Ended}
 use Rattle.ft_model.specs.ServingTurn.{opens_at}
 use Rattle.ft_model.proofs.Lists.{all_append}
-use Rattle.ft_model.specs.Wire.{Wire, wire_of, HasWire}
+use Rattle.ft_model.specs.Wire.{Wire, wire_by, HasWireBy}
 use Rattle.node_serving.specs.declared.slot.Slot.{Slot}
 use Rattle.node_serving.specs.declared.slot.Slot.TheVariants as slot
 use Rattle.node_serving.specs.Openings.{ArePut, slot_opens, all_opens, is_pending_slot, pending_slots}
@@ -40,15 +41,15 @@ opens_are service node input (e ∷ es) [] st = absurd st
 opens_are service node input (e ∷ es) (q ∷ qs) st = ap₂ ◌++◌ (slot_is service node input e.0 e.1 q st.0) (opens_are service node input es qs st.1)
 
 -- packets after packets
-pub put_on : (first more : List Packet) (old mid new : List Wire) → ArePut first old mid → ArePut more mid new → ArePut (first ++ more) old new
-put_on first more old mid new a b = record {
-  wires = b.wires ∙ (ap (λ xs. xs ++ map wire_of more) a.wires
-      ∙ (append_assoc old (map wire_of first) (map wire_of more) ∙ ap (λ xs. old ++ xs) (sym (map-append wire_of first more))));
-  spelled = all_append HasWire first more a.spelled b.spelled;
+pub put_on : (grammar : Grammar) (first more : List Packet) (old mid new : List Wire) → ArePut grammar first old mid → ArePut grammar more mid new → ArePut grammar (first ++ more) old new
+put_on grammar first more old mid new a b = record {
+  wires = b.wires ∙ (ap (λ xs. xs ++ map (wire_by grammar) more) a.wires
+      ∙ (append_assoc old (map (wire_by grammar) first) (map (wire_by grammar) more) ∙ ap (λ xs. old ++ xs) (sym (map-append (wire_by grammar) first more))));
+  spelled = all_append (HasWireBy grammar) first more a.spelled b.spelled;
 }
 
-pub put_none : (told : List Wire) → ArePut [] told told
-put_none told = record { wires = sym (append-nil told); spelled = tt }
+pub put_none : (grammar : Grammar) (told : List Wire) → ArePut grammar [] told told
+put_none grammar told = record { wires = sym (append-nil told); spelled = tt }
 
 -- the Opens of one slot more
 pub opens_more : {S : Type 0} (node : Node) (input : Input) (es : List (Key × Slot S)) (i : ℕ) (key : Key) (s : Slot S) → slice_get es i ≡ Some (key, s)

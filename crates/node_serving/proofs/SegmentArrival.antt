@@ -5,6 +5,7 @@ use Rattle.ft_io.specs.declared.Key.{Key}
 use Rattle.ft_io.specs.Key.{key_eq}
 use Rattle.seq_arith.specs.Packet.{Segment}
 use Rattle.server_trait.specs.Service.{Machine}
+use Rattle.tcp_rules.specs.Profile.{grammar_of}
 use Rattle.ft_model.specs.Network.{source_of}
 use Rattle.ft_model.specs.Network.Packet.{To_client}
 use Rattle.ft_model.specs.Point.{Point}
@@ -42,7 +43,7 @@ module _ {S : Type 0} (service : Machine S) (node : Node) (segment : Segment) (m
 
   -- a live connection's turn is its slot's
   pub live_comes : (place : Place) (c now : ConnState S) (old new : List Wire) → IsNearTo node.server segment place → SlotStands service node (source_of segment) (slot.Live c) place
-      → ((p : Point) → IsNear p.cisn p.sisn segment → p.key ≡ source_of segment → IsOursAt service node.server node.boot c p → ConnGoes service node.server node.boot (Comes segment) p now old new)
+      → ((p : Point) → IsNear p.cisn p.sisn segment → p.key ≡ source_of segment → IsOursAt service node.server node.boot c p → ConnGoes (grammar_of node.profile) service node.server node.boot (Comes segment) p now old new)
       → SlotGoes service node (Packet_comes segment) (source_of segment) place (slot.Live now) old new
   live_comes (Lives p) c now old new near st h =
       let g = h p (near mine (itself p.key st.0)) st.0 st.1 in record {
@@ -64,8 +65,8 @@ module _ {S : Type 0} (service : Machine S) (node : Node) (segment : Segment) (m
     packets = map To_client (as_closed node.server segment);
     stands = st;
     turn = place_meets service node (Packet_comes segment) (Ended k) (Ended k ∷ []) (map To_client (as_closed node.server segment)) (concerned k st) (refl, refl);
-    wires = told.wires;
-    spelled = told.spelled;
+    wires = (told.each (grammar_of node.profile)).wires;
+    spelled = (told.each (grammar_of node.profile)).spelled;
   }
   done_answers (Opens n) old new st told = absurd st
   done_answers (Lives p) old new st told = absurd st

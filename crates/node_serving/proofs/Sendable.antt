@@ -5,23 +5,30 @@ use Rattle.std.proofs.Math.Seq.{take-append_seam}
 use Rattle.ft_io.specs.declared.Key.{Key}
 use Rattle.seq_arith.specs.Checksum.{checksum}
 use Rattle.seq_arith.specs.Message.{Message}
-use Rattle.seq_arith.specs.MessageGrammar.{is_sound, has_length, message_length, spelled, spelling, IsSpellable}
+use Rattle.seq_arith.specs.declared.kinds.Grammar.{Grammar}
+use Rattle.seq_arith.specs.MessageGrammar.{has_length, message_length, spelled, IsSpellableBy, is_sound_by, spelling_by}
 use Rattle.seq_arith.proofs.MessageSpelling.{spelled_length}
 use Rattle.logger_wire.specs.declared.Body.TheVariants as body
-use Rattle.logger_wire.specs.Value.{IsSendable}
+use Rattle.logger_wire.specs.Value.{IsSendableBy}
 
 -- the bytes at the front are the whole message
-pub front_told : (message : Message) (out : List ℕ) (len : ℕ) → IsSpellable message → len ≡ message_length message.body
-    → take len (spelling message ++ drop len out) ≡ spelling message
-unfolding spelling
-front_told message out len spellable is =
-    let size : len ≡ length (spelling message) = is ∙ sym (spelled_length message (checksum (spelled message 0)) spellable.numbers)
-    in ap (λ n. take n (spelling message ++ drop len out)) size ∙ take-append_seam (spelling message) (drop len out)
+pub front_told : (grammar : Grammar) (message : Message) (out : List ℕ) (len : ℕ) → IsSpellableBy grammar message → len ≡ message_length message.body
+    → take len (spelling_by grammar message ++ drop len out) ≡ spelling_by grammar message
+unfolding spelling_by
+front_told grammar message out len spellable is =
+    let size : len ≡ length (spelling_by grammar message) = is ∙ sym (spelled_length grammar message (checksum (spelled grammar message 0)) spellable.numbers)
+    in ap (λ n. take n (spelling_by grammar message ++ drop len out)) size ∙ take-append_seam (spelling_by grammar message) (drop len out)
 
-pub open_tells : (boot : ℕ) (key : Key) (cisn sisn mss : ℕ) → 1 ≤ boot → boot < 2 ^ 64 → key.ip < 2 ^ 32 → key.port < 2 ^ 16 → cisn < 2 ^ 32 → sisn < 2 ^ 32 → 64 ≤ mss → mss ≤ 1460
-    → IsSendable (record { boot = boot; body = body.Open (record { key = key; cisn = cisn; sisn = sisn; mss = mss }) })
-unfolding is_sound has_length
-open_tells boot key cisn sisn mss first most ip port own peer least large = record {
+-- .. in a grammar that is this one
+pub front_in : (grammar other : Grammar) (message : Message) (new out : List ℕ) (len : ℕ) → other ≡ grammar → IsSpellableBy grammar message → len ≡ message_length message.body
+    → new ≡ spelling_by other message ++ drop len out → take len new ≡ spelling_by grammar message
+front_in grammar other message new out len same spellable is wrote =
+    ap (take len) (wrote ∙ ap (λ g. spelling_by g message ++ drop len out) same) ∙ front_told grammar message out len spellable is
+
+pub open_tells : (grammar : Grammar) (boot : ℕ) (key : Key) (cisn sisn mss : ℕ) → 1 ≤ boot → boot < 2 ^ 64 → key.ip < 2 ^ 32 → key.port < 2 ^ 16 → cisn < 2 ^ 32 → sisn < 2 ^ 32 → 64 ≤ mss → mss ≤ 1460
+    → IsSendableBy grammar (record { boot = boot; body = body.Open (record { key = key; cisn = cisn; sisn = sisn; mss = mss }) })
+unfolding is_sound_by has_length
+open_tells grammar boot key cisn sisn mss first most ip port own peer least large = record {
   lens = refl;
   spellable = record {
     boot = omega arith;
@@ -33,9 +40,9 @@ open_tells boot key cisn sisn mss first most ip port own peer least large = reco
   };
 }
 
-pub hello_tells : (boot : ℕ) → 1 ≤ boot → boot < 2 ^ 64 → IsSendable (record { boot = boot; body = body.Hello })
-unfolding is_sound has_length
-hello_tells boot first most = record {
+pub hello_tells : (grammar : Grammar) (boot : ℕ) → 1 ≤ boot → boot < 2 ^ 64 → IsSendableBy grammar (record { boot = boot; body = body.Hello })
+unfolding is_sound_by has_length
+hello_tells grammar boot first most = record {
   lens = refl;
   spellable = record {
     boot = omega arith;

@@ -8,6 +8,7 @@ use Rattle.std.specs.Option.{is_some}
 use Rattle.ft_io.specs.Key.{key_eq}
 use Rattle.seq_arith.specs.Message.{Message}
 use Rattle.seq_arith.specs.Message.Body.{OpenMsg}
+use Rattle.tcp_rules.specs.Profile.{grammar_of}
 use Rattle.ft_model.specs.Connection.{told_by}
 use Rattle.seq_arith.specs.Packet.{Segment}
 use Rattle.ft_model.specs.Network.{source_of}
@@ -36,11 +37,11 @@ module _ {S : Type 0} (service : Machine S) (node : Node) where
   -- a turn in which no opening is made and no unknown client refused: the slots go, and then pending openings are asked for
   pub known_goes : (input : Input) (opened : ℕ) (places : List Place) (now : Serving S) (old mid new : List Wire) → newcomers node input opened places ≡ [] → refusals node input places ≡ []
       → now.next.0 ≡ initial_number node.isn opened → AllSlotsGo service node input places now.slots.entries old mid
-      → ArePut (all_opens node input now.slots.entries) mid new → ServingGoes service node input opened places now old new
+      → ArePut (grammar_of node.profile) (all_opens node input now.slots.entries) mid new → ServingGoes service node input opened places now old new
   known_goes input opened places now old mid new none unrefused number goes asked =
-      let opens : ArePut (flat_map (opens_at node input) goes.after) mid new =
-      subst (λ ps. ArePut ps mid new) (sym (opens_are service node input now.slots.entries goes.after goes.stands)) asked in
-      let all = put_on goes.packets (flat_map (opens_at node input) goes.after) old mid new (record { wires = goes.wires; spelled = goes.spelled }) opens in
+      let opens : ArePut (grammar_of node.profile) (flat_map (opens_at node input) goes.after) mid new =
+      subst (λ ps. ArePut (grammar_of node.profile) ps mid new) (sym (opens_are service node input now.slots.entries goes.after goes.stands)) asked in
+      let all = put_on (grammar_of node.profile) goes.packets (flat_map (opens_at node input) goes.after) old mid new (record { wires = goes.wires; spelled = goes.spelled }) opens in
       let count : opened ≡ opened + length (newcomers node input opened places) = subst (λ ps. opened ≡ opened + length ps) (sym none) (omega arith) in record {
         later = goes.after;
         packets = goes.packets ++ flat_map (opens_at node input) goes.after;
@@ -57,7 +58,7 @@ module _ {S : Type 0} (service : Machine S) (node : Node) where
       }
 
   pub tick_goes : (opened : ℕ) (places : List Place) (now : Serving S) (old mid new : List Wire) → now.next.0 ≡ initial_number node.isn opened
-      → AllSlotsGo service node Tick_comes places now.slots.entries old mid → ArePut (all_opens node Tick_comes now.slots.entries) mid new
+      → AllSlotsGo service node Tick_comes places now.slots.entries old mid → ArePut (grammar_of node.profile) (all_opens node Tick_comes now.slots.entries) mid new
       → ServingGoes service node Tick_comes opened places now old new
   tick_goes opened places now old mid new number goes asked = known_goes Tick_comes opened places now old mid new refl refl number goes asked
 
@@ -67,7 +68,7 @@ module _ {S : Type 0} (service : Machine S) (node : Node) where
       let nothing : all_opens node (Message_comes message) now.slots.entries ≡ [] =
       sym (opens_are service node (Message_comes message) now.slots.entries goes.after goes.stands) ∙ quiet_message node message goes.after in
       known_goes (Message_comes message) opened places now old new new refl refl number goes
-      (subst (λ ps. ArePut ps new new) (sym nothing) (record { wires = sym (append-nil new); spelled = tt }))
+      (subst (λ ps. ArePut (grammar_of node.profile) ps new new) (sym nothing) (record { wires = sym (append-nil new); spelled = tt }))
 
   -- a packet of no stranger makes no opening and gets no refusal
   no_newcomers : (segment : Segment) (opened : ℕ) (places : List Place) → is_strange node segment places ≡ false → newcomers node (Packet_comes segment) opened places ≡ []
@@ -84,7 +85,7 @@ module _ {S : Type 0} (service : Machine S) (node : Node) where
       let familiar : is_strange node segment places ≡ false = ap (λ b. b && not (is_known (source_of segment) places)) other in
       known_goes (Packet_comes segment) opened places now told told told (no_newcomers segment opened places familiar) (no_refusals segment places familiar) st.number
       (none_concerned service node (Packet_comes segment) now.slots.entries places told (λ k. ap (λ b. b && key_eq (source_of segment) k) other) st.slots)
-      (subst (λ ps. ArePut ps told told) (sym (none_asked now.slots.entries)) (put_none told))
+      (subst (λ ps. ArePut (grammar_of node.profile) ps told told) (sym (none_asked now.slots.entries)) (put_none (grammar_of node.profile) told))
     where
       none_asked : (es : List (Key × Slot S)) → all_opens node (Packet_comes segment) es ≡ []
       none_asked [] = refl
@@ -97,7 +98,7 @@ module _ {S : Type 0} (service : Machine S) (node : Node) where
   -- one of a client that is known: its slot goes, and its opening is asked for if it repeats the SYN
   pub known_packet : (segment : Segment) (key : Key) (opened : ℕ) (places : List Place) (was now : Serving S) (old mid new : List Wire) → source_of segment ≡ key
       → is_some (lookup (key_eq key) was.slots.entries) ≡ true → ServingStands service node opened places was → now.next.0 ≡ initial_number node.isn opened
-      → AllSlotsGo service node (Packet_comes segment) places now.slots.entries old mid → ArePut (all_opens node (Packet_comes segment) now.slots.entries) mid new
+      → AllSlotsGo service node (Packet_comes segment) places now.slots.entries old mid → ArePut (grammar_of node.profile) (all_opens node (Packet_comes segment) now.slots.entries) mid new
       → ServingGoes service node (Packet_comes segment) opened places now old new
   known_packet segment key opened places was now old mid new from there st number goes asked =
       let placed : is_known (source_of segment) places ≡ true = known service node (source_of segment) was.slots.entries places st.slots
@@ -120,7 +121,7 @@ module _ {S : Type 0} (service : Machine S) (node : Node) where
       let rsts : refusals node (Packet_comes segment) places ≡ map To_client (as_listen node.server segment) =
       ap (λ b. if b then map To_client (as_listen node.server segment) else []) stranger in
       let opens = flat_map (opens_at node (Packet_comes segment)) (places ++ newcomers node (Packet_comes segment) opened places) in
-      let all = put_on (map To_client (as_listen node.server segment)) opens old mid new (record { wires = refused.wires; spelled = refused.spelled }) admitted.opens in record {
+      let all = put_on (grammar_of node.profile) (map To_client (as_listen node.server segment)) opens old mid new (refused.each (grammar_of node.profile)) admitted.opens in record {
         later = places ++ newcomers node (Packet_comes segment) opened places;
         packets = map To_client (as_listen node.server segment) ++ opens;
         stands = record { number = admitted.number; slots = admitted.stands };

@@ -11,6 +11,7 @@ use Rattle.seq_arith.specs.Packet.{Segment, has_ack, has_rst, has_syn}
 use Rattle.seq_arith.specs.Message.{Numbers}
 use Rattle.seq_arith.specs.Message.Body.{OpenMsg}
 use Rattle.server_trait.specs.Service.{Machine}
+use Rattle.tcp_rules.specs.Profile.{grammar_of}
 use Rattle.ft_model.specs.Connection.{told_by}
 use Rattle.ft_model.specs.Network.{Packet, source_of}
 use Rattle.ft_model.specs.Network.Packet.{To_client}
@@ -20,7 +21,7 @@ use Rattle.ft_model.specs.Node.Input.{Packet_comes}
 use Rattle.ft_model.specs.Opening.{is_syn, initial_number, numbers_for}
 use Rattle.ft_model.specs.Refusal.{as_listen, rst_at_ack}
 use Rattle.ft_model.specs.ServingTurn.{ServingTurn, concerns, is_asked, opens_at, newcomers, refusals}
-use Rattle.ft_model.specs.Wire.{Wire, wire_of, HasWire}
+use Rattle.ft_model.specs.Wire.{Wire, wire_by, HasWireBy}
 use Rattle.ft_model.proofs.Lists.{same_key, key_is, all_append, all_weaker}
 use Rattle.node_serving.specs.declared.serving.Serving.{Serving}
 use Rattle.node_serving.specs.declared.slot.Slot.{Slot}
@@ -33,7 +34,7 @@ use Rattle.node_serving.specs.Ownership.{of_key, IsFor, IsOnlyFor}
 use Rattle.node_serving.proofs.MarkedApart.{open_for, opens_of_key, rests_key, served_alone, comes}
 use Rattle.node_serving.proofs.SegmentArrival.{only_its_client, its_client}
 use Rattle.node_serving.proofs.Found.{other_last, found_last}
-use Rattle.node_serving.proofs.Keyed.{none_of, told_its, refused_for, listen_back}
+use Rattle.node_serving.proofs.Keyed.{none_of, told_is, told_its, refused_for, listen_back}
 use Rattle.node_serving.proofs.OneKey.{place_key}
 
 module _ {S : Type 0} (service : Machine S) (node : Node) (segment : Segment) where
@@ -50,7 +51,7 @@ module _ {S : Type 0} (service : Machine S) (node : Node) (segment : Segment) wh
   -- one of a client that is known
   pub known_alone : (key : Key) (was now : Serving S) (old mid new : List Wire) (opened : ℕ) → was.next.0 ≡ initial_number node.isn opened → source_of segment ≡ key
       → is_some (lookup (key_eq key) was.slots.entries) ≡ true → IsDistinct key_eq (keys_of now.slots.entries)
-      → SlotsAlone service node (Packet_comes segment) was.slots.entries now.slots.entries old mid → ArePut (all_opens node (Packet_comes segment) now.slots.entries) mid new
+      → SlotsAlone service node (Packet_comes segment) was.slots.entries now.slots.entries old mid → ArePut (grammar_of node.profile) (all_opens node (Packet_comes segment) now.slots.entries) mid new
       → ServesAlone service node (Packet_comes segment) was now old new
   known_alone key was now old mid new opened number from there distinct s asked =
       served_alone service node (Packet_comes segment) was now old mid new opened number
@@ -140,8 +141,8 @@ module _ {S : Type 0} (service : Machine S) (node : Node) (segment : Segment) wh
         none = t.places ∙ ap₂ ◌++◌ t.all_go.0 (none_came opened other)
 
     pub answers_stranger : (was now : Serving S) (told : List Wire) → is_syn segment ≡ false → KeyGoes service node (Packet_comes segment) key None was now told
-        → of_key key told ≡ map wire_of (map To_client (as_listen node.server segment))
-    answers_stranger was now told other g = g.wires ∙ ap (map wire_of) (go g.turn)
+        → of_key (grammar_of node.profile) key told ≡ map (wire_by (grammar_of node.profile)) (map To_client (as_listen node.server segment))
+    answers_stranger was now told other g = g.wires ∙ ap (map (wire_by (grammar_of node.profile))) (go g.turn)
       where
         its : coming_to node key (Packet_comes segment) ≡ Packet_comes segment
         its = comes service node (Packet_comes segment) key (its_client node segment key mine from)
@@ -191,7 +192,7 @@ module _ {S : Type 0} (service : Machine S) (node : Node) (segment : Segment) wh
     opens_newcomer opened pending after sent syn few (inr p) = absurd (omega (arith, few, p.full))
 
     -- what the other keys have of it
-    rest_alone : (was now : Serving S) (old new : List Wire) (opened : ℕ) → was.next.0 ≡ initial_number node.isn opened → (put : IsOnlyFor key old new)
+    rest_alone : (was now : Serving S) (old new : List Wire) (opened : ℕ) → was.next.0 ≡ initial_number node.isn opened → (put : IsOnlyFor (grammar_of node.profile) key old new)
         → ((k : Key) → key_eq key k ≡ false → slot_of k now ≡ slot_of k was)
         → ((place : Option Place) → StandsFor service node key (slot_of key was) place → KeyGoes service node (Packet_comes segment) key place was now put.told)
         → ServesAlone service node (Packet_comes segment) was now old new
@@ -200,7 +201,7 @@ module _ {S : Type 0} (service : Machine S) (node : Node) (segment : Segment) wh
       put = put.put;
       others = record {
         slots = λ k e. same k (other_key k e);
-        whose = all_weaker (IsFor key) (IsForSubject node (Packet_comes segment)) put.told (λ w a. (key, its_client node segment key mine from, a)) put.alone;
+        whose = all_weaker (IsFor (grammar_of node.profile) key) (IsForSubject node (Packet_comes segment)) put.told (λ w a. (key, its_client node segment key mine from, a)) put.alone;
       };
       alone = λ k place st near. go k place st (key_eq key k) refl;
     }
@@ -215,7 +216,7 @@ module _ {S : Type 0} (service : Machine S) (node : Node) (segment : Segment) wh
             subst (λ x. KeyGoes service node (Packet_comes segment) x place was now put.told) its (goes place (subst (λ x. StandsFor service node x (slot_of x was) place) (sym its) st))
         go k place st false t =
             rests_key service node (Packet_comes segment) k place was now put.told opened number
-            (only_its_client node segment k (subst (λ x. key_eq x k ≡ false) (sym from) t)) st (same k t) (none_of key k put.told put.alone t)
+            (only_its_client node segment k (subst (λ x. key_eq x k ≡ false) (sym from) t)) st (same k t) (none_of (grammar_of node.profile) key k put.told put.alone t)
 
     pub strange_alone : (was now : Serving S) (old mid new : List Wire) (opened : ℕ) → was.next.0 ≡ initial_number node.isn opened → lookup (key_eq key) was.slots.entries ≡ None
         → AreSent (as_listen node.server segment) old mid → Knocks node segment key was.next.0 now.next.0 was.slots.entries now.slots.entries mid new
@@ -227,8 +228,8 @@ module _ {S : Type 0} (service : Machine S) (node : Node) (segment : Segment) wh
         rsts : List Packet
         rsts = map To_client (as_listen node.server segment)
 
-        sent : IsOnlyFor key old mid
-        sent = refused_for key (as_listen node.server segment) old mid (listen_back node.server segment key from) refused
+        sent : IsOnlyFor (grammar_of node.profile) key old mid
+        sent = refused_for (grammar_of node.profile) key (as_listen node.server segment) old mid (listen_back node.server segment key from) refused
 
         its : coming_to node key (Packet_comes segment) ≡ Packet_comes segment
         its = comes service node (Packet_comes segment) key (its_client node segment key mine from)
@@ -239,8 +240,8 @@ module _ {S : Type 0} (service : Machine S) (node : Node) (segment : Segment) wh
             → ServesAlone service node (Packet_comes segment) was now old new
         waits w turn = rest_alone was now old new opened number put (λ k t. ap (lookup (key_eq k)) w.slots) (λ place st. at place (subst (λ s. StandsFor service node key s place) gone st))
           where
-            put : IsOnlyFor key old new
-            put = subst (IsOnlyFor key old) (sym w.silent) sent
+            put : IsOnlyFor (grammar_of node.profile) key old new
+            put = subst (IsOnlyFor (grammar_of node.profile) key old) (sym w.silent) sent
 
             at : (place : Option Place) → StandsFor service node key None place → KeyGoes service node (Packet_comes segment) key place was now put.told
             at (Some q) x = absurd x
@@ -251,8 +252,8 @@ module _ {S : Type 0} (service : Machine S) (node : Node) (segment : Segment) wh
               number = number;
               stands = subst (λ s. StandsFor service node key s None) (sym (ap (lookup (key_eq key)) w.slots ∙ gone)) tt;
               turn = turn;
-              wires = told_its key put.told rsts put.alone (Rattle.node_serving.proofs.Keyed.told_is old new put.told rsts put.put (w.silent ∙ refused.wires)) refused.spelled;
-              spelled = refused.spelled;
+              wires = told_its (grammar_of node.profile) key put.told rsts put.alone (told_is (grammar_of node.profile) old new put.told rsts put.put (w.silent ∙ (refused.each (grammar_of node.profile)).wires)) (refused.each (grammar_of node.profile)).spelled;
+              spelled = (refused.each (grammar_of node.profile)).spelled;
             }
 
         -- one is
@@ -266,22 +267,22 @@ module _ {S : Type 0} (service : Machine S) (node : Node) (segment : Segment) wh
             numbers : numbers_of key o.opening ≡ numbers_for node.isn opened segment
             numbers = o.numbers ∙ ap (λ n. let x : Numbers = record { key = source_of segment; cisn = segment.head.seq; sisn = n; mss = Rattle.seq_arith.specs.Packet.segment_size segment.head.mss } in x) number
 
-            put : IsOnlyFor key old new
+            put : IsOnlyFor (grammar_of node.profile) key old new
             put = record {
-              told = sent.told ++ map wire_of (asks ∷ []);
-              put = o.asked.wires ∙ (ap (λ ws. ws ++ map wire_of (asks ∷ [])) sent.put ∙ append_assoc old sent.told (map wire_of (asks ∷ [])));
-              alone = all_append (IsFor key) sent.told (map wire_of (asks ∷ [])) sent.alone (open_for node.boot (numbers_of key o.opening) key refl o.asked.spelled.0, tt);
+              told = sent.told ++ map (wire_by (grammar_of node.profile)) (asks ∷ []);
+              put = o.asked.wires ∙ (ap (λ ws. ws ++ map (wire_by (grammar_of node.profile)) (asks ∷ [])) sent.put ∙ append_assoc old sent.told (map (wire_by (grammar_of node.profile)) (asks ∷ [])));
+              alone = all_append (IsFor (grammar_of node.profile) key) sent.told (map (wire_by (grammar_of node.profile)) (asks ∷ [])) sent.alone (open_for (grammar_of node.profile) node.boot (numbers_of key o.opening) key refl o.asked.spelled.0, tt);
             }
 
             packets : List Packet
             packets = rsts ++ asks ∷ []
 
-            spelled : AllByRecursion HasWire packets
-            spelled = all_append HasWire rsts (asks ∷ []) refused.spelled o.asked.spelled
+            spelled : AllByRecursion (HasWireBy (grammar_of node.profile)) packets
+            spelled = all_append (HasWireBy (grammar_of node.profile)) rsts (asks ∷ []) (refused.each (grammar_of node.profile)).spelled o.asked.spelled
 
-            wires : new ≡ old ++ map wire_of packets
-            wires = o.asked.wires ∙ (ap (λ ws. ws ++ map wire_of (asks ∷ [])) refused.wires
-                ∙ (append_assoc old (map wire_of rsts) (map wire_of (asks ∷ [])) ∙ ap (λ ws. old ++ ws) (sym (map-append wire_of rsts (asks ∷ [])))))
+            wires : new ≡ old ++ map (wire_by (grammar_of node.profile)) packets
+            wires = o.asked.wires ∙ (ap (λ ws. ws ++ map (wire_by (grammar_of node.profile)) (asks ∷ [])) (refused.each (grammar_of node.profile)).wires
+                ∙ (append_assoc old (map (wire_by (grammar_of node.profile)) rsts) (map (wire_by (grammar_of node.profile)) (asks ∷ [])) ∙ ap (λ ws. old ++ ws) (sym (map-append (wire_by (grammar_of node.profile)) rsts (asks ∷ [])))))
 
             at : (place : Option Place) → StandsFor service node key None place → KeyGoes service node (Packet_comes segment) key place was now put.told
             at (Some q) x = absurd x
@@ -295,7 +296,7 @@ module _ {S : Type 0} (service : Machine S) (node : Node) (segment : Segment) wh
               turn = inl (subst (λ i. ServingTurn service node i opened [] (Opens (numbers_for node.isn opened segment) ∷ []) packets) (sym its)
                   (subst (λ n. ServingTurn service node (Packet_comes segment) opened [] (Opens (numbers_for node.isn opened segment) ∷ []) (rsts ++ told_by node.boot (OpenMsg n) ∷ [])) (sym numbers)
                   (opened_alone opened syn)));
-              wires = told_its key put.told packets put.alone (Rattle.node_serving.proofs.Keyed.told_is old new put.told packets put.put wires) spelled;
+              wires = told_its (grammar_of node.profile) key put.told packets put.alone (told_is (grammar_of node.profile) old new put.told packets put.put wires) spelled;
               spelled = spelled;
             }
 

@@ -8,6 +8,8 @@ use Rattle.ft_io.specs.declared.Key.{Key}
 use Rattle.ft_io.specs.Key.{key_eq}
 use Rattle.ft_io.proofs.Choices.{same_some}
 use Rattle.server_trait.specs.Service.{Machine}
+use Rattle.seq_arith.specs.declared.kinds.Grammar.{Grammar}
+use Rattle.tcp_rules.specs.Profile.{grammar_of}
 use Rattle.ft_model.specs.Node.{Node, Place}
 use Rattle.ft_model.specs.Node.Input.{Tick_comes}
 use Rattle.ft_model.specs.Wire.{Wire}
@@ -20,16 +22,16 @@ use Rattle.node_serving.specs.Ownership.{is_of, of_key, IsFor, IsOnlyFor}
 use Rattle.node_serving.proofs.Keyed.{none_of, goes_for}
 
 -- the packets of a key among these and those
-pub of_both : (key : Key) (first rest : List Wire) → of_key key (first ++ rest) ≡ of_key key first ++ of_key key rest
-of_both key first rest = filter-append (is_of key) first rest
+pub of_both : (grammar : Grammar) (key : Key) (first rest : List Wire) → of_key grammar key (first ++ rest) ≡ of_key grammar key first ++ of_key grammar key rest
+of_both grammar key first rest = filter-append (is_of grammar key) first rest
 
 module _ {S : Type 0} (service : Machine S) (node : Node) where
   -- one slot's tick: it tells of its own key alone, and goes by the law where it stands
   pub record TicksSlot (key : Key) (was now : Slot S) (told : List Wire) : Type 0 where
-    pub alone : AllByRecursion (IsFor key) told
+    pub alone : AllByRecursion (IsFor (grammar_of node.profile) key) told
     pub meets : (place : Option Place) → StandsFor service node key (Some was) place → KeyMeets service node Tick_comes key place (Some now) told
 
-  pub ticks_slot : (key : Key) (was now : Slot S) (old new : List Wire) (put : IsOnlyFor key old new)
+  pub ticks_slot : (key : Key) (was now : Slot S) (old new : List Wire) (put : IsOnlyFor (grammar_of node.profile) key old new)
       → ((q : Place) → SlotStands service node key was q → SlotGoes service node Tick_comes key q now old new) → TicksSlot key was now put.told
   ticks_slot key was now old new put h = record {
     alone = put.alone;
@@ -55,20 +57,20 @@ module _ {S : Type 0} (service : Machine S) (node : Node) where
       (first, rest ++ new, ap (λ x. x ++ new) is ∙ append_assoc first rest new, same, t, ticks_more i es ds rest new key s next at more tick)
 
   -- slots of other keys tell nothing of this one
-  silent : (key : Key) (i : ℕ) (was now : List (Key × Slot S)) (told : List Wire) → AllByRecursion (λ k. key_eq key k ≡ false) (keys_of was) → TicksUpTo i was now told → of_key key told ≡ []
-  silent key zero was now told other t = ap (of_key key) t.1
+  silent : (key : Key) (i : ℕ) (was now : List (Key × Slot S)) (told : List Wire) → AllByRecursion (λ k. key_eq key k ≡ false) (keys_of was) → TicksUpTo i was now told → of_key (grammar_of node.profile) key told ≡ []
+  silent key zero was now told other t = ap (of_key (grammar_of node.profile) key) t.1
   silent key (suc i) [] now told other t = absurd t
   silent key (suc i) (e ∷ es) [] told other t = absurd t
   silent key (suc i) (e ∷ es) (d ∷ ds) told other (first, rest, is, same, t, more) =
-      ap (of_key key) is ∙ (of_both key first rest ∙ (ap (λ x. x ++ of_key key rest) (none_of e.0 key first t.alone (key_eq_turns key e.0 other.0)) ∙ silent key i es ds rest other.1 more))
+      ap (of_key (grammar_of node.profile) key) is ∙ (of_both (grammar_of node.profile) key first rest ∙ (ap (λ x. x ++ of_key (grammar_of node.profile) key rest) (none_of (grammar_of node.profile) e.0 key first t.alone (key_eq_turns key e.0 other.0)) ∙ silent key i es ds rest other.1 more))
 
   -- what one key has of all the ticks: its slot's, and nothing else
   abbrev pub KeyTicked : Key → Option (Slot S) → Option (Slot S) → List Wire → Type 0
-  KeyTicked key None now told = (now ≡ None) × (of_key key told ≡ [])
-  KeyTicked key (Some was) (Some now) told = (first : List Wire) × TicksSlot key was now first × (of_key key told ≡ of_key key first)
+  KeyTicked key None now told = (now ≡ None) × (of_key (grammar_of node.profile) key told ≡ [])
+  KeyTicked key (Some was) (Some now) told = (first : List Wire) × TicksSlot key was now first × (of_key (grammar_of node.profile) key told ≡ of_key (grammar_of node.profile) key first)
   KeyTicked key (Some was) None told = ⊥
 
-  ticked_on : (key : Key) (was now : Option (Slot S)) (told rest : List Wire) → of_key key told ≡ of_key key rest → KeyTicked key was now rest → KeyTicked key was now told
+  ticked_on : (key : Key) (was now : Option (Slot S)) (told rest : List Wire) → of_key (grammar_of node.profile) key told ≡ of_key (grammar_of node.profile) key rest → KeyTicked key was now rest → KeyTicked key was now told
   ticked_on key None now told rest is t = (t.0, is ∙ t.1)
   ticked_on key (Some was) (Some now) told rest is (first, t, e) = (first, t, is ∙ e)
   ticked_on key (Some was) None told rest is t = absurd t
@@ -76,7 +78,7 @@ module _ {S : Type 0} (service : Machine S) (node : Node) where
   pub ticks_key : (key : Key) (i : ℕ) (was now : List (Key × Slot S)) (told : List Wire) → length was ≡ i → IsDistinct key_eq (keys_of was) → TicksUpTo i was now told
       → KeyTicked key (lookup (key_eq key) was) (lookup (key_eq key) now) told
   unfolding IsDistinct
-  ticks_key key zero [] now told long distinct t = (ap (lookup (key_eq key)) t.0, ap (of_key key) t.1)
+  ticks_key key zero [] now told long distinct t = (ap (lookup (key_eq key)) t.0, ap (of_key (grammar_of node.profile) key) t.1)
   ticks_key key zero (e ∷ es) now told long distinct t = absurd (omega arith)
   ticks_key key (suc i) [] now told long distinct t = absurd t
   ticks_key key (suc i) (e ∷ es) [] told long distinct t = absurd t
@@ -96,13 +98,13 @@ module _ {S : Type 0} (service : Machine S) (node : Node) where
           there true at (
             first,
             subst (λ k. TicksSlot k e.1 d.1 first) (sym its) t,
-            ap (of_key key) is ∙ (of_both key first rest
-                ∙ (ap (λ x. of_key key first ++ x) (silent key i es ds rest (subst (λ k. AllByRecursion (λ y. key_eq k y ≡ false) (keys_of es)) (sym its) distinct.0) more)
-                ∙ append-nil (of_key key first))),
+            ap (of_key (grammar_of node.profile) key) is ∙ (of_both (grammar_of node.profile) key first rest
+                ∙ (ap (λ x. of_key (grammar_of node.profile) key first ++ x) (silent key i es ds rest (subst (λ k. AllByRecursion (λ y. key_eq k y ≡ false) (keys_of es)) (sym its) distinct.0) more)
+                ∙ append-nil (of_key (grammar_of node.profile) key first))),
           )
       go false at others =
           there false at (ticked_on key (lookup (key_eq key) es) (lookup (key_eq key) ds) told rest
-          (ap (of_key key) is ∙ (of_both key first rest ∙ ap (λ x. x ++ of_key key rest) (none_of e.0 key first t.alone (key_eq_turns key e.0 at)))) others)
+          (ap (of_key (grammar_of node.profile) key) is ∙ (of_both (grammar_of node.profile) key first rest ∙ ap (λ x. x ++ of_key (grammar_of node.profile) key rest) (none_of (grammar_of node.profile) e.0 key first t.alone (key_eq_turns key e.0 at)))) others)
 
   all_whose : (i : ℕ) (was now : List (Key × Slot S)) (told : List Wire) → TicksUpTo i was now told → AllByRecursion (IsForSubject node Tick_comes) told
   all_whose zero was now told t = subst (AllByRecursion (IsForSubject node Tick_comes)) (sym t.1) tt
@@ -110,7 +112,7 @@ module _ {S : Type 0} (service : Machine S) (node : Node) where
   all_whose (suc i) (e ∷ es) [] told t = absurd t
   all_whose (suc i) (e ∷ es) (d ∷ ds) told (first, rest, is, same, t, more) =
       subst (AllByRecursion (IsForSubject node Tick_comes)) (sym is)
-      (all_append (IsForSubject node Tick_comes) first rest (all_weaker (IsFor e.0) (IsForSubject node Tick_comes) first (λ w a. (e.0, refl, a)) t.alone) (all_whose i es ds rest more))
+      (all_append (IsForSubject node Tick_comes) first rest (all_weaker (IsFor (grammar_of node.profile) e.0) (IsForSubject node Tick_comes) first (λ w a. (e.0, refl, a)) t.alone) (all_whose i es ds rest more))
 
   key_meets : (key : Key) (was now : Option (Slot S)) (place : Option Place) (told : List Wire) → KeyTicked key was now told → StandsFor service node key was place
       → KeyMeets service node Tick_comes key place now told

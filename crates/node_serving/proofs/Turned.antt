@@ -6,6 +6,7 @@ use Rattle.std.specs.List.{AllByRecursion}
 use Rattle.ft_io.specs.declared.Addr.{Addr}
 use Rattle.ft_io.specs.declared.Key.{Key}
 use Rattle.seq_arith.specs.declared.BadPacket.{BadPacket}
+use Rattle.seq_arith.specs.declared.kinds.Grammar.{Grammar}
 use Rattle.seq_arith.specs.Packet.{Segment}
 use Rattle.seq_arith.specs.PacketGrammar as packet
 use Rattle.seq_arith.specs.PacketGrammar.{payload_at, segment_in}
@@ -23,7 +24,7 @@ use Rattle.ft_model.specs.News.News.{Comes, Logged, Ticks, Begins}
 use Rattle.ft_model.specs.Point.{Point}
 use Rattle.ft_model.specs.Readable.{FitsAddr}
 use Rattle.ft_model.specs.Reads.{first_told}
-use Rattle.ft_model.specs.Wire.{Wire, wire_of, HasWire}
+use Rattle.ft_model.specs.Wire.{Wire, wire_by, HasWireBy}
 use Rattle.ft_model.specs.Wire.Party.{A_client, The_server}
 use Rattle.ft_model.proofs.Formed.{bytes_drop}
 use Rattle.ft_model.proofs.FormedLog.{lengths_drop}
@@ -34,7 +35,7 @@ use Rattle.wrapped_conn.specs.ConnState.{ConnState}
 use Rattle.wrapped_conn.specs.Sound as sound
 use Rattle.wrapped_conn.specs.Refinement as conn
 use Rattle.wrapped_conn.specs.Refinement.{StandsLive, StandsReset, Leads}
-use Rattle.wrapped_conn.specs.LoggerMessages.{AreTellable}
+use Rattle.wrapped_conn.specs.LoggerMessages.{AreTellable, grammar_by}
 use Rattle.wrapped_conn.proofs.Lending.{tells}
 use Rattle.wrapped_conn.proofs.Sendable.{FitsKey}
 use Rattle.wrapped_conn.proofs.Small.{taken_small}
@@ -81,32 +82,32 @@ bytes_behind : (xs ys : List ℕ) → AreBytes (xs ++ ys) → AreBytes ys
 bytes_behind [] ys a = a
 bytes_behind (x ∷ xs) ys a = bytes_behind xs ys a.1
 
-behind_bytes : (told : Message) → AreBytes (message.spelling told) → AreBytes (message.behind_of told.body)
-unfolding message.spelling message.spelled
-behind_bytes told bytes = bytes_behind (message.numbers_bytes (message.fields_of (message.kind_of told.body)) (message.numbers_of told.body)) (message.behind_of told.body) (bytes_behind _ _ bytes)
+behind_bytes : (grammar : Grammar) (told : Message) → AreBytes (message.spelling_by grammar told) → AreBytes (message.behind_of told.body)
+unfolding message.spelling_by message.spelled
+behind_bytes grammar told bytes = bytes_behind (message.numbers_bytes (message.fields_of (message.kind_of told.body)) (message.numbers_of told.body)) (message.behind_of told.body) (bytes_behind _ _ bytes)
 
 -- a turn's packets as bytes
-loggers_have : (key : Key) (to_logger : List Message) → AllByRecursion (IsWritten key) (map To_logger to_logger) → AllByRecursion AreBytes (map message.spelling to_logger)
-    → AllByRecursion HasWire (map To_logger to_logger)
-loggers_have key [] w b = tt
-loggers_have key (told ∷ more) w b = ((w.0, behind_bytes told b.0), loggers_have key more w.1 b.1)
+loggers_have : (grammar : Grammar) (key : Key) (to_logger : List Message) → AllByRecursion (IsWritten grammar key) (map To_logger to_logger) → AllByRecursion AreBytes (map (message.spelling_by grammar) to_logger)
+    → AllByRecursion (HasWireBy grammar) (map To_logger to_logger)
+loggers_have grammar key [] w b = tt
+loggers_have grammar key (told ∷ more) w b = ((w.0, behind_bytes grammar told b.0), loggers_have grammar key more w.1 b.1)
 
-have_wires : (key : Key) (to_client : List Segment) (to_logger : List Message) → AllByRecursion (IsWritten key) (map To_client to_client ++ map To_logger to_logger)
-    → AllByRecursion AreBytes (map packet.spelling to_client) → AllByRecursion AreBytes (map message.spelling to_logger)
-    → AllByRecursion HasWire (map To_client to_client ++ map To_logger to_logger)
-have_wires key [] to_logger w s m = loggers_have key to_logger w m
-have_wires key (segment ∷ more) to_logger w s m = ((w.0.1, payload_bytes segment w.0.1 s.0), have_wires key more to_logger w.1 s.1 m)
+have_wires : (grammar : Grammar) (key : Key) (to_client : List Segment) (to_logger : List Message) → AllByRecursion (IsWritten grammar key) (map To_client to_client ++ map To_logger to_logger)
+    → AllByRecursion AreBytes (map packet.spelling to_client) → AllByRecursion AreBytes (map (message.spelling_by grammar) to_logger)
+    → AllByRecursion (HasWireBy grammar) (map To_client to_client ++ map To_logger to_logger)
+have_wires grammar key [] to_logger w s m = loggers_have grammar key to_logger w m
+have_wires grammar key (segment ∷ more) to_logger w s m = ((w.0.1, payload_bytes segment w.0.1 s.0), have_wires grammar key more to_logger w.1 s.1 m)
 
-logger_wires : (to_logger : List Message) → map message_to_logger (map message.spelling to_logger) ≡ map wire_of (map To_logger to_logger)
-logger_wires [] = refl
-logger_wires (told ∷ more) = ap (λ ws. message_to_logger (message.spelling told) ∷ ws) (logger_wires more)
+logger_wires : (grammar : Grammar) (to_logger : List Message) → map message_to_logger (map (message.spelling_by grammar) to_logger) ≡ map (wire_by grammar) (map To_logger to_logger)
+logger_wires grammar [] = refl
+logger_wires grammar (told ∷ more) = ap (λ ws. message_to_logger (message.spelling_by grammar told) ∷ ws) (logger_wires grammar more)
 
-all_wires : (key : Key) (to_client : List Segment) (to_logger : List Message) → AllByRecursion (IsWritten key) (map To_client to_client ++ map To_logger to_logger)
-    → wires_of key (map packet.spelling to_client) (map message.spelling to_logger) ≡ map wire_of (map To_client to_client ++ map To_logger to_logger)
-all_wires key [] to_logger w = logger_wires to_logger
-all_wires key (segment ∷ more) to_logger w =
-    (λ j. record { from = The_server; to = A_client (sym w.0.0 j); bytes = packet.spelling segment } ∷ wires_of key (map packet.spelling more) (map message.spelling to_logger))
-    ∙ ap (λ ws. wire_of (To_client segment) ∷ ws) (all_wires key more to_logger w.1)
+all_wires : (grammar : Grammar) (key : Key) (to_client : List Segment) (to_logger : List Message) → AllByRecursion (IsWritten grammar key) (map To_client to_client ++ map To_logger to_logger)
+    → wires_of key (map packet.spelling to_client) (map (message.spelling_by grammar) to_logger) ≡ map (wire_by grammar) (map To_client to_client ++ map To_logger to_logger)
+all_wires grammar key [] to_logger w = logger_wires grammar to_logger
+all_wires grammar key (segment ∷ more) to_logger w =
+    (λ j. record { from = The_server; to = A_client (sym w.0.0 j); bytes = packet.spelling segment } ∷ wires_of key (map packet.spelling more) (map (message.spelling_by grammar) to_logger))
+    ∙ ap (λ ws. wire_by grammar (To_client segment) ∷ ws) (all_wires grammar key more to_logger w.1)
 
 -- where the connection stands, its point is within its ranges
 in_range : {S : Type 0} (service : Machine S) (c : ConnState S) (q : Point) → FitsKey q.key → q.mss ≤ 1460 → sound.IsSound c → conn.Stands service c q → IsInRange q
@@ -159,10 +160,15 @@ unfolding Goes
 same_size service server boot news p q sent true t = ap (λ x. x.mss) t.point
 same_size service server boot news p q sent false t = t.same.mss
 
-all_written : {S : Type 0} (service : Machine S) (server : Addr) (boot : ℕ) (news : News) (p q : Point) (sent : List Packet) (b : Bool) → FitsAddr server → IsBoot boot → IsShort news → IsInRange q
-    → p.reads_answered ≤ length p.lengths → AreLow (drop q.reads_answered q.lengths) → Goes service server boot news p q sent b → AllByRecursion (IsWritten q.key) sent
+same_batches : {S : Type 0} (service : Machine S) (server : Addr) (boot : ℕ) (news : News) (p q : Point) (sent : List Packet) (b : Bool) → Goes service server boot news p q sent b → q.batches ≡ p.batches
 unfolding Goes
-all_written service server boot news p q sent true a up short r few low t = reset_written boot news p q sent up r.key t
+same_batches service server boot news p q sent true t = ap (λ x. x.batches) t.point
+same_batches service server boot news p q sent false t = t.same.batches
+
+all_written : {S : Type 0} (service : Machine S) (server : Addr) (boot : ℕ) (news : News) (p q : Point) (sent : List Packet) (b : Bool) → FitsAddr server → IsBoot boot → IsShort news → IsInRange q
+    → p.reads_answered ≤ length p.lengths → AreLow (drop q.reads_answered q.lengths) → Goes service server boot news p q sent b → AllByRecursion (IsWritten (grammar_by q.batches) q.key) sent
+unfolding Goes
+all_written service server boot news p q sent true a up short r few low t = reset_written (grammar_by q.batches) boot news p q sent up r.key t
 all_written service server boot news p q sent false a up short r few low t =
     let below : q.reads_answered ≤ length p.lengths = subst (λ n. n ≤ length p.lengths) (sym t.reads_answered) (counts_within news p few) in
     live_written service server boot news p q sent a up short r (told_low news p q below low) t
@@ -170,9 +176,10 @@ all_written service server boot news p q sent false a up short r few low t =
 -- a turn of the connection is one of the node's
 pub acts : {S : Type 0} (service : Machine S) (server : Addr) (boot : ℕ) (news : News) (p : Point) (now : ConnState S) (segments messages : List (List ℕ))
     → IsTyped server boot p.key segments messages → IsShort news → p.mss ≤ 1460 → p.reads_answered ≤ length p.lengths → sound.IsSound now → now.local ≡ server → now.boot ≡ boot
-    → Leads service server boot news p now segments messages → Acts service server boot news p now segments messages
+    → Leads service server boot news p now segments messages → Acts (grammar_by p.batches) service server boot news p now segments messages
 unfolding IsOursAt Goes
 acts service server boot news p now segments messages typed short size few s local up l =
+    let grammar : Grammar = grammar_by p.batches in
     let q : Point = l.after in
     let b : Bool = reset_after news p in
     let key : q.key ≡ p.key = same_key service server boot news p q l.sent b l.goes in
@@ -180,24 +187,25 @@ acts service server boot news p now segments messages typed short size few s loc
     let r : IsInRange q = in_range service now q (subst FitsKey (sym key) typed.client) fits s l.stands in
     let low = unanswered_low service now q q.reset l.stands.parts s in
     let live : IsBoot boot = record { least = subst (λ n. 1 ≤ n) up s.boot; most = typed.up } in
-    let here : AllByRecursion (IsWritten p.key) l.sent =
-    subst (λ k. AllByRecursion (IsWritten k) l.sent) key (all_written service server boot news p q l.sent b typed.at live short r few low l.goes) in
+    let here : AllByRecursion (IsWritten grammar p.key) l.sent =
+    subst (λ k. AllByRecursion (IsWritten grammar k) l.sent) key
+    (subst (λ w. AllByRecursion (IsWritten (grammar_by w) q.key) l.sent) (same_batches service server boot news p q l.sent b l.goes) (all_written service server boot news p q l.sent b typed.at live short r few low l.goes)) in
     let x = l.spelled in
-    let written = subst (AllByRecursion (IsWritten p.key)) x.order here in record {
+    let written = subst (AllByRecursion (IsWritten grammar p.key)) x.order here in record {
       after = q;
       packets = l.sent;
       stands = (l.stands, record { local = local; incarnation = up; size = fits });
       key = key;
       turn = l.goes;
-      wires = (λ j. wires_of p.key (x.segments_are j) (x.messages_are j)) ∙ all_wires p.key x.to_client x.to_logger written ∙ ap (map wire_of) (sym x.order);
-      spelled = subst (AllByRecursion HasWire) (sym x.order)
-          (have_wires p.key x.to_client x.to_logger written (subst (AllByRecursion AreBytes) x.segments_are typed.sent) (subst (AllByRecursion AreBytes) x.messages_are typed.told));
+      wires = (λ j. wires_of p.key (x.segments_are j) (x.messages_are j)) ∙ all_wires grammar p.key x.to_client x.to_logger written ∙ ap (map (wire_by grammar)) (sym x.order);
+      spelled = subst (AllByRecursion (HasWireBy grammar)) (sym x.order)
+          (have_wires grammar p.key x.to_client x.to_logger written (subst (AllByRecursion AreBytes) x.segments_are typed.sent) (subst (AllByRecursion AreBytes) x.messages_are typed.told));
     }
 
 -- its packets after those of the others
-pub goes : {S : Type 0} (service : Machine S) (server : Addr) (boot : ℕ) (news : News) (p : Point) (now : ConnState S) (key : Key) (segments messages : List (List ℕ)) (old new : List Wire)
-    → p.key ≡ key → new ≡ old ++ wires_of key segments messages → Acts service server boot news p now segments messages → ConnGoes service server boot news p now old new
-goes service server boot news p now key segments messages old new is sent a = record {
+pub goes : {S : Type 0} (grammar : Grammar) (service : Machine S) (server : Addr) (boot : ℕ) (news : News) (p : Point) (now : ConnState S) (key : Key) (segments messages : List (List ℕ)) (old new : List Wire)
+    → p.key ≡ key → new ≡ old ++ wires_of key segments messages → Acts grammar service server boot news p now segments messages → ConnGoes grammar service server boot news p now old new
+goes grammar service server boot news p now key segments messages old new is sent a = record {
   after = a.after;
   packets = a.packets;
   stands = a.stands;

@@ -16,11 +16,13 @@ use Rattle.seq_arith.specs.Packet.{Segment}
 use Rattle.seq_arith.specs.PacketGrammar as packets
 use Rattle.seq_arith.specs.Message.{Body, Message, Numbers}
 use Rattle.seq_arith.specs.Message.{Body as body}
-use Rattle.seq_arith.specs.MessageGrammar.{reading, reading_of, reading_if, spelling, spelled, header, message_in, kind_numbered, kind_of, numbers_of, behind_of, fields_of, numbers_bytes, number_bytes, number_in, has_length, is_sound_in}
+use Rattle.seq_arith.specs.declared.kinds.Grammar.{Grammar}
+use Rattle.seq_arith.specs.MessageGrammar.{reading_of, reading_if, spelled, version, header, message_in, kind_numbered, kind_of, numbers_of, behind_of, fields_of, numbers_bytes, number_bytes, number_in, has_length, is_sound_in, reading_by, spelling_by}
 use Rattle.seq_arith.proofs.MessageSpelling.{kind_back, number_back}
 use Rattle.server_trait.specs.Service.{Served, Machine}
 use Rattle.tcp_rules.specs.Profile.{Profile}
-use Rattle.ft_model.specs.Copy.{datas}
+use Rattle.tcp_rules.specs.Profiles.{profile_of}
+use Rattle.ft_model.specs.Copy.{datas, batch, with_more}
 use Rattle.ft_model.specs.Wire.{Wire}
 use Rattle.ft_model.proofs.Lists.{same_key, key_is, all_append}
 use Rattle.logger_wire.specs.declared.Body.{Body as Said}
@@ -46,97 +48,97 @@ unless : (P : Message → Type 0) (b : Bool) (e : BadMsg) (r : Result Message Ba
 unless P true e r h = tt
 unless P false e r h = h
 
-reads_so : (bytes : List ℕ) (kind : Kind) (P : Message → Type 0) → kind_numbered (slice_index bytes 3) ≡ Some kind → P (message_in kind bytes) → IfOk (reading bytes) P
-unfolding reading reading_of
-reads_so bytes kind P is h =
-    let sound : Result Message BadMsg = if not (is_sound_in kind bytes) then Err bad.Field else Ok (message_in kind bytes) in
+reads_so : (grammar : Grammar) (bytes : List ℕ) (kind : Kind) (P : Message → Type 0) → kind_numbered (slice_index bytes 3) ≡ Some kind → P (message_in kind bytes) → IfOk (reading_by grammar bytes) P
+unfolding reading_by reading_of
+reads_so grammar bytes kind P is h =
+    let sound : Result Message BadMsg = if not (is_sound_in grammar kind bytes) then Err bad.Field else Ok (message_in kind bytes) in
     let summed : Result Message BadMsg = if not (checksum bytes == 0) then Err bad.Sum else sound in
     let long : Bool = not (word_at bytes 4 == length bytes) || not (has_length kind (length bytes)) in
-    let inner : IfOk (reading_if (Some kind) bytes) P =
-    unless P long bad.Length summed (unless P (not (checksum bytes == 0)) bad.Sum sound (unless P (not (is_sound_in kind bytes)) bad.Field (Ok (message_in kind bytes)) h)) in
-    let kinded : Result Message BadMsg = reading_if (kind_numbered (slice_index bytes 3)) bytes in
-    let versioned : Result Message BadMsg = if not (slice_index bytes 2 == 1) then Err bad.Version else kinded in
+    let inner : IfOk (reading_if grammar (Some kind) bytes) P =
+    unless P long bad.Length summed (unless P (not (checksum bytes == 0)) bad.Sum sound (unless P (not (is_sound_in grammar kind bytes)) bad.Field (Ok (message_in kind bytes)) h)) in
+    let kinded : Result Message BadMsg = reading_if grammar (kind_numbered (slice_index bytes 3)) bytes in
+    let versioned : Result Message BadMsg = if not (slice_index bytes 2 == version grammar) then Err bad.Version else kinded in
     let magical : Result Message BadMsg = if not (word_at bytes 0 == 18004) then Err bad.Magic else versioned in
     unless P (nat_lt (length bytes) 16) bad.Short magical (unless P (not (word_at bytes 0 == 18004)) bad.Magic versioned
-    (unless P (not (slice_index bytes 2 == 1)) bad.Version kinded (subst (λ o. IfOk (reading_if o bytes) P) (sym is) inner)))
+    (unless P (not (slice_index bytes 2 == version grammar)) bad.Version kinded (subst (λ o. IfOk (reading_if grammar o bytes) P) (sym is) inner)))
 
 -- the kind of a spelling stands in its place, ..
-kind_there : (message : Message) (check : ℕ) → kind_numbered (slice_index (spelled message check) 3) ≡ Some (kind_of message.body)
+kind_there : (grammar : Grammar) (message : Message) (check : ℕ) → kind_numbered (slice_index (spelled grammar message check) 3) ≡ Some (kind_of message.body)
 unfolding spelled header two
-kind_there message check = kind_back (kind_of message.body)
+kind_there grammar message check = kind_back (kind_of message.body)
 
 -- .. and so does the key, after the header
-ip_there : (message : Message) (check ip : ℕ) (more : List ℕ) → numbers_bytes (fields_of (kind_of message.body)) (numbers_of message.body) ≡ number_bytes 4 ip ++ more → ip < 2 ^ 32
-    → number_in 4 (drop 16 (spelled message check)) ≡ ip
+ip_there : (grammar : Grammar) (message : Message) (check ip : ℕ) (more : List ℕ) → numbers_bytes (fields_of (kind_of message.body)) (numbers_of message.body) ≡ number_bytes 4 ip ++ more → ip < 2 ^ 32
+    → number_in 4 (drop 16 (spelled grammar message check)) ≡ ip
 unfolding spelled header two number_bytes
-ip_there message check ip more is low =
+ip_there grammar message check ip more is low =
     ap (λ xs. number_in 4 (xs ++ behind_of message.body)) is ∙ (ap (number_in 4) (append_assoc (number_bytes 4 ip) more (behind_of message.body))
     ∙ number_back 4 ip (more ++ behind_of message.body) (omega (arith, low)))
 
-port_there : (message : Message) (check ip port : ℕ) (more : List ℕ)
+port_there : (grammar : Grammar) (message : Message) (check ip port : ℕ) (more : List ℕ)
     → numbers_bytes (fields_of (kind_of message.body)) (numbers_of message.body) ≡ number_bytes 4 ip ++ (number_bytes 2 port ++ more) → port < 2 ^ 16
-    → number_in 2 (drop 4 (drop 16 (spelled message check))) ≡ port
+    → number_in 2 (drop 4 (drop 16 (spelled grammar message check))) ≡ port
 unfolding spelled header two number_bytes
-port_there message check ip port more is low =
+port_there grammar message check ip port more is low =
     ap (λ xs. number_in 2 (drop 4 (xs ++ behind_of message.body))) is ∙ (ap (number_in 2) (append_assoc (number_bytes 2 port) more (behind_of message.body))
     ∙ number_back 2 port (more ++ behind_of message.body) (omega (arith, low)))
 
-key_there : (message : Message) (check : ℕ) (key : Key) (more : List ℕ)
+key_there : (grammar : Grammar) (message : Message) (check : ℕ) (key : Key) (more : List ℕ)
     → numbers_bytes (fields_of (kind_of message.body)) (numbers_of message.body) ≡ number_bytes 4 key.ip ++ (number_bytes 2 key.port ++ more) → FitsKey key
-    → (let there : Key = record { ip = number_in 4 (drop 16 (spelled message check)); port = number_in 2 (drop 4 (drop 16 (spelled message check))) } in key_eq there key) ≡ true
-key_there message check key more is fits =
-    ap₂ (λ (x y : ℕ). let there : Key = record { ip = x; port = y } in key_eq there key) (ip_there message check key.ip (number_bytes 2 key.port ++ more) is fits.ip)
-    (port_there message check key.ip key.port more is fits.port) ∙ key_is key
+    → (let there : Key = record { ip = number_in 4 (drop 16 (spelled grammar message check)); port = number_in 2 (drop 4 (drop 16 (spelled grammar message check))) } in key_eq there key) ≡ true
+key_there grammar message check key more is fits =
+    ap₂ (λ (x y : ℕ). let there : Key = record { ip = x; port = y } in key_eq there key) (ip_there grammar message check key.ip (number_bytes 2 key.port ++ more) is fits.ip)
+    (port_there grammar message check key.ip key.port more is fits.port) ∙ key_is key
 
 -- a message that tells of a key is read as one of it
-told_there : (message : Message) (own key : Key) (kind : Kind) (more : List ℕ) → kind_of message.body ≡ kind
+told_there : (grammar : Grammar) (message : Message) (own key : Key) (kind : Kind) (more : List ℕ) → kind_of message.body ≡ kind
     → numbers_bytes (fields_of (kind_of message.body)) (numbers_of message.body) ≡ number_bytes 4 own.ip ++ (number_bytes 2 own.port ++ more) → FitsKey key → key_eq own key ≡ true
     → ((bytes : List ℕ) → (let there : Key = record { ip = number_in 4 (drop 16 bytes); port = number_in 2 (drop 4 (drop 16 bytes)) } in key_eq there key) ≡ true
     → tells_of (message_in kind bytes).body key ≡ true)
-    → IfOk (reading (spelling message)) (λ read. tells_of read.body key ≡ true)
-unfolding spelling
-told_there message own key kind more which is fits its says =
-    let check : ℕ = checksum (spelled message 0) in
+    → IfOk (reading_by grammar (spelling_by grammar message)) (λ read. tells_of read.body key ≡ true)
+unfolding spelling_by
+told_there grammar message own key kind more which is fits its says =
+    let check : ℕ = checksum (spelled grammar message 0) in
     let same : own ≡ key = same_key own key its in
-    reads_so (spelled message check) kind (λ read. tells_of read.body key ≡ true) (kind_there message check ∙ ap Some which)
-    (says (spelled message check)
-    (key_there message check key more (is ∙ ap (λ (k : Key). number_bytes 4 k.ip ++ (number_bytes 2 k.port ++ more)) same) fits))
+    reads_so grammar (spelled grammar message check) kind (λ read. tells_of read.body key ≡ true) (kind_there grammar message check ∙ ap Some which)
+    (says (spelled grammar message check)
+    (key_there grammar message check key more (is ∙ ap (λ (k : Key). number_bytes 4 k.ip ++ (number_bytes 2 k.port ++ more)) same) fits))
 
-pub reads_of : (boot : ℕ) (said : Body) (key : Key) → FitsKey key → tells_of said key ≡ true
-    → (let message : Message = record { boot = boot; body = said } in IfOk (reading (spelling message)) (λ read. tells_of read.body key ≡ true))
+pub reads_of : (grammar : Grammar) (boot : ℕ) (said : Body) (key : Key) → FitsKey key → tells_of said key ≡ true
+    → (let message : Message = record { boot = boot; body = said } in IfOk (reading_by grammar (spelling_by grammar message)) (λ read. tells_of read.body key ≡ true))
 unfolding message_in
-reads_of boot (body.OpenMsg numbers) key fits its = told_there (record { boot = boot; body = body.OpenMsg numbers }) numbers.key key kinds.Open _ refl refl fits its (λ bytes there. there)
-reads_of boot (body.DataMsg part) key fits its = told_there (record { boot = boot; body = body.DataMsg part }) part.key key kinds.Data _ refl refl fits its (λ bytes there. there)
-reads_of boot (body.ReadMsg own index length) key fits its =
-    told_there (record { boot = boot; body = body.ReadMsg own index length }) own key kinds.Read _ refl refl fits its (λ bytes there. there)
-reads_of boot (body.DoneMsg own) key fits its = told_there (record { boot = boot; body = body.DoneMsg own }) own key kinds.Done _ refl refl fits its (λ bytes there. there)
-reads_of boot body.HelloMsg key fits its = absurd (true≢false (sym its))
-reads_of boot (body.SummaryMsg n) key fits its = absurd (true≢false (sym its))
-reads_of boot (body.ListMsg n) key fits its = absurd (true≢false (sym its))
-reads_of boot (body.EntryMsg n h) key fits its = absurd (true≢false (sym its))
-reads_of boot (body.BytesMsg k n) key fits its = absurd (true≢false (sym its))
-reads_of boot (body.PartMsg k n b) key fits its = absurd (true≢false (sym its))
-reads_of boot (body.CutsMsg k n) key fits its = absurd (true≢false (sym its))
-reads_of boot (body.LensMsg k n l) key fits its = absurd (true≢false (sym its))
-reads_of boot (body.OpenedMsg n) key fits its = absurd (true≢false (sym its))
-reads_of boot (body.StableMsg k) key fits its = absurd (true≢false (sym its))
-reads_of boot (body.ReadsMsg k) key fits its = absurd (true≢false (sym its))
-reads_of boot (body.EndedMsg k) key fits its = absurd (true≢false (sym its))
-reads_of boot (body.StaleMsg n) key fits its = absurd (true≢false (sym its))
-reads_of boot (body.FullMsg k) key fits its = absurd (true≢false (sym its))
+reads_of grammar boot (body.OpenMsg numbers) key fits its = told_there grammar (record { boot = boot; body = body.OpenMsg numbers }) numbers.key key kinds.Open _ refl refl fits its (λ bytes there. there)
+reads_of grammar boot (body.DataMsg part) key fits its = told_there grammar (record { boot = boot; body = body.DataMsg part }) part.key key kinds.Data _ refl refl fits its (λ bytes there. there)
+reads_of grammar boot (body.ReadMsg own index length) key fits its =
+    told_there grammar (record { boot = boot; body = body.ReadMsg own index length }) own key kinds.Read _ refl refl fits its (λ bytes there. there)
+reads_of grammar boot (body.DoneMsg own) key fits its = told_there grammar (record { boot = boot; body = body.DoneMsg own }) own key kinds.Done _ refl refl fits its (λ bytes there. there)
+reads_of grammar boot body.HelloMsg key fits its = absurd (true≢false (sym its))
+reads_of grammar boot (body.SummaryMsg n) key fits its = absurd (true≢false (sym its))
+reads_of grammar boot (body.ListMsg n) key fits its = absurd (true≢false (sym its))
+reads_of grammar boot (body.EntryMsg n h) key fits its = absurd (true≢false (sym its))
+reads_of grammar boot (body.BytesMsg k n) key fits its = absurd (true≢false (sym its))
+reads_of grammar boot (body.PartMsg k n b) key fits its = absurd (true≢false (sym its))
+reads_of grammar boot (body.CutsMsg k n) key fits its = absurd (true≢false (sym its))
+reads_of grammar boot (body.LensMsg k n l) key fits its = absurd (true≢false (sym its))
+reads_of grammar boot (body.OpenedMsg n) key fits its = absurd (true≢false (sym its))
+reads_of grammar boot (body.StableMsg k) key fits its = absurd (true≢false (sym its))
+reads_of grammar boot (body.ReadsMsg k) key fits its = absurd (true≢false (sym its))
+reads_of grammar boot (body.EndedMsg k) key fits its = absurd (true≢false (sym its))
+reads_of grammar boot (body.StaleMsg n) key fits its = absurd (true≢false (sym its))
+reads_of grammar boot (body.FullMsg k) key fits its = absurd (true≢false (sym its))
 
 -- the segments and the messages that a connection gives out in a turn are its key's
-pub wires_for : (boot : ℕ) (key : Key) (segments : List (List ℕ)) (bodies : List Body) → FitsKey key → AllByRecursion (λ said. tells_of said key ≡ true) bodies
-    → AllByRecursion (IsFor key) (wires_of key segments (told.spelled boot bodies))
-wires_for boot key segments bodies fits all = all_append (IsFor key) (map (segment_to key) segments) (map message_to_logger (told.spelled boot bodies)) (sent segments) (tell bodies all)
+pub wires_for : (wide : Bool) (boot : ℕ) (key : Key) (segments : List (List ℕ)) (bodies : List Body) → FitsKey key → AllByRecursion (λ said. tells_of said key ≡ true) bodies
+    → AllByRecursion (IsFor (told.grammar_by wide) key) (wires_of key segments (told.spelled wide boot bodies))
+wires_for wide boot key segments bodies fits all = all_append (IsFor (told.grammar_by wide) key) (map (segment_to key) segments) (map message_to_logger (told.spelled wide boot bodies)) (sent segments) (tell bodies all)
   where
-    sent : (xs : List (List ℕ)) → AllByRecursion (IsFor key) (map (segment_to key) xs)
+    sent : (xs : List (List ℕ)) → AllByRecursion (IsFor (told.grammar_by wide) key) (map (segment_to key) xs)
     sent [] = tt
     sent (x ∷ xs) = (key_is key, sent xs)
 
-    tell : (more : List Body) → AllByRecursion (λ said. tells_of said key ≡ true) more → AllByRecursion (IsFor key) (map message_to_logger (told.spelled boot more))
+    tell : (more : List Body) → AllByRecursion (λ said. tells_of said key ≡ true) more → AllByRecursion (IsFor (told.grammar_by wide) key) (map message_to_logger (told.spelled wide boot more))
     tell [] a = tt
-    tell (said ∷ more) a = (reads_of boot said key fits a.0, tell more a.1)
+    tell (said ∷ more) a = (reads_of (told.grammar_by wide) boot said key fits a.0, tell more a.1)
 
 -- what each turn tells is of the connection's own key
 datas_own : (key : Key) (k acked offset : ℕ) (bytes : List ℕ) (fin : Bool) → AllByRecursion (λ said. tells_of said key ≡ true) (datas k key acked offset bytes fin)
@@ -147,18 +149,34 @@ datas_own key (suc k) acked offset bytes fin = go (nat_lt 1460 (length bytes)) (
     go : (long some : Bool) → AllByRecursion (λ said. tells_of said key ≡ true) (datas k key acked (offset + 1460) (drop 1460 bytes) fin)
         → AllByRecursion (λ said. tells_of said key ≡ true)
         (if long
-        then body.DataMsg (record { key = key; offset = offset; acked = acked; fin = false; bytes = take 1460 bytes }) ∷ datas k key acked (offset + 1460) (drop 1460 bytes) fin
-        else (if some then body.DataMsg (record { key = key; offset = offset; acked = acked; fin = fin; bytes = bytes }) ∷ [] else []))
+        then body.DataMsg (record { key = key; offset = offset; acked = acked; fin = false; more = false; bytes = take 1460 bytes }) ∷ datas k key acked (offset + 1460) (drop 1460 bytes) fin
+        else (if some then body.DataMsg (record { key = key; offset = offset; acked = acked; fin = fin; more = false; bytes = bytes }) ∷ [] else []))
     go true some rest = (key_is key, rest)
     go false true rest = (key_is key, tt)
     go false false rest = tt
 
+-- a Data that another follows tells of the same key
+more_told : (said : Body) (key : Key) → tells_of (with_more said) key ≡ tells_of said key
+more_told (body.DataMsg part) key = refl
+more_told _ key = refl
+
+batch_own : (key : Key) (bodies : List Body) → AllByRecursion (λ said. tells_of said key ≡ true) bodies → AllByRecursion (λ said. tells_of said key ≡ true) (batch bodies)
+unfolding batch
+batch_own key [] a = tt
+batch_own key (last ∷ []) a = a
+batch_own key (first ∷ next ∷ others) a = (more_told first key ∙ a.0, batch_own key (next ∷ others) a.1)
+
 copied_own : {S : Type 0} (segment : Segment) (old c : ConnState S) → AllByRecursion (λ said. tells_of said c.key ≡ true) (told.copies (before_segment old segment) segment c)
 unfolding told.copies
-copied_own segment old c = una (told.own_data segment c ++ told.further_data (before_segment old segment) segment c)
+copied_own segment old c = batched c.batches (told.or_una (una_units old) c (told.own_data segment c ++ told.further_data (before_segment old segment) segment c))
+    (una (told.own_data segment c ++ told.further_data (before_segment old segment) segment c)
     (all_append (λ said. tells_of said c.key ≡ true) (told.own_data segment c) (told.further_data (before_segment old segment) segment c)
-    (own (is_some_copied (copied c.south segment))) (datas_own c.key _ _ _ _ _))
+    (own (is_some_copied (copied c.south segment))) (datas_own c.key _ _ _ _ _)))
   where
+    batched : (b : Bool) (bodies : List Body) → AllByRecursion (λ said. tells_of said c.key ≡ true) bodies → AllByRecursion (λ said. tells_of said c.key ≡ true) (told.in_batch b bodies)
+    batched false bodies a = a
+    batched true bodies a = batch_own c.key bodies a
+
     own : (b : Bool) → AllByRecursion (λ said. tells_of said c.key ≡ true) (if b then body.DataMsg (told.part_of c (copied c.south segment)) ∷ [] else [])
     own true = (key_is c.key, tt)
     own false = tt
@@ -185,11 +203,11 @@ done_own c = go (told.is_done c.stage)
 -- all that leaves in a turn of a connection is of its key
 pub record TellsOwn {S : Type 0} (c : ConnState S) (messages : List (List ℕ)) : Type 0 where
   pub bodies : List Body
-  pub are : messages ≡ told.spelled c.boot bodies
+  pub are : messages ≡ told.spelled c.batches c.boot bodies
   pub own : AllByRecursion (λ said. tells_of said c.key ≡ true) bodies
 
 goes_own : {S : Type 0} (bodies : List Body) (reads : List ReadRecord) (c : ConnState S) (messages : List (List ℕ)) → AllByRecursion (λ said. tells_of said c.key ≡ true) bodies
-    → messages ≡ told.spelled c.boot (bodies ++ messages_of c.key reads) → TellsOwn c messages
+    → messages ≡ told.spelled c.batches c.boot (bodies ++ messages_of c.key reads) → TellsOwn c messages
 goes_own bodies reads c messages own told_is = record {
   bodies = bodies ++ messages_of c.key reads;
   are = told_is;
@@ -208,7 +226,7 @@ receives_own service segment c now segments messages r =
     let same = arrived_same segment c in
     let g = goes_own (told.copies (before_segment c segment) segment (arrived segment c)) (new_reads (arrived segment c) now) (arrived segment c) messages (copied_own segment c (arrived segment c)) k.told in record {
       bodies = g.bodies;
-      are = g.are ∙ ap (λ b. told.spelled b g.bodies) same.boot;
+      are = g.are ∙ ap₂ (λ w b. told.spelled w b g.bodies) same.batches same.boot;
       own = subst (λ o. AllByRecursion (λ said. tells_of said o ≡ true) g.bodies) same.key g.own;
     }))
 
@@ -236,16 +254,17 @@ ticks_own c now segments messages r =
 
 -- a connection stays that of its client in its incarnation
 pub belongs_on : {S : Type 0} (who : Identity) (key : Key) (c now : ConnState S) → Belongs who key c → IsSame c now → IsSound now → Belongs who key now
-belongs_on who key c now b same s = record { sound = s; client = same.key ∙ b.client; incarnation = same.boot ∙ b.incarnation }
+belongs_on who key c now b same s = record { sound = s; client = same.key ∙ b.client; incarnation = same.boot ∙ b.incarnation; batches = same.batches ∙ b.batches }
 
 -- a connection of the key, and what leaves after what was sent
-pub leaves_for : {S : Type 0} (key : Key) (c : ConnState S) (segments messages : List (List ℕ)) (old new : List Wire) → FitsKey key → c.key ≡ key → TellsOwn c messages
-    → new ≡ old ++ wires_of key segments messages → IsOnlyFor key old new
-leaves_for key c segments messages old new fits own t put = record {
+pub leaves_for : {S : Type 0} (grammar : Grammar) (key : Key) (c : ConnState S) (segments messages : List (List ℕ)) (old new : List Wire) → FitsKey key → c.key ≡ key → told.grammar_by c.batches ≡ grammar
+    → TellsOwn c messages → new ≡ old ++ wires_of key segments messages → IsOnlyFor grammar key old new
+leaves_for grammar key c segments messages old new fits own its t put = record {
   told = wires_of key segments messages;
   put = put;
-  alone = subst (λ ms. AllByRecursion (IsFor key) (wires_of key segments ms)) (sym t.are)
-      (wires_for c.boot key segments t.bodies fits (subst (λ k. AllByRecursion (λ said. tells_of said k ≡ true) t.bodies) own t.own));
+  alone = subst (λ ms. AllByRecursion (IsFor grammar key) (wires_of key segments ms)) (sym t.are)
+      (subst (λ g. AllByRecursion (IsFor g key) (wires_of key segments (told.spelled c.batches c.boot t.bodies))) its
+      (wires_for c.batches c.boot key segments t.bodies fits (subst (λ k. AllByRecursion (λ said. tells_of said k ≡ true) t.bodies) own t.own)));
 }
 
 -- what holds of the packet that a codec accepts
@@ -257,17 +276,17 @@ came_ok bytes P ok h = go (packets.reading bytes) ok h
     go (Err e) k x = absurd (true≢false (sym k))
 
 -- a new connection
-pub first_own : {S : Type 0} (after : S → List ℕ → Served S) (profile : Profile) (boot : ℕ) (server : Addr) (numbers : Numbers) (fresh : S) (now : ConnState S) (segments messages : List (List ℕ)) (old new : List Wire)
-    → FitsKey numbers.key → Starts after (first_conn_in profile boot numbers.key server numbers.cisn numbers.sisn numbers.mss fresh) now segments messages
-    → new ≡ old ++ wires_of numbers.key segments messages → IsOnlyFor numbers.key old new
+pub first_own : {S : Type 0} (after : S → List ℕ → Served S) (profile : Profile) (boot : ℕ) (server : Addr) (numbers : Numbers) (fresh : S) (greeting : List ℕ) (now : ConnState S) (segments messages : List (List ℕ)) (old new : List Wire)
+    → FitsKey numbers.key → Starts after (first_conn_in profile boot numbers.key server numbers.cisn numbers.sisn numbers.mss fresh greeting) now segments messages
+    → new ≡ old ++ wires_of numbers.key segments messages → IsOnlyFor (told.grammar_by profile.batches) numbers.key old new
 unfolding first_conn_in
-first_own after profile boot server numbers fresh now segments messages old new fits r put =
-    let c = first_conn_in profile boot numbers.key server numbers.cisn numbers.sisn numbers.mss fresh in
-    leaves_for numbers.key c segments messages old new fits refl (starts_own after c now segments messages r) put
+first_own after profile boot server numbers fresh greeting now segments messages old new fits r put =
+    let c = first_conn_in profile boot numbers.key server numbers.cisn numbers.sisn numbers.mss fresh greeting in
+    leaves_for (told.grammar_by profile.batches) numbers.key c segments messages old new fits refl refl (starts_own after c now segments messages r) put
 
-pub first_belongs : {S : Type 0} (service : Machine S) (profile : Profile) (who : Identity) (server : Addr) (numbers : Numbers) (now : ConnState S) (segments messages : List (List ℕ))
-    → Starts service.after (first_conn_in profile who.boot numbers.key server numbers.cisn numbers.sisn numbers.mss service.fresh) now segments messages → IsSound now → Belongs who numbers.key now
+pub first_belongs : {S : Type 0} (service : Machine S) (who : Identity) (server : Addr) (numbers : Numbers) (now : ConnState S) (segments messages : List (List ℕ))
+    → Starts service.after (first_conn_in (profile_of who.profile) who.boot numbers.key server numbers.cisn numbers.sisn numbers.mss service.fresh service.greeting) now segments messages → IsSound now → Belongs who numbers.key now
 unfolding first_conn_in
-first_belongs service profile who server numbers now segments messages r s =
-    let same = starts_same service (first_conn_in profile who.boot numbers.key server numbers.cisn numbers.sisn numbers.mss service.fresh) now segments messages r in
-    record { sound = s; client = same.key; incarnation = same.boot }
+first_belongs service who server numbers now segments messages r s =
+    let same = starts_same service (first_conn_in (profile_of who.profile) who.boot numbers.key server numbers.cisn numbers.sisn numbers.mss service.fresh service.greeting) now segments messages r in
+    record { sound = s; client = same.key; incarnation = same.boot; batches = same.batches }

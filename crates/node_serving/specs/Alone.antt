@@ -8,13 +8,14 @@ use Rattle.ft_io.specs.declared.Addr.{Addr}
 use Rattle.ft_io.specs.declared.Key.{Key}
 use Rattle.ft_io.specs.Key.{key_eq}
 use Rattle.server_trait.specs.Service.{Machine}
+use Rattle.tcp_rules.specs.Profile.{grammar_of}
 use Rattle.ft_model.specs.Lawful.{IsNearTo}
 use Rattle.ft_model.specs.Network.{Packet}
 use Rattle.ft_model.specs.Node.{Node, Place, Input}
 use Rattle.ft_model.specs.Node.Input.{Packet_comes, Noise_comes}
 use Rattle.ft_model.specs.Opening.{initial_number, is_syn}
 use Rattle.ft_model.specs.ServingTurn.{PlaceTurn, ServingTurn, concerns}
-use Rattle.ft_model.specs.Wire.{Wire, wire_of, HasWire}
+use Rattle.ft_model.specs.Wire.{Wire, wire_by, HasWireBy}
 use Rattle.node_serving.specs.declared.serving.Serving.{Serving}
 use Rattle.node_serving.specs.declared.slot.Slot.{Slot}
 use Rattle.node_serving.specs.Openings.{pending_slots}
@@ -28,7 +29,7 @@ slot_of key s = lookup (key_eq key) s.slots.entries
 -- a packet that is sent belongs to a key that the input is about: a packet for this server is about the key of its client, a message of this
 -- boot about the key that it names, a tick about each key
 abbrev pub IsForSubject : Node → Input → Wire → Type 0
-IsForSubject node input wire = (key : Key) × (concerns node input key ≡ true) × IsFor key wire
+IsForSubject node input wire = (key : Key) × (concerns node input key ≡ true) × IsFor (grammar_of node.profile) key wire
 
 -- A turn leaves the slots of the keys that the input isn't about as they are, and sends only packets of the keys that it is about
 pub record LeavesOthers {S : Type 0} (node : Node) (input : Input) (was now : Serving S) (sent : List Wire) : Type 0 where
@@ -67,20 +68,22 @@ pub record IsPassedOver (node : Node) (key : Key) (input : Input) (pending : ℕ
 -- ignored because of the openings of others
 abbrev pub KeyTurn : {S : Type 0} → Machine S → Node → Input → Key → (opened pending : ℕ) → Option Place → Option Place → List Packet → Type 0
 KeyTurn service node input key opened pending place after sent =
-    ServingTurn service node (coming_to node key input) opened (option_to_list place) (option_to_list after) sent ⊎ IsPassedOver node key input pending place after sent
+    ServingTurn service node (coming_to node key input) opened (option_to_list place) (option_to_list after) sent
+    ⊎ IsPassedOver node key input pending place after sent
 
 -- a key's turn before the Opens: its slot corresponds to what the law makes of its place, and the key's packets among those sent are that place's
 abbrev pub MeetsFor : {S : Type 0} → Machine S → Node → Input → Option Place → Option Place → List Packet → Type 0
 MeetsFor service node input (Some place) after sent = PlaceTurn service node input place (option_to_list after) sent
 MeetsFor service node input None after sent = (after ≡ None) × (sent ≡ [])
 
-pub record KeyMeets {S : Type 0} (service : Machine S) (node : Node) (input : Input) (key : Key) (place : Option Place) (now : Option (Slot S)) (sent : List Wire) : Type 0 where
+pub record KeyMeets {S : Type 0} (service : Machine S) (node : Node) (input : Input) (key : Key) (place : Option Place) (now : Option (Slot S))
+    (sent : List Wire) : Type 0 where
   pub after : Option Place
   pub packets : List Packet
   pub stands : StandsFor service node key now after
   pub turn : MeetsFor service node input place after packets
-  pub wires : of_key key sent ≡ map wire_of packets
-  pub spelled : AllByRecursion HasWire packets
+  pub wires : of_key (grammar_of node.profile) key sent ≡ map (wire_by (grammar_of node.profile)) packets
+  pub spelled : AllByRecursion (HasWireBy (grammar_of node.profile)) packets
 
 -- the slots of all keys, each alone; `told` is what the turn has sent, after what was sent before
 pub record SlotsAlone {S : Type 0} (service : Machine S) (node : Node) (input : Input) (was now : List (Key × Slot S)) (old new : List Wire) : Type 0 where
@@ -92,15 +95,16 @@ pub record SlotsAlone {S : Type 0} (service : Machine S) (node : Node) (input : 
       → KeyMeets service node input key place (lookup (key_eq key) now) told
 
 -- a key's turn: its slot corresponds to the place after it, and the key's packets among those sent are those of the law
-pub record KeyGoes {S : Type 0} (service : Machine S) (node : Node) (input : Input) (key : Key) (place : Option Place) (was now : Serving S) (sent : List Wire) : Type 0 where
+pub record KeyGoes {S : Type 0} (service : Machine S) (node : Node) (input : Input) (key : Key) (place : Option Place) (was now : Serving S)
+    (sent : List Wire) : Type 0 where
   pub opened : ℕ
   pub after : Option Place
   pub packets : List Packet
   pub number : was.next.0 ≡ initial_number node.isn opened
   pub stands : StandsFor service node key (slot_of key now) after
   pub turn : KeyTurn service node input key opened (pending_slots was.slots.entries) place after packets
-  pub wires : of_key key sent ≡ map wire_of packets
-  pub spelled : AllByRecursion HasWire packets
+  pub wires : of_key (grammar_of node.profile) key sent ≡ map (wire_by (grammar_of node.profile)) packets
+  pub spelled : AllByRecursion (HasWireBy (grammar_of node.profile)) packets
 
 -- each key whose slot corresponds to its place has its turn, if its own packet, where the input is one, is near
 abbrev pub GoAlone : {S : Type 0} → Machine S → Node → Input → (was now : Serving S) → List Wire → Type 0

@@ -1,6 +1,7 @@
--- Which clients a server knows, and whose openings are pending: what decides whether a SYN opens a connection, and with which initial sequence number. It follows
--- from what has arrived alone, whatever the states of the connections are.
-use Rattle.std.specs.Prelude.{◌≡◌, ◌+◌, ◌==◌, ◌&&◌, not, nat_lt, ℕ, Bool, true, false, Option, Some, List, [], ◌∷◌, ◌++◌, filter, length, map, is_some, if◌then◌else◌}
+-- Which clients a server knows, and whose openings are pending: what decides whether a SYN opens a connection, and with which initial sequence number. It
+-- follows from what has arrived alone, whatever the states of the connections are.
+use Rattle.std.specs.Prelude.{◌≡◌, ◌+◌, ◌==◌, ◌&&◌, not, nat_lt, ℕ, Bool, true, false, Option, Some, List, [], ◌∷◌, ◌++◌, filter, length, map}
+use Rattle.std.specs.Prelude.{is_some, if◌then◌else◌}
 use Rattle.std.specs.Map.{lookup, set_value, remove_entry}
 use Rattle.ft_io.specs.declared.Key.{Key}
 use Rattle.ft_io.specs.Key.{key_eq}

@@ -1,5 +1,5 @@
--- What a turn of a node that marks leaves alone while it serves, whatever arrives and in whatever state its connections are. But for its marks it is a turn of a
--- node without marks: each key has its turn as in a server with this key alone. Each mark among what it sends is about a key that the input is about.
+-- What a turn of a node that marks leaves alone while it serves, whatever arrives and in whatever state its connections are. But for its marks it is a turn
+-- of a node without marks: each key has its turn as in a server with this key alone. Each mark among what it sends is about a key that the input is about.
 use Rattle.std.specs.Prelude.{◌≡◌, ◌⊎◌, ◌==◌, ◌&&◌, ℕ, Bool, true, false, List, [], ◌∷◌, ◌++◌}
 use Rattle.ft_io.specs.declared.Key.{Key}
 use Rattle.ft_io.specs.Key.{key_eq}
@@ -11,17 +11,16 @@ use Rattle.ft_model.specs.Node.{Node, Place, Stage as law_stage, Input}
 use Rattle.ft_model.specs.Node.Input.{Noise_comes, Tick_comes}
 use Rattle.ft_model.specs.ServingTurn.{concerns}
 use Rattle.ft_model.specs.Wire.{Wire}
-use Rattle.mark_laws.specs.Marking.Outgoing.{Mark_to_logger}
 use Rattle.mark_laws.specs.MarkedNode.{MarkedInput}
 use Rattle.mark_laws.specs.MarkedNode.MarkedInput.{Plain_comes, Mark_comes}
 use Rattle.conn_marks.specs.KeyMarks.{KeyMarks, marking_in, KeepsOthers}
-use Rattle.conn_marks.specs.MarkSends.{outgoing_wire, mark_message}
+use Rattle.conn_marks.specs.MarkSends.{mark_wire, mark_message}
 use Rattle.node_serving.specs.declared.identity.Identity.{Identity}
 use Rattle.node_serving.specs.declared.serving.Serving.{Serving}
 use Rattle.node_serving.specs.declared.slot.Slot.{Slot}
 use Rattle.node_serving.specs.declared.turn.Turn.{Turn}
 use Rattle.node_serving.specs.Alone.{LeavesOthers, GoAlone, SlotsAlone}
-use Rattle.node_serving.specs.Identity.{node_of, service_of}
+use Rattle.node_serving.specs.Identity.{node_of, service_of, grammar_in}
 use Rattle.node_serving.specs.Ownership.{IsOnlyFor}
 use Rattle.node_serving.specs.Slots.{SlotStands, SlotGoes}
 
@@ -32,7 +31,7 @@ AreAmong Is few (wire ∷ all) = ((rest : List Wire) × (few ≡ wire ∷ rest) 
 
 -- a mark of this key's connection, made by this boot
 abbrev pub IsMarkOf : (boot : ℕ) → Key → Wire → Type 0
-IsMarkOf boot key wire = (mark : Mark) × (wire ≡ outgoing_wire (Mark_to_logger (mark_message boot key mark)))
+IsMarkOf boot key wire = (mark : Mark) × (wire ≡ mark_wire (mark_message boot key mark))
 
 -- only marks of this key are sent, after what was sent or among it, and only its marking changes
 pub record MarksOnly (boot : ℕ) (key : Key) (was now : KeyMarks) (old new : List Wire) : Type 0 where
@@ -58,7 +57,8 @@ plain_input (Plain_comes input) = input
 plain_input (Mark_comes message) = Noise_comes
 
 -- a turn: but for its marks it is one of a node without marks, whose packets are `told`. The markings of keys that the input isn't about stay
-pub record GoesBesideMarks {S : Type 0} (service : Machine S) (node : Node) (i : MarkedInput) (was now : Serving S) (marks later : KeyMarks) (old new : List Wire) : Type 0 where
+pub record GoesBesideMarks {S : Type 0} (service : Machine S) (node : Node) (i : MarkedInput) (was now : Serving S) (marks later : KeyMarks)
+    (old new : List Wire) : Type 0 where
   pub told : List Wire
   pub others : LeavesOthers node (plain_input i) was now told
   pub alone : GoAlone service node (plain_input i) was now told
@@ -68,7 +68,7 @@ pub record GoesBesideMarks {S : Type 0} (service : Machine S) (node : Node) (i :
 -- a slot's tick: first its packets, and then its marks, among them
 pub record SlotTicksBeside {S : Type 0} (service : Machine S) (who : Identity) (key : Key) (was now : Slot S) (old new : List Wire) : Type 0 where
   pub mid : List Wire
-  pub only : IsOnlyFor key old mid
+  pub only : IsOnlyFor (grammar_in who) key old mid
   pub goes : (standing : law_stage) (place : Place) → SlotStands service (node_of who standing) key was place
       → SlotGoes service (node_of who standing) Tick_comes key place now old mid
   pub among : AreAmong (IsMarkOf who.boot key) mid new

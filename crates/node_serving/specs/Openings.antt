@@ -6,6 +6,7 @@ use Rattle.std.specs.Bool.{MatchBool}
 use Rattle.seq_arith.specs.Packet.{Segment, segment_size}
 use Rattle.seq_arith.specs.Message.Body.{OpenMsg}
 use Rattle.server_trait.specs.Service.{Machine}
+use Rattle.tcp_rules.specs.Profile.{grammar_of}
 use Rattle.ft_model.specs.Connection.{told_by}
 use Rattle.ft_model.specs.Network.{Packet, source_of}
 use Rattle.ft_model.specs.Node.{Node, Place, Input}
@@ -40,12 +41,13 @@ abbrev pub pending_slots : {S : Type 0} → List (Key × Slot S) → ℕ
 pending_slots es = length (filter (λ e. is_pending_slot e.1) es)
 
 -- a segment of an unknown client makes an opening with the next initial sequence number, and asks for it at once, ..
-pub record Opened {S : Type 0} (node : Node) (segment : Segment) (key : Key) (number next : ℕ) (was now : List (Key × Slot S)) (old new : List Wire) : Type 0 where
+pub record Opened {S : Type 0} (node : Node) (segment : Segment) (key : Key) (number next : ℕ) (was now : List (Key
+    × Slot S)) (old new : List Wire) : Type 0 where
   pub opening : Opening
   pub numbers : numbers_of key opening ≡ record { key = source_of segment; cisn = segment.head.seq; sisn = number; mss = segment_size segment.head.mss }
   pub counted : next ≡ (number + 65536) % 2 ^ 32
   pub slots : now ≡ was ++ (key, slot.Pending opening) ∷ []
-  pub asked : ArePut (told_by node.boot (OpenMsg (numbers_of key opening)) ∷ []) old new
+  pub asked : ArePut (grammar_of node.profile) (told_by node.boot (OpenMsg (numbers_of key opening)) ∷ []) old new
 
 pub record Waits {S : Type 0} (first next : ℕ) (was now : List (Key × Slot S)) (old new : List Wire) : Type 0 where
   pub number : next ≡ first
@@ -58,7 +60,8 @@ Knocks node segment key number next was now old new =
     MatchBool (is_syn segment && nat_lt (pending_slots was) 64) (Opened node segment key number next was now old new) (Waits number next was now old new)
 
 -- a segment of an unknown client has made an opening if the law says so, and the Opens of the turn are sent
-pub record Admits {S : Type 0} (service : Machine S) (node : Node) (segment : Segment) (opened : ℕ) (places : List Place) (next : ℕ) (now : List (Key × Slot S)) (old new : List Wire) : Type 0 where
+pub record Admits {S : Type 0} (service : Machine S) (node : Node) (segment : Segment) (opened : ℕ) (places : List Place) (next : ℕ) (now : List (Key
+    × Slot S)) (old new : List Wire) : Type 0 where
   pub number : next ≡ initial_number node.isn (opened + length (newcomers node (Packet_comes segment) opened places))
   pub stands : AllStand service node now (places ++ newcomers node (Packet_comes segment) opened places)
-  pub opens : ArePut (flat_map (opens_at node (Packet_comes segment)) (places ++ newcomers node (Packet_comes segment) opened places)) old new
+  pub opens : ArePut (grammar_of node.profile) (flat_map (opens_at node (Packet_comes segment)) (places ++ newcomers node (Packet_comes segment) opened places)) old new

@@ -2,8 +2,9 @@
 use Rattle.std.specs.Prelude.{◌≡◌, ℕ, List, ◌++◌, map}
 use Rattle.std.specs.List.{AllByRecursion}
 use Rattle.ft_io.specs.declared.Key.{Key}
+use Rattle.seq_arith.specs.declared.kinds.Grammar.{Grammar}
 use Rattle.ft_model.specs.Network.{Packet}
-use Rattle.ft_model.specs.Wire.{Wire, Party, wire_of, HasWire}
+use Rattle.ft_model.specs.Wire.{Wire, Party, wire_by, HasWireBy}
 use Rattle.ft_model.specs.Wire.Party.{A_client, The_server, The_logger}
 use Rattle.node_serving.specs.declared.out_packet.To.{To}
 use Rattle.node_serving.specs.declared.out_packet.To.TheVariants.{Client, Logger}
@@ -25,7 +26,7 @@ message_to_logger bytes = sent_to Logger bytes
 abbrev pub wires_of : Key → (segments messages : List (List ℕ)) → List Wire
 wires_of key segments messages = map (segment_to key) segments ++ map message_to_logger messages
 
--- these packets are sent, after what was sent before, each in its one spelling
-pub record ArePut (packets : List Packet) (old new : List Wire) : Type 0 where
-  pub wires : new ≡ old ++ map wire_of packets
-  pub spelled : AllByRecursion HasWire packets
+-- these packets are sent, after what was sent before, each in its one spelling in this grammar
+pub record ArePut (grammar : Grammar) (packets : List Packet) (old new : List Wire) : Type 0 where
+  pub wires : new ≡ old ++ map (wire_by grammar) packets
+  pub spelled : AllByRecursion (HasWireBy grammar) packets

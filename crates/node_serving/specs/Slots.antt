@@ -6,11 +6,12 @@ use Rattle.std.specs.List.{AllByRecursion}
 use Rattle.ft_io.specs.declared.Key.{Key}
 use Rattle.seq_arith.specs.Message.{Numbers}
 use Rattle.server_trait.specs.Service.{Machine}
+use Rattle.tcp_rules.specs.Profile.{grammar_of}
 use Rattle.ft_model.specs.Network.{Packet}
 use Rattle.ft_model.specs.Node.{Node, Place, Input}
 use Rattle.ft_model.specs.Node.Place.{Opens, Lives, Ended}
 use Rattle.ft_model.specs.ServingTurn.{PlaceTurn, AllGo}
-use Rattle.ft_model.specs.Wire.{Wire, wire_of, HasWire}
+use Rattle.ft_model.specs.Wire.{Wire, wire_by, HasWireBy}
 use Rattle.node_serving.specs.declared.slot.Slot.{Slot}
 use Rattle.node_serving.specs.declared.slot.Slot.TheVariants as slot
 use Rattle.node_serving.specs.declared.slot.Opening.{Opening}
@@ -47,32 +48,35 @@ IsSoundSlot-prop who key (slot.Pending o) = ×_prop le_prop le_prop
 IsSoundSlot-prop who key slot.Done = Unit-prop
 
 -- one slot's turn
-pub record SlotGoes {S : Type 0} (service : Machine S) (node : Node) (input : Input) (key : Key) (place : Place) (now : Slot S) (old new : List Wire) : Type 0 where
+pub record SlotGoes {S : Type 0} (service : Machine S) (node : Node) (input : Input) (key : Key) (place : Place) (now : Slot S)
+    (old new : List Wire) : Type 0 where
   pub after : Place
   pub packets : List Packet
   pub stands : SlotStands service node key now after
   pub turn : PlaceTurn service node input place (after ∷ []) packets
-  pub wires : new ≡ old ++ map wire_of packets
-  pub spelled : AllByRecursion HasWire packets
+  pub wires : new ≡ old ++ map (wire_by (grammar_of node.profile)) packets
+  pub spelled : AllByRecursion (HasWireBy (grammar_of node.profile)) packets
 
 -- one slot's turn in which it is removed
 pub record SlotLeaves {S : Type 0} (service : Machine S) (node : Node) (input : Input) (place : Place) (old new : List Wire) : Type 0 where
   pub packets : List Packet
   pub turn : PlaceTurn service node input place [] packets
-  pub wires : new ≡ old ++ map wire_of packets
-  pub spelled : AllByRecursion HasWire packets
+  pub wires : new ≡ old ++ map (wire_by (grammar_of node.profile)) packets
+  pub spelled : AllByRecursion (HasWireBy (grammar_of node.profile)) packets
 
 -- the turn of all slots
-pub record AllSlotsGo {S : Type 0} (service : Machine S) (node : Node) (input : Input) (places : List Place) (now : List (Key × Slot S)) (old new : List Wire) : Type 0 where
+pub record AllSlotsGo {S : Type 0} (service : Machine S) (node : Node) (input : Input) (places : List Place) (now : List (Key
+    × Slot S)) (old new : List Wire) : Type 0 where
   pub after : List Place
   pub packets : List Packet
   pub stands : AllStand service node now after
   pub go : AllGo (PlaceTurn service node input) places after packets
-  pub wires : new ≡ old ++ map wire_of packets
-  pub spelled : AllByRecursion HasWire packets
+  pub wires : new ≡ old ++ map (wire_by (grammar_of node.profile)) packets
+  pub spelled : AllByRecursion (HasWireBy (grammar_of node.profile)) packets
 
 -- the first slots have had their turn, and the others are as before
-pub record FirstGo {S : Type 0} (service : Machine S) (node : Node) (input : Input) (places : List Place) (i : ℕ) (now : List (Key × Slot S)) (old new : List Wire) : Type 0 where
+pub record FirstGo {S : Type 0} (service : Machine S) (node : Node) (input : Input) (places : List Place) (i : ℕ) (now : List (Key
+    × Slot S)) (old new : List Wire) : Type 0 where
   pub done : List Place
   pub left : List Place
   pub went : List Place
@@ -81,5 +85,5 @@ pub record FirstGo {S : Type 0} (service : Machine S) (node : Node) (input : Inp
   pub at : length went ≡ i
   pub stands : AllStand service node now (went ++ left)
   pub go : AllGo (PlaceTurn service node input) done went packets
-  pub wires : new ≡ old ++ map wire_of packets
-  pub spelled : AllByRecursion HasWire packets
+  pub wires : new ≡ old ++ map (wire_by (grammar_of node.profile)) packets
+  pub spelled : AllByRecursion (HasWireBy (grammar_of node.profile)) packets

@@ -5,6 +5,7 @@ use Rattle.std.specs.Prelude.{◌≡◌, ℕ, List, Some}
 use Rattle.std.specs.List.{AllByRecursion}
 use Rattle.ft_io.specs.declared.Addr.{Addr}
 use Rattle.ft_io.specs.declared.Key.{Key}
+use Rattle.seq_arith.specs.declared.kinds.Grammar.{Grammar}
 use Rattle.seq_arith.specs.Message.{Numbers}
 use Rattle.seq_arith.specs.Packet.{Segment}
 use Rattle.server_trait.specs.declared.Service.{Ghosts}
@@ -25,7 +26,7 @@ use Rattle.node_serving.specs.declared.slot.Slot.{Slot}
 use Rattle.node_serving.specs.declared.turn.Turn.{Turn}
 use Rattle.node_serving.specs.Alone.{IsNearFor, SlotsAlone, ServesAlone}
 use Rattle.node_serving.specs.Conn.{Begins, IsOursAt, ConnGoes}
-use Rattle.node_serving.specs.Identity.{node_of, service_of}
+use Rattle.node_serving.specs.Identity.{node_of, service_of, grammar_in}
 use Rattle.node_serving.specs.Openings.{all_opens, Admits, Knocks}
 use Rattle.node_serving.specs.RefusalPackets.{AreSent}
 use Rattle.node_serving.specs.SentBytes.{ArePut}
@@ -33,17 +34,17 @@ use Rattle.node_serving.specs.ServingStage.{ServingStands, ServingGoes}
 use Rattle.node_serving.specs.Slots.{SlotStands, SlotGoes, AllStand, AllSlotsGo}
 use Rattle.node_serving.specs.Ownership.{IsOnlyFor}
 
--- these packets are sent, after what was sent, each in its one spelling
-abbrev pub Sends : List Packet → (old new : Turn) → Type 0
-Sends packets old new = ArePut packets old.sent.items new.sent.items
+-- these packets are sent, after what was sent, each in its one spelling in this grammar
+abbrev pub Sends : Grammar → List Packet → (old new : Turn) → Type 0
+Sends grammar packets old new = ArePut grammar packets old.sent.items new.sent.items
 
 -- these segments are sent to clients
 abbrev pub SendsSegments : List Segment → (old new : Turn) → Type 0
 SendsSegments segments old new = AreSent segments old.sent.items new.sent.items
 
 -- nothing is sent but packets of this key alone
-abbrev pub SendsFor : Key → (old new : Turn) → Type 0
-SendsFor key old new = IsOnlyFor key old.sent.items new.sent.items
+abbrev pub SendsFor : Identity → Key → (old new : Turn) → Type 0
+SendsFor who key old new = IsOnlyFor (grammar_in who) key old.sent.items new.sent.items
 
 -- a segment is near to a connection's point. Of other news nothing is required
 abbrev pub IsNearNews : News → Point → Type 0
@@ -57,7 +58,7 @@ IsNearForAll server _ places = Unit {0}
 
 -- the Opens with which a turn ends are sent
 abbrev pub SendsOpens : {S : Type 0} → Identity → Input → List (Key × Slot S) → (old new : Turn) → Type 0
-SendsOpens who input slots old new = (standing : law_stage) → Sends (all_opens (node_of who standing) input slots) old new
+SendsOpens who input slots old new = (standing : law_stage) → Sends (grammar_in who) (all_opens (node_of who standing) input slots) old new
 
 -- what a segment of an unknown client does to the slots and to the next initial sequence number
 abbrev pub TurnAdmitsAlone : {S : Type 0} → Identity → Segment → (number next : ℕ) → (was now : List (Key × Slot S)) → (old new : Turn) → Type 0
@@ -70,18 +71,18 @@ module _ {S : Type 0} (s : Ghosts S) (who : Identity) where
   abbrev pub ConnTurns : News → Key → (was now : ConnState S) → (old new : Turn) → Type 0
   ConnTurns news key was now old new =
       (p : Point) → IsNearNews news p → p.key ≡ key → IsOursAt (service_of s who) who.local who.boot was p
-      → ConnGoes (service_of s who) who.local who.boot news p now old.sent.items new.sent.items
+      → ConnGoes (grammar_in who) (service_of s who) who.local who.boot news p now old.sent.items new.sent.items
 
   -- the first turn of a new connection, from the point of its numbers
   abbrev pub ConnBegins : Numbers → (now : ConnState S) → (old new : Turn) → Type 0
   ConnBegins numbers now old new =
-      ConnGoes (service_of s who) who.local who.boot Becomes_live (point_opened (profile_of who.profile) numbers) now old.sent.items new.sent.items
+      ConnGoes (grammar_in who) (service_of s who) who.local who.boot Becomes_live (point_opened (profile_of who.profile) numbers) now old.sent.items new.sent.items
 
   -- the first turn of a connection that a restart has put together
   abbrev pub ConnRevives : Key → (was now : ConnState S) → (old new : Turn) → Type 0
   ConnRevives key was now old new =
       (p : Point) → p.key ≡ key → Begins (service_of s who) who.local who.boot was p
-      → ConnGoes (service_of s who) who.local who.boot Becomes_live p now old.sent.items new.sent.items
+      → ConnGoes (grammar_in who) (service_of s who) who.local who.boot Becomes_live p now old.sent.items new.sent.items
 
   -- a slot's turn
   abbrev pub SlotTurns : Input → Key → (was now : Slot S) → (old new : Turn) → Type 0
@@ -96,7 +97,8 @@ module _ {S : Type 0} (s : Ghosts S) (who : Identity) where
       → AllSlotsGo (service_of s who) (node_of who standing) input places now old.sent.items new.sent.items
 
   abbrev pub SlotsTurnAlone : Input → (was now : List (Key × Slot S)) → (old new : Turn) → Type 0
-  SlotsTurnAlone input was now old new = (standing : law_stage) → SlotsAlone (service_of s who) (node_of who standing) input was now old.sent.items new.sent.items
+  SlotsTurnAlone input was now old new = (standing : law_stage)
+      → SlotsAlone (service_of s who) (node_of who standing) input was now old.sent.items new.sent.items
 
   -- a segment of an unknown client, where `opened` initial sequence numbers are used up
   abbrev pub TurnAdmits : Segment → (number next : ℕ) → (was now : List (Key × Slot S)) → (old new : Turn) → Type 0
@@ -113,4 +115,5 @@ module _ {S : Type 0} (s : Ghosts S) (who : Identity) where
       → ServingGoes (service_of s who) (node_of who standing) input opened places now old.sent.items new.sent.items
 
   abbrev pub ServingTurnsAlone : Input → (was now : Serving S) → (old new : Turn) → Type 0
-  ServingTurnsAlone input was now old new = (standing : law_stage) → ServesAlone (service_of s who) (node_of who standing) input was now old.sent.items new.sent.items
+  ServingTurnsAlone input was now old new = (standing : law_stage)
+      → ServesAlone (service_of s who) (node_of who standing) input was now old.sent.items new.sent.items

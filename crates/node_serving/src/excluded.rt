@@ -1,36 +1,43 @@
-//! Wrong results that the contracts of this crate exclude. Each function calls another one of the crate, and promises of its result what a wrong body would make
-//! false. It is proved from the other's contract alone, so it is no longer proved once that contract lets the wrong body pass.
+//! Wrong results that the contracts of this crate exclude. Each function calls another one of the crate, and promises of its result what a wrong body would
+//! make false. It is proved from the other's contract alone, so it is no longer proved once that contract lets the wrong body pass.
 
-ghost use Rattle.std.specs.Prelude.{◌≡◌, ◌≤◌, [], map, Ok, None, true, false, OnOk};
+ghost use Rattle.std.specs.Prelude.{◌≡◌, ◌≤◌, ◌++◌, ◌∷◌, [], map, Ok, None, true, false, OnOk};
 ghost use Rattle.std.specs.Map.{lookup};
 ghost use Rattle.ft_io.specs.Key.{key_eq};
+ghost use Rattle.seq_arith.specs.MessageGrammar.{behind_of, spelling_by};
 ghost use Rattle.seq_arith.specs.PacketGrammar.{reading};
+ghost use Rattle.logger_wire.specs.Value.{body_of, message_of, IsSendableBy};
 ghost use Rattle.segment_codec.specs.Value.{segment_of};
 ghost use Rattle.ft_model.specs.Network.{source_of};
 ghost use Rattle.ft_model.specs.Network.Packet.{To_client};
 ghost use Rattle.ft_model.specs.Node.{is_for};
 ghost use Rattle.ft_model.specs.Opening.{is_syn};
 ghost use Rattle.ft_model.specs.Refusal.{as_listen};
-ghost use Rattle.ft_model.specs.Wire.{wire_of};
+ghost use Rattle.ft_model.specs.Wire.{wire_by};
+ghost use Rattle.node_serving.specs.Identity.{grammar_in};
 ghost use Rattle.node_serving.specs.Openings.{IsCounted, pending_slots};
 ghost use Rattle.node_serving.specs.Ownership.{of_key};
+ghost use Rattle.node_serving.specs.SentBytes.{message_to_logger};
 ghost use Rattle.node_serving.specs.Slots.{AllSound};
 ghost use Rattle.conn_marks.specs.KeyMarks.{marking_in};
 
 use crate::identity::Identity;
 use crate::marked_serving::{mark_key, serve_packet_marked};
+use crate::sent::send_message;
 use crate::serving::{Serving, is_for, serve_packet};
 use crate::slot::Slot;
-use crate::slots::give_known;
+use crate::slots::serve_known;
 use crate::turn::Turn;
 use conn_marks::Marks;
 use ft_io::{Addr, Key, NoMemory};
 use indexmap::IndexMap;
+use logger_wire::{Grammar, Msg};
 use segment_codec::{Head, PacketRef};
 use seq_arith::{ACK, Seq};
 use server_trait::{Saved, Service};
+use tcp_rules::Profile;
 
-/// A segment leaves the connections of all other clients as they are, whatever it acknowledges: the clause `alone` of `give_known`.
+/// A segment leaves the connections of all other clients as they are, whatever it acknowledges: the clause `alone` of `serve_known`.
 fn a_far_acknowledgement_moves_another_edge<S: Service>(
     who: Identity,
     segment: &PacketRef<'_>,
@@ -45,7 +52,7 @@ fn a_far_acknowledgement_moves_another_edge<S: Service>(
     requires other { key_eq (source_of (segment_of segment.now)) other ≡ false }
     ensures { OnOk result (lookup (key_eq other) slots.new.entries ≡ lookup (key_eq other) slots.old.entries) }
 {
-    give_known(who, segment, slots, packet, turn)
+    serve_known(who, segment, slots, packet, turn)
 }
 
 /// A packet for another port of the server's address isn't for the server: the contract of `is_for`.
@@ -84,7 +91,8 @@ fn ignores_an_acknowledgement_while_openings_are_pending<S: Service>(
     requires full { 64 ≤ pending_slots serving.old.slots.entries }
     requires other { is_syn (segment_of segment.now) ≡ false }
     requires empty { turn.old.sent.items ≡ [] }
-    ensures { OnOk result (of_key (source_of (segment_of segment.now)) turn.new.sent.items ≡ map wire_of (map To_client (as_listen who.local (segment_of segment.now)))) }
+    ensures { OnOk result (of_key (grammar_in who) (source_of (segment_of segment.now)) turn.new.sent.items
+        ≡ map (wire_by (grammar_in who)) (map To_client (as_listen who.local (segment_of segment.now)))) }
 {
     serve_packet(who, segment, packet, serving, turn)
 }
@@ -125,4 +133,15 @@ fn marks_the_next_key<S: Saved>(
     ensures { OnOk result (marking_in marks.new other ≡ marking_in marks.old other) }
 {
     mark_key(who, key, slots, marks, turn)
+}
+
+/// A server with the profile wan writes its messages in the wide grammar: the contract of `send_message`.
+fn writes_a_plain_message(who: Identity, message: &Msg<'_>, turn: &mut Turn) -> Result<(), NoMemory>
+    requires sendable { IsSendableBy (grammar_in who) message.now }
+    requires bare { behind_of (body_of message.now.body) ≡ [] }
+    requires profile { who.profile ≡ Profile.Wan }
+    ensures { OnOk result (turn.new.sent.items
+        ≡ turn.old.sent.items ++ message_to_logger (spelling_by Grammar.Wide (message_of message.now)) ∷ []) }
+{
+    send_message(who, message, turn)
 }

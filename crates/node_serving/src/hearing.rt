@@ -9,19 +9,20 @@ ghost use Rattle.ft_io.specs.Key.{key_eq};
 ghost use Rattle.seq_arith.specs.Message.{Kept, Message};
 ghost use Rattle.seq_arith.specs.Message.Body.{OpenedMsg, EndedMsg, FullMsg};
 ghost use Rattle.server_trait.specs.Service.{Machine};
-ghost use Rattle.logger_wire.specs.Value.{body_of, message_of, IsSendable};
+ghost use Rattle.logger_wire.specs.Value.{body_of, message_of, IsSendableBy};
 ghost use Rattle.ft_model.specs.Node.{Node, Place};
 ghost use Rattle.ft_model.specs.Node.Input.{Message_comes};
 ghost use Rattle.ft_model.specs.Wire.{Wire};
 ghost use Rattle.node_serving.specs.Alone.{SlotsAlone};
 ghost use Rattle.node_serving.specs.Clients.{known_after, known_as, known_in};
+ghost use Rattle.node_serving.specs.Identity.{grammar_in};
 ghost use Rattle.node_serving.specs.LogMessages.{IsLogged, opening_in, ended as ended_lem};
 ghost use Rattle.node_serving.specs.declared.identity.Identity.{Identity as Incarnation};
 ghost use Rattle.node_serving.specs.Slots.{numbers_of, IsSoundSlot, AllStand, AllSlotsGo, AllSound};
 ghost use Rattle.node_serving.specs.Turns.{SendsFor, SlotTurns, SlotsTurn, SlotsTurnAlone};
 
 use crate::identity::Identity;
-use crate::live::{begin_live, tell_live};
+use crate::live::{begin_live, receive_live};
 use crate::refusal::refuse_full;
 use crate::slot::{Opening, Slot};
 use crate::turn::Turn;
@@ -32,7 +33,7 @@ use seq_arith::Seq;
 use server_trait::Service;
 use std::mem;
 
-fn tell_slot<S: Service>(
+fn receive_in_slot<S: Service>(
     who: Identity,
     key: Key,
     slot: &mut Slot<S>,
@@ -40,21 +41,21 @@ fn tell_slot<S: Service>(
     turn: &mut Turn,
 ) -> Result<(), NoMemory>
     requires sound { IsSoundSlot who key slot.old }
-    requires sendable { IsSendable m.now }
+    requires sendable { IsSendableBy (grammar_in who) m.now }
     ensures turn { OnOk result ((kept : Kept) → IsLogged who.boot (message_of m.now) key kept
         → SlotTurns S.Service who (Message_comes (message_of m.now)) key slot.old slot.new turn.old turn.new) }
-    ensures alone { OnOk result (SendsFor key turn.old turn.new) }
+    ensures alone { OnOk result (SendsFor who key turn.old turn.new) }
     ensures known { OnOk result (known_as slot.new ≡ known_as slot.old) }
     ensures sound { OnOk result (IsSoundSlot who key slot.new) }
 {
     match slot {
-        Slot::Live(conn) => tell_live(who, key, conn, m, turn),
+        Slot::Live(conn) => receive_live(who, key, conn, m, turn),
         Slot::Pending(_) | Slot::Done => Ok(()),
     }
 }
 
 /// Handles a message that says how much of a connection is logged.
-pub(crate) fn tell_known<S: Service>(
+pub(crate) fn receive_known<S: Service>(
     who: Identity,
     key: Key,
     slots: &mut IndexMap<Key, Slot<S>>,
@@ -62,7 +63,7 @@ pub(crate) fn tell_known<S: Service>(
     turn: &mut Turn,
 ) -> Result<(), NoMemory>
     requires sound { AllSound who slots.old.entries }
-    requires sendable { IsSendable m.now }
+    requires sendable { IsSendableBy (grammar_in who) m.now }
     ensures turn { OnOk result ((kept : Kept) → IsLogged who.boot (message_of m.now) key kept
         → SlotsTurn S.Service who (Message_comes (message_of m.now)) slots.old.entries slots.new.entries turn.old turn.new) }
     ensures alone { OnOk result ((kept : Kept) → IsLogged who.boot (message_of m.now) key kept
@@ -71,7 +72,7 @@ pub(crate) fn tell_known<S: Service>(
     ensures sound { OnOk result (AllSound who slots.new.entries) }
 {
     if let Some(slot) = slots.get_mut(&key) {
-        tell_slot(who, key, slot, m, turn)?;
+        receive_in_slot(who, key, slot, m, turn)?;
     }
     Ok(())
 }
@@ -209,14 +210,14 @@ pub(crate) fn refuse_known<S: Service>(
 }
 
 /// Handles a message of this boot.
-pub(crate) fn hear<S: Service>(
+pub(crate) fn receive<S: Service>(
     who: Identity,
     m: &Msg<'_>,
     slots: &mut IndexMap<Key, Slot<S>>,
     turn: &mut Turn,
 ) -> Result<(), NoMemory>
     requires boot { 1 ≤ who.boot }
-    requires sendable { IsSendable m.now }
+    requires sendable { IsSendableBy (grammar_in who) m.now }
     requires sound { AllSound who slots.old.entries }
     ensures turn { OnOk result (m.now.boot ≡ who.boot
         → SlotsTurn S.Service who (Message_comes (message_of m.now)) slots.old.entries slots.new.entries turn.old turn.new) }
@@ -226,8 +227,8 @@ pub(crate) fn hear<S: Service>(
     ensures sound { OnOk result (AllSound who slots.new.entries) }
 {
     match m.body {
-        Body::Stable(kept) => tell_known(who, kept.key, slots, m, turn),
-        Body::Reads(kept) => tell_known(who, kept.key, slots, m, turn),
+        Body::Stable(kept) => receive_known(who, kept.key, slots, m, turn),
+        Body::Reads(kept) => receive_known(who, kept.key, slots, m, turn),
         Body::Ended { key } => {
             end_known(key, slots);
             Ok(())

@@ -14,10 +14,10 @@ pub use opening::STRIDE;
 pub use out_packet::{OutPacket, To};
 pub use outgoing::Outgoing;
 pub use refusal::send_bare;
-pub use sent::{ask_mark, fit, tell};
+pub use sent::{ask_mark, fit, send_message};
 pub use serving::{Serving, serve_bytes, serve_message, serve_tick};
 pub use slot::{Opening, Slot, live_conn};
-pub use slots::{add_slot, conn_at};
+pub use slots::{add_slot, conn_at, forget_slot, nth_key};
 pub use turn::Turn;
 
 mod excluded;

@@ -5,9 +5,10 @@ ghost use Rattle.std.specs.Prelude.{◌≡◌, ◌≤◌, Ok, IsOk, OnOk, IfOk};
 ghost use Rattle.seq_arith.specs.Message.{Kept};
 ghost use Rattle.seq_arith.specs.Packet.{Segment};
 ghost use Rattle.seq_arith.specs.PacketGrammar.{reading};
-ghost use Rattle.logger_wire.specs.Value.{message_of, IsSendable};
+ghost use Rattle.logger_wire.specs.Value.{message_of, IsSendableBy};
 ghost use Rattle.ft_model.specs.News.News.{Comes, Logged, Ticks};
 ghost use Rattle.node_serving.specs.Conn.{Belongs};
+ghost use Rattle.node_serving.specs.Identity.{grammar_in};
 ghost use Rattle.node_serving.specs.LogMessages.{IsLogged};
 ghost use Rattle.node_serving.specs.Slots.{numbers_of};
 ghost use Rattle.node_serving.specs.Turns.{SendsFor, ConnTurns, ConnBegins, ConnRevives};
@@ -33,7 +34,7 @@ pub(crate) fn begin_live<S: Service>(
     requires least { 64 ≤ numbers.mss }
     requires most { numbers.mss ≤ largest_segment }
     ensures turn { IfOk result (λ conn. ConnBegins S.Service who (numbers_of key numbers) conn turn.old turn.new) }
-    ensures alone { IfOk result (λ conn. SendsFor key turn.old turn.new) }
+    ensures alone { IfOk result (λ conn. SendsFor who key turn.old turn.new) }
     ensures sound { IfOk result (λ conn. Belongs who key conn) }
 {
     let opened = Opened {
@@ -74,7 +75,7 @@ pub fn start_live<S: Service>(
     ensures turn { OnOk result (ConnRevives S.Service who key conn.old conn.new turn.old turn.new) }
     ensures number { OnOk result (conn.new.endpoint.sending.iss ≡ conn.old.endpoint.sending.iss) }
     ensures delta { OnOk result (conn.new.south.delta ≡ conn.old.south.delta) }
-    ensures alone { OnOk result (SendsFor key turn.old turn.new) }
+    ensures alone { OnOk result (SendsFor who key turn.old turn.new) }
     ensures sound { OnOk result (Belongs who key conn.new) }
 {
     turn.out.clear();
@@ -92,7 +93,7 @@ pub(crate) fn tick_live<S: Service>(
 ) -> Result<(), NoMemory>
     requires { Belongs who key conn.old }
     ensures turn { OnOk result (ConnTurns S.Service who Ticks key conn.old conn.new turn.old turn.new) }
-    ensures alone { OnOk result (SendsFor key turn.old turn.new) }
+    ensures alone { OnOk result (SendsFor who key turn.old turn.new) }
     ensures sound { OnOk result (Belongs who key conn.new) }
 {
     turn.out.clear();
@@ -102,7 +103,7 @@ pub(crate) fn tick_live<S: Service>(
 
 /// Takes a live connection's turn on a segment. `packet` has its bytes.
 #[tactic(auto, unfolding(crate::specs::Conn::IsSound))]
-pub(crate) fn give_live<S: Service>(
+pub(crate) fn serve_live<S: Service>(
     who: Identity,
     key: Key,
     conn: &mut Conn<S>,
@@ -113,7 +114,7 @@ pub(crate) fn give_live<S: Service>(
     requires accepted { IsOk (reading packet.old) }
     ensures turn { OnOk result ((segment : Segment) → reading packet.old ≡ Ok segment
         → ConnTurns S.Service who (Comes segment) key conn.old conn.new turn.old turn.new) }
-    ensures alone { OnOk result (SendsFor key turn.old turn.new) }
+    ensures alone { OnOk result (SendsFor who key turn.old turn.new) }
     ensures sound { OnOk result (Belongs who key conn.new) }
 {
     fit(packet);
@@ -124,7 +125,7 @@ pub(crate) fn give_live<S: Service>(
 
 /// Takes a live connection's turn on a message about how much of it is logged.
 #[tactic(auto, unfolding(crate::specs::Conn::IsSound))]
-pub(crate) fn tell_live<S: Service>(
+pub(crate) fn receive_live<S: Service>(
     who: Identity,
     key: Key,
     conn: &mut Conn<S>,
@@ -132,10 +133,10 @@ pub(crate) fn tell_live<S: Service>(
     turn: &mut Turn,
 ) -> Result<(), NoMemory>
     requires sound { Belongs who key conn.old }
-    requires sendable { IsSendable m.now }
+    requires sendable { IsSendableBy (grammar_in who) m.now }
     ensures turn { OnOk result ((kept : Kept) → IsLogged who.boot (message_of m.now) key kept
         → ConnTurns S.Service who (Logged kept) key conn.old conn.new turn.old turn.new) }
-    ensures alone { OnOk result (SendsFor key turn.old turn.new) }
+    ensures alone { OnOk result (SendsFor who key turn.old turn.new) }
     ensures sound { OnOk result (Belongs who key conn.new) }
 {
     turn.out.clear();

@@ -1,7 +1,7 @@
 //! A node that marks, while it serves: its turns are those of a node without marks, and the marks of the connections that the input concerns are sent in
 //! them.
 
-ghost use Rattle.std.specs.Prelude.{◌≡◌, ◌≤◌, ℕ, [], Ok, Some, OnOk, MatchOption, true, false};
+ghost use Rattle.std.specs.Prelude.{◌≡◌, ◌≤◌, ℕ, [], Ok, Some, OnOk, MatchOption, false};
 ghost use Rattle.std.specs.List.{IsDistinct};
 ghost use Rattle.std.specs.Map.{keys_of};
 ghost use Rattle.ft_io.specs.declared.Key.{Key as Client};
@@ -9,12 +9,13 @@ ghost use Rattle.ft_io.specs.Key.{key_eq};
 ghost use Rattle.seq_arith.specs.PacketGrammar.{reading};
 ghost use Rattle.seq_arith.specs.Mark.MarkBody.{MarkedMsg};
 ghost use Rattle.segment_codec.specs.Value.{segment_of};
-ghost use Rattle.logger_wire.specs.Value.{body_of, message_of, IsSendable};
+ghost use Rattle.logger_wire.specs.Value.{body_of, message_of, IsSendableBy};
 ghost use Rattle.logger_wire.specs.MarkValue.{message_of as mark_message_of};
 ghost use Rattle.ft_model.specs.Node.{is_for};
 ghost use Rattle.ft_model.specs.Node.Input.{Packet_comes, Message_comes, Tick_comes};
 ghost use Rattle.ft_model.specs.ServingTurn.{names};
 ghost use Rattle.mark_laws.specs.MarkedNode.MarkedInput.{Plain_comes, Mark_comes};
+ghost use Rattle.node_serving.specs.Identity.{grammar_in};
 ghost use Rattle.node_serving.specs.Markers.{saving};
 ghost use Rattle.node_serving.specs.MarkedAlone.{MarksOnly, SlotTickBeside, SlotsTickBeside, ServingTurnsBeside};
 ghost use Rattle.node_serving.specs.MarkedServing.{SlotTicksMarked, AllTickMarked, KeyMarked, ServingTurnsMarked, ServingHears};
@@ -67,7 +68,8 @@ fn tick_all_marked<S: Saved>(
 ) -> Result<(), NoMemory>
     requires boot { 1 ≤ who.boot }
     requires sound { AllSound who slots.old.entries }
-    ensures turn { OnOk result (AllTickMarked S.Service (saving S.form S.state_of S.is_savable) who marks.now slots.old.entries slots.new.entries turn.old turn.new) }
+    ensures turn { OnOk result (AllTickMarked S.Service
+        (saving S.form S.state_of S.is_savable) who marks.now slots.old.entries slots.new.entries turn.old turn.new) }
     ensures alone { OnOk result (SlotsTickBeside S.Service who slots.old.entries slots.new.entries turn.old turn.new) }
     ensures sound { OnOk result (AllSound who slots.new.entries) }
 {
@@ -88,7 +90,8 @@ pub fn serve_tick_marked<S: Saved>(
     requires boot { 1 ≤ who.boot }
     requires sound { AllSound who serving.old.slots.entries }
     requires counted { IsCounted who.isn serving.old.next.0 }
-    ensures turn { OnOk result (ServingTurnsMarked S.Service (saving S.form S.state_of S.is_savable) who Tick_comes serving.old serving.new marks.now marks.now turn.old turn.new) }
+    ensures turn { OnOk result (ServingTurnsMarked S.Service
+        (saving S.form S.state_of S.is_savable) who Tick_comes serving.old serving.new marks.now marks.now turn.old turn.new) }
     ensures alone { OnOk result (ServingTurnsBeside S.Service who (Plain_comes Tick_comes) serving.old serving.new marks.now marks.now turn.old turn.new) }
     ensures sound { OnOk result (AllSound who serving.new.slots.entries) }
     ensures counted { OnOk result (IsCounted who.isn serving.new.next.0) }
@@ -137,8 +140,10 @@ pub fn serve_packet_marked<S: Saved>(
     requires sound { AllSound who serving.old.slots.entries }
     requires counted { IsCounted who.isn serving.old.next.0 }
     requires empty { turn.old.sent.items ≡ [] }
-    ensures turn { OnOk result (ServingTurnsMarked S.Service (saving S.form S.state_of S.is_savable) who (Packet_comes (segment_of segment.now)) serving.old serving.new marks.old marks.new turn.old turn.new) }
-    ensures alone { OnOk result (ServingTurnsBeside S.Service who (Plain_comes (Packet_comes (segment_of segment.now))) serving.old serving.new marks.old marks.new turn.old turn.new) }
+    ensures turn { OnOk result (ServingTurnsMarked S.Service (saving S.form S.state_of S.is_savable) who
+        (Packet_comes (segment_of segment.now)) serving.old serving.new marks.old marks.new turn.old turn.new) }
+    ensures alone { OnOk result (ServingTurnsBeside S.Service who
+        (Plain_comes (Packet_comes (segment_of segment.now))) serving.old serving.new marks.old marks.new turn.old turn.new) }
     ensures untouched { OnOk result (is_for who.local (segment_of segment.now) ≡ false
         → (serving.new ≡ serving.old) × (marks.new ≡ marks.old) × (turn.new.sent.items ≡ turn.old.sent.items)) }
     ensures sound { OnOk result (AllSound who serving.new.slots.entries) }
@@ -155,7 +160,8 @@ pub fn serve_packet_marked<S: Saved>(
 
 /// The key of the connection that a message names.
 fn key_named(body: &Body<'_>) -> Option<Key>
-    ensures { MatchOption result ((key : Client) → names (body_of body.now) key ≡ false) (λ named. (key : Client) → names (body_of body.now) key ≡ key_eq named key) }
+    ensures { MatchOption result ((key : Client) → names (body_of body.now) key ≡ false) (λ named. (key : Client)
+        → names (body_of body.now) key ≡ key_eq named key) }
 {
     match *body {
         Body::Opened(numbers) => Some(numbers.key),
@@ -176,12 +182,13 @@ pub fn serve_message_marked<S: Saved>(
     turn: &mut Turn,
 ) -> Result<(), NoMemory>
     requires boot { 1 ≤ who.boot }
-    requires sendable { IsSendable m.now }
+    requires sendable { IsSendableBy (grammar_in who) m.now }
     requires sound { AllSound who serving.old.slots.entries }
     requires counted { IsCounted who.isn serving.old.next.0 }
     requires empty { turn.old.sent.items ≡ [] }
     ensures turn { OnOk result (m.now.boot ≡ who.boot
-        → ServingTurnsMarked S.Service (saving S.form S.state_of S.is_savable) who (Message_comes (message_of m.now)) serving.old serving.new marks.old marks.new turn.old turn.new) }
+        → ServingTurnsMarked S.Service (saving S.form S.state_of S.is_savable) who
+        (Message_comes (message_of m.now)) serving.old serving.new marks.old marks.new turn.old turn.new) }
     ensures alone { OnOk result (m.now.boot ≡ who.boot
         → ServingTurnsBeside S.Service who (Plain_comes (Message_comes (message_of m.now))) serving.old serving.new marks.old marks.new turn.old turn.new) }
     ensures sound { OnOk result (AllSound who serving.new.slots.entries) }
@@ -213,7 +220,7 @@ pub fn serve_mark<S: Saved>(
         → ServingTurnsBeside S.Service who (Mark_comes (mark_message_of m.now)) serving.now serving.now marks.old marks.new turn.old turn.new) }
 {
     match m.body {
-        MarkBody::Marked { key, reads } => hear_marked(who, key, reads, serving, marks, turn),
+        MarkBody::Marked { key, reads } => receive_marked(who, key, reads, serving, marks, turn),
         MarkBody::Mark { .. } => Ok(()),
         MarkBody::Ask { .. } => Ok(()),
         MarkBody::Held { .. } => Ok(()),
@@ -221,7 +228,7 @@ pub fn serve_mark<S: Saved>(
 }
 
 /// Handles the answer to a mark of `reads` reads, if its connection is live. The next mark is then sent if it is due.
-fn hear_marked<S: Saved>(
+fn receive_marked<S: Saved>(
     who: Identity,
     key: Key,
     reads: u32,
@@ -233,13 +240,16 @@ fn hear_marked<S: Saved>(
     requires sound { AllSound who serving.now.slots.entries }
     requires empty { turn.old.sent.items ≡ [] }
     ensures alone { OnOk result (MarksOnly who.boot key marks.old marks.new turn.old.sent.items turn.new.sent.items) }
-    ensures turn { OnOk result ((boot : ℕ) → ServingHears S.Service (saving S.form S.state_of S.is_savable) who (record { boot = boot; body = MarkedMsg key reads })
+    ensures turn { OnOk result ((boot : ℕ) → ServingHears S.Service (saving S.form S.state_of S.is_savable) who (record {
+      boot = boot;
+      body = MarkedMsg key reads;
+    })
         serving.now marks.old marks.new turn.old turn.new) }
 {
     apart(&serving.slots);
     let Some(conn) = conn_at(&serving.slots, key) else {
         return Ok(());
     };
-    marks.hear(key, reads);
+    marks.receive(key, reads);
     send_new(who, key, conn, marks, 0, turn)
 }

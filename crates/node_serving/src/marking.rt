@@ -6,7 +6,7 @@ ghost use Rattle.server_trait.specs.Service.{AreBytes};
 ghost use Rattle.mark_laws.specs.Marking.{outstanding_in};
 ghost use Rattle.conn_marks.specs.KeyMarks.{marking_in, every_for};
 ghost use Rattle.node_serving.specs.Conn.{IsSound, IsOursAt};
-ghost use Rattle.node_serving.specs.Identity.{service_of};
+ghost use Rattle.node_serving.specs.Identity.{service_of, grammar_in};
 ghost use Rattle.conn_marks.specs.MarkSends.{SendsMarks};
 ghost use Rattle.conn_marks.specs.Settled.{MarksNew};
 ghost use Rattle.node_serving.specs.MarkedAlone.{MarksOnly};
@@ -32,12 +32,12 @@ pub(crate) fn send_outstanding(
 ) -> Result<(), NoMemory>
     requires boot { 1 ≤ who.boot }
     requires from { from ≤ length turn.old.sent.items }
-    ensures { OnOk result (SendsMarks who.boot key from (outstanding_in (marking_in marks.now key)) turn.old.sent.items turn.new.sent.items) }
+    ensures { OnOk result (SendsMarks (grammar_in who) who.boot key from (outstanding_in (marking_in marks.now key)) turn.old.sent.items turn.new.sent.items) }
 {
     let Some(message) = marks.message(who.boot, key) else {
         return Ok(());
     };
-    let behind = turn.sent.dones_from(from);
+    let behind = turn.sent.dones_from(who.profile.grammar(), from);
     let mut text = [0; 2_048];
     let len = write_mark(&message, &mut text);
     turn.sent.put(turn.alloc, behind, To::Logger, &text[..len])
@@ -59,7 +59,7 @@ pub fn send_new<S: Saved>(
     ensures alone { OnOk result (MarksOnly who.boot key marks.old marks.new turn.old.sent.items turn.new.sent.items) }
     ensures law { OnOk result ((every : ℕ) (p : Point) → marks.old.every ≡ every_for S.is_savable every
         → IsOursAt (service_of S.Service who) who.local who.boot conn.now p → AreBytes p.taken
-        → MarksNew (marker_of S.Service (saving S.form S.state_of S.is_savable) who every) who.boot key p marks.old marks.new from turn.old.sent.items turn.new.sent.items) }
+        → MarksNew (marker_of S.Service (saving S.form S.state_of S.is_savable) who every) (grammar_in who) who.boot key p marks.old marks.new from turn.old.sent.items turn.new.sent.items) }
 {
     let waits = marks.message(who.boot, key).is_some();
     marks.advance(turn.alloc, key, conn)?;

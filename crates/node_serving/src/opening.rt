@@ -14,14 +14,14 @@ ghost use Rattle.ft_model.specs.Network.{source_of};
 ghost use Rattle.ft_model.specs.Node.{Stage, is_for};
 ghost use Rattle.ft_model.specs.Node.Input.{Packet_comes, Tick_comes};
 ghost use Rattle.ft_model.specs.Opening.{is_syn as is_syn_lem};
-ghost use Rattle.node_serving.specs.Identity.{node_of};
+ghost use Rattle.node_serving.specs.Identity.{node_of, grammar_in};
 ghost use Rattle.node_serving.specs.Openings.{slot_opens, is_pending_slot, pending_slots, IsCounted};
 ghost use Rattle.node_serving.specs.Slots.{numbers_of, AllSound, IsSoundSlot};
 ghost use Rattle.node_serving.specs.Turns.{Sends, SendsOpens, TurnAdmits, TurnAdmitsAlone};
 
 use crate::hearing::opening_at;
 use crate::identity::Identity;
-use crate::sent::tell;
+use crate::sent::send_message;
 use crate::slot::{Opening, Slot};
 use crate::slots::{add_slot, key_at};
 use crate::turn::Turn;
@@ -41,7 +41,7 @@ fn ask(who: Identity, key: Key, opening: Opening, turn: &mut Turn) -> Result<(),
     requires boot { 1 ≤ who.boot }
     requires least { 64 ≤ opening.mss }
     requires most { opening.mss ≤ largest_segment }
-    ensures { OnOk result (Sends (told_by who.boot (OpenMsg (numbers_of key opening)) ∷ []) turn.old turn.new) }
+    ensures { OnOk result (Sends (grammar_in who) (told_by who.boot (OpenMsg (numbers_of key opening)) ∷ []) turn.old turn.new) }
 {
     let message = Msg {
         boot: who.boot,
@@ -52,7 +52,7 @@ fn ask(who: Identity, key: Key, opening: Opening, turn: &mut Turn) -> Result<(),
             mss: opening.mss,
         }),
     };
-    tell(&message, turn)
+    send_message(who, &message, turn)
 }
 
 fn ask_slot<S: Service>(
@@ -63,7 +63,7 @@ fn ask_slot<S: Service>(
 ) -> Result<(), NoMemory>
     requires boot { 1 ≤ who.boot }
     requires sound { IsSoundSlot who key slot.now }
-    ensures { OnOk result ((stage : Stage) → Sends (slot_opens (node_of who stage) Tick_comes key slot.now) turn.old turn.new) }
+    ensures { OnOk result ((stage : Stage) → Sends (grammar_in who) (slot_opens (node_of who stage) Tick_comes key slot.now) turn.old turn.new) }
 {
     match slot {
         Slot::Pending(opening) => ask(who, key, *opening, turn),

@@ -1,12 +1,12 @@
 //! A packet that the node sends.
 
 ghost use Rattle.std.specs.Prelude.{◌≡◌, OnOk};
-ghost use Rattle.seq_arith.specs.MessageGrammar.{reading};
+ghost use Rattle.seq_arith.specs.MessageGrammar.{reading_by};
 ghost use Rattle.node_serving.specs.SentBytes.{sent_to, party_of};
 ghost use Rattle.conn_marks.specs.MarkSends.{is_done_wire, says_done_in};
 
 use ft_io::{Key, NoMemory};
-use logger_wire::{Body, read_msg};
+use logger_wire::{Body, Grammar, read_msg_by};
 use std::alloc::Global;
 use std::marker::Model;
 
@@ -52,13 +52,13 @@ impl OutPacket {
         Ok(())
     }
 
-    /// Whether it is a message to the logger that says that a connection is done.
-    pub(crate) fn is_done(&self) -> bool
-        ensures { result ≡ is_done_wire self.now }
+    /// Whether it is a message to the logger, in this grammar, that says that a connection is done.
+    pub(crate) fn is_done(&self, grammar: Grammar) -> bool
+        ensures { result ≡ is_done_wire grammar self.now }
     {
         match self.to {
             To::Client(_) => false,
-            To::Logger => says_done(&self.text),
+            To::Logger => is_done_message(grammar, &self.text),
         }
     }
 
@@ -77,11 +77,11 @@ impl OutPacket {
     }
 }
 
-/// Whether bytes are the message that a connection is done.
-fn says_done(bytes: &[u8]) -> bool
-    ensures { result ≡ says_done_in (reading bytes.now) }
+/// Whether bytes are the message of this grammar that a connection is done.
+fn is_done_message(grammar: Grammar, bytes: &[u8]) -> bool
+    ensures { result ≡ says_done_in (reading_by grammar bytes.now) }
 {
-    match read_msg(bytes) {
+    match read_msg_by(grammar, bytes) {
         Ok(m) => matches!(m.body, Body::Done { .. }),
         Err(_) => false,
     }

@@ -6,6 +6,7 @@ ghost use Rattle.conn_marks.specs.MarkSends.{is_done_wire, put_before};
 
 use crate::out_packet::{OutPacket, To};
 use ft_io::NoMemory;
+use logger_wire::Grammar;
 use std::alloc::Global;
 use std::marker::Model;
 
@@ -30,7 +31,7 @@ impl Model for Outgoing {
 
 impl Outgoing {
     /// No packets. Nothing is allocated.
-    pub(crate) fn new(alloc: Global) -> Outgoing
+    pub fn new(alloc: Global) -> Outgoing
         ensures { result.items ≡ [] }
     {
         Outgoing {
@@ -47,7 +48,7 @@ impl Outgoing {
     }
 
     /// Appends a packet.
-    pub(crate) fn send(&mut self, alloc: Global, to: To, bytes: &[u8]) -> Result<(), NoMemory>
+    pub fn send(&mut self, alloc: Global, to: To, bytes: &[u8]) -> Result<(), NoMemory>
         ensures { OnOk result (self.new.items ≡ self.old.items ++ sent_to to bytes.now ∷ []) }
     {
         put(alloc, &mut self.packets, self.count, to, bytes)?;
@@ -62,13 +63,13 @@ impl Outgoing {
         self.count
     }
 
-    /// How many of the packets after the first `from` say that a connection is done.
-    pub(crate) fn dones_from(&self, from: usize) -> usize
+    /// How many of the packets after the first `from` say that a connection is done, where messages are in this grammar.
+    pub(crate) fn dones_from(&self, grammar: Grammar, from: usize) -> usize
         requires { from ≤ length self.now.items }
-        ensures value { result ≡ length (filter is_done_wire (drop from self.now.items)) }
+        ensures value { result ≡ length (filter (is_done_wire grammar) (drop from self.now.items)) }
         ensures few { result ≤ length self.now.items }
     {
-        count_dones(&self.as_slice()[from..])
+        count_dones(grammar, &self.as_slice()[from..])
     }
 
     /// Inserts a packet before the last `behind` packets.
@@ -116,14 +117,14 @@ fn put(
     Ok(())
 }
 
-/// How many of these packets say that a connection is done.
-fn count_dones(packets: &[OutPacket]) -> usize
-    ensures value { result ≡ length (filter is_done_wire packets.now) }
+/// How many of these packets say that a connection is done, where messages are in this grammar.
+fn count_dones(grammar: Grammar, packets: &[OutPacket]) -> usize
+    ensures value { result ≡ length (filter (is_done_wire grammar) packets.now) }
     ensures few { result ≤ length packets.now }
 {
     let mut count = 0;
     for packet in packets {
-        count += usize::from(packet.is_done());
+        count += usize::from(packet.is_done(grammar));
     }
     count
 }

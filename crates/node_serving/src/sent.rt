@@ -1,41 +1,44 @@
 //! What the node sends in a turn.
 
-ghost use Rattle.std.specs.Prelude.{◌≡◌, ◌++◌, ◌∷◌, [], map, length, IfOk, OnOk};
+ghost use Rattle.std.specs.Prelude.{◌≡◌, ◌++◌, ◌∷◌, [], map, OnOk};
 ghost use Rattle.std.specs.List.{AllByRecursion};
 ghost use Rattle.ft_model.specs.Network.Packet.{To_logger};
-ghost use Rattle.logger_wire.specs.Value.{body_of, message_of, IsSendable};
+ghost use Rattle.logger_wire.specs.Value.{body_of, message_of, IsSendableBy};
 ghost use Rattle.server_trait.specs.Service.{AreBytes};
 ghost use Rattle.seq_arith.specs.MessageGrammar.{behind_of};
+ghost use Rattle.seq_arith.specs.declared.kinds.Grammar.{Grammar};
 ghost use Rattle.seq_arith.specs.MarkGrammar.{IsSpellable};
 ghost use Rattle.logger_wire.specs.MarkValue.{message_of as mark_message_of};
 ghost use Rattle.mark_laws.specs.Marking.Outgoing.{Mark_to_logger};
 ghost use Rattle.conn_marks.specs.MarkSends.{AreOut};
-ghost use Rattle.node_serving.specs.SentBytes.{sent_to, wires_of, segment_to, message_to_logger};
+ghost use Rattle.node_serving.specs.Identity.{grammar_in};
+ghost use Rattle.node_serving.specs.SentBytes.{wires_of, segment_to, message_to_logger};
 ghost use Rattle.node_serving.specs.Turns.{Sends};
 
+use crate::identity::Identity;
 use crate::out_packet::To;
 use crate::outgoing::Outgoing;
 use crate::turn::Turn;
 use ft_io::{Key, NoMemory};
-use logger_wire::{MarkMsg, Msg, put_msg, write_mark};
+use logger_wire::{MarkMsg, Msg, put_msg_by, write_mark};
 use std::alloc::Global;
 use wrapped_conn::TurnOut;
 
-/// Sends the logger a message without bytes after its fields.
-pub fn tell(message: &Msg<'_>, turn: &mut Turn) -> Result<(), NoMemory>
-    requires sendable { IsSendable message.now }
+/// Sends the logger a message without bytes after its fields, in the incarnation's grammar.
+pub fn send_message(who: Identity, message: &Msg<'_>, turn: &mut Turn) -> Result<(), NoMemory>
+    requires sendable { IsSendableBy (grammar_in who) message.now }
     requires bare { behind_of (body_of message.now.body) ≡ [] }
-    ensures { OnOk result (Sends (To_logger (message_of message.now) ∷ []) turn.old turn.new) }
+    ensures { OnOk result (Sends (grammar_in who) (To_logger (message_of message.now) ∷ []) turn.old turn.new) }
 {
     let mut text = [0; 64];
-    let len = put_msg(message, &mut text);
+    let len = put_msg_by(who.profile.grammar(), message, &mut text);
     turn.sent.send(turn.alloc, To::Logger, &text[..len])
 }
 
 /// Asks the logger for a mark.
 pub fn ask_mark(question: &MarkMsg<'_>, turn: &mut Turn) -> Result<(), NoMemory>
     requires { IsSpellable (mark_message_of question.now) }
-    ensures { OnOk result (AreOut (Mark_to_logger (mark_message_of question.now) ∷ []) turn.old.sent.items turn.new.sent.items) }
+    ensures { OnOk result ((grammar : Grammar) → AreOut grammar (Mark_to_logger (mark_message_of question.now) ∷ []) turn.old.sent.items turn.new.sent.items) }
 {
     let mut text = [0; 2_048];
     let len = write_mark(question, &mut text);

@@ -5,22 +5,22 @@ ghost use Rattle.std.specs.Map.{lookup};
 ghost use Rattle.ft_io.specs.Key.{key_eq};
 ghost use Rattle.seq_arith.specs.PacketGrammar.{reading};
 ghost use Rattle.segment_codec.specs.Value.{segment_of};
-ghost use Rattle.logger_wire.specs.Value.{message_of, IsSendable};
+ghost use Rattle.logger_wire.specs.Value.{message_of, IsSendableBy};
 ghost use Rattle.ft_model.specs.Network.{source_of};
 ghost use Rattle.ft_model.specs.Node.{Stage as Standing, is_for};
 ghost use Rattle.ft_model.specs.Node.Input.{Packet_comes, Message_comes, Tick_comes};
 ghost use Rattle.node_serving.specs.Clients.{KnowsOn};
-ghost use Rattle.node_serving.specs.Identity.{node_of};
+ghost use Rattle.node_serving.specs.Identity.{node_of, grammar_in};
 ghost use Rattle.node_serving.specs.Openings.{IsCounted};
 ghost use Rattle.node_serving.specs.Slots.{AllSound};
 ghost use Rattle.node_serving.specs.Turns.{ServingTurns, ServingTurnsAlone};
 
-use crate::hearing::hear;
+use crate::hearing::receive;
 use crate::identity::Identity;
 use crate::opening::{admit, ask_again, ask_all};
 use crate::refusal::refuse_unknown;
 use crate::slot::Slot;
-use crate::slots::{give_known, tick_all};
+use crate::slots::{serve_known, tick_all};
 use crate::turn::Turn;
 use ft_io::{Addr, Key, NoMemory};
 use indexmap::IndexMap;
@@ -67,7 +67,7 @@ pub fn serve_message<S: Service>(
     turn: &mut Turn,
 ) -> Result<(), NoMemory>
     requires boot { 1 ≤ who.boot }
-    requires sendable { IsSendable m.now }
+    requires sendable { IsSendableBy (grammar_in who) m.now }
     requires sound { AllSound who serving.old.slots.entries }
     requires counted { IsCounted who.isn serving.old.next.0 }
     ensures turn { OnOk result (m.now.boot ≡ who.boot
@@ -79,7 +79,7 @@ pub fn serve_message<S: Service>(
     ensures sound { OnOk result (AllSound who serving.new.slots.entries) }
     ensures counted { OnOk result (IsCounted who.isn serving.new.next.0) }
 {
-    hear(who, m, &mut serving.slots, turn)
+    receive(who, m, &mut serving.slots, turn)
 }
 
 /// Whether a segment is for this server.
@@ -158,14 +158,14 @@ pub(crate) fn serve_packet<S: Service>(
         return Ok(());
     }
     if serving.slots.contains_key(&segment.head.sender()) {
-        serve_known(who, segment, packet, serving, turn)
+        serve_known_client(who, segment, packet, serving, turn)
     } else {
         serve_strange(who, segment, serving, turn)
     }
 }
 
 /// Handles a packet of a known client.
-fn serve_known<S: Service>(
+fn serve_known_client<S: Service>(
     who: Identity,
     segment: &PacketRef<'_>,
     packet: &mut [u8],
@@ -186,7 +186,7 @@ fn serve_known<S: Service>(
     ensures sound { OnOk result (AllSound who serving.new.slots.entries) }
     ensures counted { OnOk result (IsCounted who.isn serving.new.next.0) }
 {
-    give_known(who, segment, &mut serving.slots, packet, turn)?;
+    serve_known(who, segment, &mut serving.slots, packet, turn)?;
     ask_again(who, segment, &serving.slots, turn)
 }
 

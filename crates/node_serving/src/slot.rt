@@ -12,7 +12,7 @@ ghost use Rattle.node_serving.specs.Slots.{IsSoundSlot};
 ghost use Rattle.node_serving.specs.Turns.{SendsFor, SlotTurns};
 
 use crate::identity::Identity;
-use crate::live::{give_live, tick_live};
+use crate::live::{serve_live, tick_live};
 use crate::refusal::refuse_closed;
 use crate::turn::Turn;
 use ft_io::{Key, NoMemory};
@@ -50,7 +50,7 @@ pub(crate) fn tick_slot<S: Service>(
 ) -> Result<(), NoMemory>
     requires { IsSoundSlot who key slot.old }
     ensures turn { OnOk result (SlotTurns S.Service who Tick_comes key slot.old slot.new turn.old turn.new) }
-    ensures alone { OnOk result (SendsFor key turn.old turn.new) }
+    ensures alone { OnOk result (SendsFor who key turn.old turn.new) }
     ensures known { OnOk result (known_as slot.new ≡ known_as slot.old) }
     ensures sound { OnOk result (IsSoundSlot who key slot.new) }
 {
@@ -61,7 +61,7 @@ pub(crate) fn tick_slot<S: Service>(
 }
 
 /// Gives a segment to the slot of its client. `packet` has the segment's bytes.
-pub(crate) fn give_slot<S: Service>(
+pub(crate) fn serve_slot<S: Service>(
     who: Identity,
     segment: &PacketRef<'_>,
     slot: &mut Slot<S>,
@@ -72,12 +72,12 @@ pub(crate) fn give_slot<S: Service>(
     requires read { reading packet.old ≡ Ok (segment_of segment.now) }
     ensures turn { OnOk result (is_for who.local (segment_of segment.now) ≡ true → SlotTurns S.Service who (Packet_comes (segment_of segment.now))
         (source_of (segment_of segment.now)) slot.old slot.new turn.old turn.new) }
-    ensures alone { OnOk result (SendsFor (source_of (segment_of segment.now)) turn.old turn.new) }
+    ensures alone { OnOk result (SendsFor who (source_of (segment_of segment.now)) turn.old turn.new) }
     ensures known { OnOk result (known_as slot.new ≡ known_as slot.old) }
     ensures sound { OnOk result (IsSoundSlot who (source_of (segment_of segment.now)) slot.new) }
 {
     match slot {
-        Slot::Live(conn) => give_live(who, segment.head.sender(), conn, packet, turn),
+        Slot::Live(conn) => serve_live(who, segment.head.sender(), conn, packet, turn),
         Slot::Pending(_) => Ok(()),
         Slot::Done => refuse_closed(who, segment, turn),
     }

@@ -1,7 +1,7 @@
 //! The slots of a node that serves, in one map, in the order of the log and then of the SYNs.
 
 ghost use Rattle.std.specs.Prelude.{◌≡◌, ◌<◌, ◌∷◌, ◌++◌, [], List, Ok, Some, None, IfSome, OnOk, true, length, slice_get, option_copied, option_map};
-ghost use Rattle.std.specs.Map.{lookup};
+ghost use Rattle.std.specs.Map.{lookup, remove_entry};
 ghost use Rattle.ft_io.specs.Key.{key_eq};
 ghost use Rattle.server_trait.specs.Service.{Machine};
 ghost use Rattle.seq_arith.specs.PacketGrammar.{reading};
@@ -16,7 +16,7 @@ ghost use Rattle.node_serving.specs.Slots.{AllStand, AllSound, IsSoundSlot};
 ghost use Rattle.node_serving.specs.Turns.{SlotsTurn, SlotsTurnAlone};
 
 use crate::identity::Identity;
-use crate::slot::{Slot, give_slot, live_conn, tick_slot};
+use crate::slot::{Slot, live_conn, serve_slot, tick_slot};
 use crate::turn::Turn;
 use ft_io::{Key, NoMemory};
 use indexmap::IndexMap;
@@ -31,6 +31,22 @@ pub(crate) fn key_at<S: Service>(slots: &IndexMap<Key, Slot<S>>, i: usize) -> Ke
 {
     let (key, _) = slots.get_index(i).unwrap();
     *key
+}
+
+/// The key at a place of the map, if there is such a place.
+pub fn nth_key<S: Service>(slots: &IndexMap<Key, Slot<S>>, i: usize) -> Option<Key>
+    ensures { result ≡ option_map (λ e. e.0) (slice_get slots.now.entries i) }
+{
+    let (key, _slot) = slots.get_index(i)?;
+    Some(*key)
+}
+
+/// Removes the slot of a key. The others keep their order.
+pub fn forget_slot<S: Service>(slots: &mut IndexMap<Key, Slot<S>>, key: Key)
+    ensures slots { slots.new.entries ≡ remove_entry (key_eq key) slots.old.entries }
+    ensures sound { (who : Incarnation) → AllSound who slots.old.entries → AllSound who slots.new.entries }
+{
+    drop(slots.shift_remove(&key));
 }
 
 /// Passes a tick to each slot, in order.
@@ -53,7 +69,7 @@ pub(crate) fn tick_all<S: Service>(
 }
 
 /// Gives a segment to the slot of its client, if there is one. `packet` has the segment's bytes.
-pub(crate) fn give_known<S: Service>(
+pub(crate) fn serve_known<S: Service>(
     who: Identity,
     segment: &PacketRef<'_>,
     slots: &mut IndexMap<Key, Slot<S>>,
@@ -70,7 +86,7 @@ pub(crate) fn give_known<S: Service>(
     ensures sound { OnOk result (AllSound who slots.new.entries) }
 {
     if let Some(slot) = slots.get_mut(&segment.head.sender()) {
-        give_slot(who, segment, slot, packet, turn)?;
+        serve_slot(who, segment, slot, packet, turn)?;
     }
     Ok(())
 }

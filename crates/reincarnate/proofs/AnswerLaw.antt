@@ -107,7 +107,7 @@ head_form false n index head fetched = refl
 -- an entry is asked for
 heads_lead : {S : Type 0} (service : Machine S) (s : FetchingState S) (fetched : List Fetched) (index : ℕ) (head : EntryHead) → StandFor service fetched (entries_of s) → AreWhole fetched
     → asked_of s.newest ≡ None
-    → Leads service (fetched_after (next_entry s.count (length fetched)) (EntryMsg index head) fetched) (if head_fits index head.key s then Some (with_head service.fresh head s) else None)
+    → Leads service (fetched_after (next_entry s.count (length fetched)) (EntryMsg index head) fetched) (if head_fits index head.key s then Some (with_head service.fresh service.greeting head s) else None)
 heads_lead service s fetched index head st whole none =
     let nf : Bool = not (is_fetched head.key fetched) in
     let asks : Bool = nat_lt (length fetched) s.count && (index == length fetched && nf) in
@@ -116,8 +116,8 @@ heads_lead service s fetched index head st whole none =
     let known = same_known service head.key fetched (entries_of s) st in
     let same : head_fits index head.key s ≡ asks =
     (λ j. is_none (none j) && nat_lt index s.count && index == size j && known j) ∙ same_place index (length fetched) s.count nf (index == length fetched) refl in
-    subst (λ m. Leads service m (if head_fits index head.key s then Some (with_head service.fresh head s) else None)) (sym (head_form (nat_lt (length fetched) s.count) (length fetched) index head fetched))
-    (by_choice service asks (head_fits index head.key s) (new ∷ fetched) (with_head service.fresh head s) same
+    subst (λ m. Leads service m (if head_fits index head.key s then Some (with_head service.fresh service.greeting head s) else None)) (sym (head_form (nat_lt (length fetched) s.count) (length fetched) index head fetched))
+    (by_choice service asks (head_fits index head.key s) (new ∷ fetched) (with_head service.fresh service.greeting head s) same
     (λ taken. record { entries = (head_stands service head, st); newest = λ q. none_is_some _ (sym q); whole = whole }))
 
 -- what isn't an entry's head doesn't answer a question for one
@@ -202,64 +202,64 @@ lens_lead service s e f earlier key first lens st rest whole is =
     record { entries = (lengths_stand service f e lens all st (grind (arith, within)) enough refl, rest); newest = λ q. none_is_some _ (sym q); whole = whole }))
 
 -- by what is missing of the newest entry
-by_lack : {S : Type 0} (started : ℕ → S) (after : S → List ℕ → Served S) (boot kind count : ℕ) (marks : Marks) (e : EntryState S) (before : List (EntryState S)) (f : Fetched) (earlier : List Fetched)
-    → StandsFor (machine (started kind) after) f e → StandFor (machine (started kind) after) earlier before → AreWhole earlier → (l : Lack) → lacks e ≡ l → lack_of f ≡ l → (body : Body)
-    → Leads (machine (started kind) after) (fetched_after (wanted_when l count f earlier) body (f ∷ earlier))
-    (answered started after (record { boot = boot; kind = kind; count = count; marks = marks; newest = Some e; earlier = before }) body)
-by_lack started after boot kind count marks e before f earlier st rest whole lack.Bytes is law (EntryMsg index head) =
+by_lack : {S : Type 0} (started : ℕ → S) (after : S → List ℕ → Served S) (greeting : S → List ℕ) (boot kind count : ℕ) (marks : Marks) (e : EntryState S) (before : List (EntryState S)) (f : Fetched) (earlier : List Fetched)
+    → StandsFor (machine (started kind) after greeting) f e → StandFor (machine (started kind) after greeting) earlier before → AreWhole earlier → (l : Lack) → lacks e ≡ l → lack_of f ≡ l → (body : Body)
+    → Leads (machine (started kind) after greeting) (fetched_after (wanted_when l count f earlier) body (f ∷ earlier))
+    (answered started after greeting (record { boot = boot; kind = kind; count = count; marks = marks; newest = Some e; earlier = before }) body)
+by_lack started after greeting boot kind count marks e before f earlier st rest whole lack.Bytes is law (EntryMsg index head) =
     let s : FetchingState _ = record { boot = boot; kind = kind; count = count; marks = marks; newest = Some e; earlier = before } in
-    unled (machine (started kind) after) (head_fits index head.key s) (with_head (started kind) head s) (head_unfit s e index head.key refl (ap (λ l. is_none (asked_for l e)) is))
-by_lack started after boot kind count marks e before f earlier st rest whole lack.Bytes is law (PartMsg key offset bytes) =
-    part_leads (machine (started kind) after) (record { boot = boot; kind = kind; count = count; marks = marks; newest = Some e; earlier = before }) e f earlier key offset bytes st rest whole is
-by_lack started after boot kind count marks e before f earlier st rest whole lack.Bytes is law (LensMsg key first lens) =
+    unled (machine (started kind) after greeting) (head_fits index head.key s) (with_head (started kind) (greeting (started kind)) head s) (head_unfit s e index head.key refl (ap (λ l. is_none (asked_for l e)) is))
+by_lack started after greeting boot kind count marks e before f earlier st rest whole lack.Bytes is law (PartMsg key offset bytes) =
+    part_leads (machine (started kind) after greeting) (record { boot = boot; kind = kind; count = count; marks = marks; newest = Some e; earlier = before }) e f earlier key offset bytes st rest whole is
+by_lack started after greeting boot kind count marks e before f earlier st rest whole lack.Bytes is law (LensMsg key first lens) =
     let s : FetchingState _ = record { boot = boot; kind = kind; count = count; marks = marks; newest = Some e; earlier = before } in
-    subst (Leads (machine (started kind) after) None) (sym (lens_unfit (with_newest s) (λ c. with_lengths after c lens e) e key first lens (ap asks_lengths is))) tt
-by_lack started after boot kind count marks e before f earlier st rest whole lack.Bytes is law _ = tt
-by_lack started after boot kind count marks e before f earlier st rest whole lack.Lengths is law (EntryMsg index head) =
+    subst (Leads (machine (started kind) after greeting) None) (sym (lens_unfit (with_newest s) (λ c. with_lengths after c lens e) e key first lens (ap asks_lengths is))) tt
+by_lack started after greeting boot kind count marks e before f earlier st rest whole lack.Bytes is law _ = tt
+by_lack started after greeting boot kind count marks e before f earlier st rest whole lack.Lengths is law (EntryMsg index head) =
     let s : FetchingState _ = record { boot = boot; kind = kind; count = count; marks = marks; newest = Some e; earlier = before } in
-    unled (machine (started kind) after) (head_fits index head.key s) (with_head (started kind) head s) (head_unfit s e index head.key refl (ap (λ l. is_none (asked_for l e)) is))
-by_lack started after boot kind count marks e before f earlier st rest whole lack.Lengths is law (PartMsg key offset bytes) =
+    unled (machine (started kind) after greeting) (head_fits index head.key s) (with_head (started kind) (greeting (started kind)) head s) (head_unfit s e index head.key refl (ap (λ l. is_none (asked_for l e)) is))
+by_lack started after greeting boot kind count marks e before f earlier st rest whole lack.Lengths is law (PartMsg key offset bytes) =
     let s : FetchingState _ = record { boot = boot; kind = kind; count = count; marks = marks; newest = Some e; earlier = before } in
-    subst (Leads (machine (started kind) after) None) (sym (part_unfit (with_newest s) e (with_bytes after bytes e) key offset (length bytes) (ap asks_bytes is))) tt
-by_lack started after boot kind count marks e before f earlier st rest whole lack.Lengths is law (LensMsg key first lens) =
-    lens_lead (machine (started kind) after) (record { boot = boot; kind = kind; count = count; marks = marks; newest = Some e; earlier = before }) e f earlier key first lens st rest whole is
-by_lack started after boot kind count marks e before f earlier st rest whole lack.Lengths is law _ = tt
-by_lack started after boot kind count marks e before f earlier st rest whole lack.Nothing is law (EntryMsg index head) =
-    heads_lead (machine (started kind) after) (record { boot = boot; kind = kind; count = count; marks = marks; newest = Some e; earlier = before }) (f ∷ earlier) index head (st, rest) (nothing_lacks f law, whole)
+    subst (Leads (machine (started kind) after greeting) None) (sym (part_unfit (with_newest s) e (with_bytes after bytes e) key offset (length bytes) (ap asks_bytes is))) tt
+by_lack started after greeting boot kind count marks e before f earlier st rest whole lack.Lengths is law (LensMsg key first lens) =
+    lens_lead (machine (started kind) after greeting) (record { boot = boot; kind = kind; count = count; marks = marks; newest = Some e; earlier = before }) e f earlier key first lens st rest whole is
+by_lack started after greeting boot kind count marks e before f earlier st rest whole lack.Lengths is law _ = tt
+by_lack started after greeting boot kind count marks e before f earlier st rest whole lack.Nothing is law (EntryMsg index head) =
+    heads_lead (machine (started kind) after greeting) (record { boot = boot; kind = kind; count = count; marks = marks; newest = Some e; earlier = before }) (f ∷ earlier) index head (st, rest) (nothing_lacks f law, whole)
     (ap (λ l. asked_for l e) is)
-by_lack started after boot kind count marks e before f earlier st rest whole lack.Nothing is law (PartMsg key offset bytes) =
+by_lack started after greeting boot kind count marks e before f earlier st rest whole lack.Nothing is law (PartMsg key offset bytes) =
     let s : FetchingState _ = record { boot = boot; kind = kind; count = count; marks = marks; newest = Some e; earlier = before } in
-    subst (Leads (machine (started kind) after) (fetched_after (next_entry count (length (f ∷ earlier))) (PartMsg key offset bytes) (f ∷ earlier)))
+    subst (Leads (machine (started kind) after greeting) (fetched_after (next_entry count (length (f ∷ earlier))) (PartMsg key offset bytes) (f ∷ earlier)))
     (sym (part_unfit (with_newest s) e (with_bytes after bytes e) key offset (length bytes) (ap asks_bytes is)))
-    (no_head (machine (started kind) after) (nat_lt (length (f ∷ earlier)) count) (length (f ∷ earlier)) (PartMsg key offset bytes) (f ∷ earlier) refl)
-by_lack started after boot kind count marks e before f earlier st rest whole lack.Nothing is law (LensMsg key first lens) =
+    (no_head (machine (started kind) after greeting) (nat_lt (length (f ∷ earlier)) count) (length (f ∷ earlier)) (PartMsg key offset bytes) (f ∷ earlier) refl)
+by_lack started after greeting boot kind count marks e before f earlier st rest whole lack.Nothing is law (LensMsg key first lens) =
     let s : FetchingState _ = record { boot = boot; kind = kind; count = count; marks = marks; newest = Some e; earlier = before } in
-    subst (Leads (machine (started kind) after) (fetched_after (next_entry count (length (f ∷ earlier))) (LensMsg key first lens) (f ∷ earlier)))
+    subst (Leads (machine (started kind) after greeting) (fetched_after (next_entry count (length (f ∷ earlier))) (LensMsg key first lens) (f ∷ earlier)))
     (sym (lens_unfit (with_newest s) (λ c. with_lengths after c lens e) e key first lens (ap asks_lengths is)))
-    (no_head (machine (started kind) after) (nat_lt (length (f ∷ earlier)) count) (length (f ∷ earlier)) (LensMsg key first lens) (f ∷ earlier) refl)
-by_lack started after boot kind count marks e before f earlier st rest whole lack.Nothing is law body =
-    no_head (machine (started kind) after) (nat_lt (length (f ∷ earlier)) count) (length (f ∷ earlier)) body (f ∷ earlier) refl
+    (no_head (machine (started kind) after greeting) (nat_lt (length (f ∷ earlier)) count) (length (f ∷ earlier)) (LensMsg key first lens) (f ∷ earlier) refl)
+by_lack started after greeting boot kind count marks e before f earlier st rest whole lack.Nothing is law body =
+    no_head (machine (started kind) after greeting) (nat_lt (length (f ∷ earlier)) count) (length (f ∷ earlier)) body (f ∷ earlier) refl
 
 -- before the first entry has come
-first_leads : {S : Type 0} (started : ℕ → S) (after : S → List ℕ → Served S) (boot kind count : ℕ) (marks : Marks) (body : Body)
-    → Leads (machine (started kind) after) (fetched_after (next_entry count 0) body []) (answered started after (record { boot = boot; kind = kind; count = count; marks = marks; newest = None; earlier = [] }) body)
-first_leads started after boot kind count marks (EntryMsg index head) =
-    heads_lead (machine (started kind) after) (record { boot = boot; kind = kind; count = count; marks = marks; newest = None; earlier = [] }) [] index head tt tt refl
-first_leads started after boot kind count marks body = no_head (machine (started kind) after) (nat_lt 0 count) 0 body [] refl
+first_leads : {S : Type 0} (started : ℕ → S) (after : S → List ℕ → Served S) (greeting : S → List ℕ) (boot kind count : ℕ) (marks : Marks) (body : Body)
+    → Leads (machine (started kind) after greeting) (fetched_after (next_entry count 0) body []) (answered started after greeting (record { boot = boot; kind = kind; count = count; marks = marks; newest = None; earlier = [] }) body)
+first_leads started after greeting boot kind count marks (EntryMsg index head) =
+    heads_lead (machine (started kind) after greeting) (record { boot = boot; kind = kind; count = count; marks = marks; newest = None; earlier = [] }) [] index head tt tt refl
+first_leads started after greeting boot kind count marks body = no_head (machine (started kind) after greeting) (nat_lt 0 count) 0 body [] refl
 
-by_newest : {S : Type 0} (started : ℕ → S) (after : S → List ℕ → Served S) (boot kind count : ℕ) (marks : Marks) (newest : Option (EntryState S)) (before : List (EntryState S)) (fetched : List Fetched) (body : Body)
-    → StandsFetching (machine (started kind) after) fetched (record { boot = boot; kind = kind; count = count; marks = marks; newest = newest; earlier = before })
-    → Leads (machine (started kind) after) (fetched_after (wanted count fetched) body fetched) (answered started after (record { boot = boot; kind = kind; count = count; marks = marks; newest = newest; earlier = before }) body)
-by_newest started after boot kind count marks None [] [] body st = first_leads started after boot kind count marks body
-by_newest started after boot kind count marks None [] (f ∷ fetched) body st = absurd st.entries
-by_newest started after boot kind count marks None (e ∷ before) fetched body st = absurd (cons_is_not_nil e before (st.newest refl))
-by_newest started after boot kind count marks (Some e) before [] body st = absurd st.entries
-by_newest started after boot kind count marks (Some e) before (f ∷ earlier) body st =
-    let service : Machine _ = machine (started kind) after in
+by_newest : {S : Type 0} (started : ℕ → S) (after : S → List ℕ → Served S) (greeting : S → List ℕ) (boot kind count : ℕ) (marks : Marks) (newest : Option (EntryState S)) (before : List (EntryState S)) (fetched : List Fetched) (body : Body)
+    → StandsFetching (machine (started kind) after greeting) fetched (record { boot = boot; kind = kind; count = count; marks = marks; newest = newest; earlier = before })
+    → Leads (machine (started kind) after greeting) (fetched_after (wanted count fetched) body fetched) (answered started after greeting (record { boot = boot; kind = kind; count = count; marks = marks; newest = newest; earlier = before }) body)
+by_newest started after greeting boot kind count marks None [] [] body st = first_leads started after greeting boot kind count marks body
+by_newest started after greeting boot kind count marks None [] (f ∷ fetched) body st = absurd st.entries
+by_newest started after greeting boot kind count marks None (e ∷ before) fetched body st = absurd (cons_is_not_nil e before (st.newest refl))
+by_newest started after greeting boot kind count marks (Some e) before [] body st = absurd st.entries
+by_newest started after greeting boot kind count marks (Some e) before (f ∷ earlier) body st =
+    let service : Machine _ = machine (started kind) after greeting in
     let s : FetchingState _ = record { boot = boot; kind = kind; count = count; marks = marks; newest = Some e; earlier = before } in
     let same : lacks e ≡ lack_of f = lacks_is service f e st.entries.0 in
-    subst (λ w. Leads service (fetched_after w body (f ∷ earlier)) (answered started after s body)) (sym (wanted_is count f earlier))
-    (by_lack started after boot kind count marks e before f earlier st.entries.0 st.entries.1 st.whole (lack_of f) same refl body)
+    subst (λ w. Leads service (fetched_after w body (f ∷ earlier)) (answered started after greeting s body)) (sym (wanted_is count f earlier))
+    (by_lack started after greeting boot kind count marks e before f earlier st.entries.0 st.entries.1 st.whole (lack_of f) same refl body)
 
 by_boot : {S : Type 0} (service : Machine S) (c : Bool) (told : Option (List Fetched)) (now : Option (FetchingState S)) → Leads service told now
     → Leads service (if c then told else None) (if c then now else None)
@@ -267,11 +267,11 @@ by_boot service true told now l = l
 by_boot service false told now l = tt
 
 -- the law of an answer, where no mark is awaited
-pub log_leads : {S : Type 0} (started : ℕ → S) (after : S → List ℕ → Served S) (s : FetchingState S) (fetched : List Fetched) (message : Message)
-    → StandsFetching (machine (started s.kind) after) fetched s → Leads (machine (started s.kind) after) (fetched_then s.boot s.count message fetched) (after_answer started after message s)
-log_leads started after s fetched message st =
-    by_boot (machine (started s.kind) after) (message.boot == s.boot) (fetched_after (wanted s.count fetched) message.body fetched) (answered started after s message.body)
-    (by_newest started after s.boot s.kind s.count s.marks s.newest s.earlier fetched message.body st)
+pub log_leads : {S : Type 0} (started : ℕ → S) (after : S → List ℕ → Served S) (greeting : S → List ℕ) (s : FetchingState S) (fetched : List Fetched) (message : Message)
+    → StandsFetching (machine (started s.kind) after greeting) fetched s → Leads (machine (started s.kind) after greeting) (fetched_then s.boot s.count message fetched) (after_answer started after greeting message s)
+log_leads started after greeting s fetched message st =
+    by_boot (machine (started s.kind) after greeting) (message.boot == s.boot) (fetched_after (wanted s.count fetched) message.body fetched) (answered started after greeting s message.body)
+    (by_newest started after greeting s.boot s.kind s.count s.marks s.newest s.earlier fetched message.body st)
 
 entry_asked : (b : Bool) (n : ℕ) → (if b then Some (ListMsg n) else None) ≡ option_map question (if b then Some (An_entry n) else None)
 entry_asked true n = refl

@@ -64,7 +64,7 @@ whole_by false false false false e = refl
 pub nothing_lacks : (f : Fetched) → lack_of f ≡ lack.Nothing → is_whole f ≡ true
 nothing_lacks f e = whole_by f.head.done (nat_lt (length f.bytes) (sum f.lengths)) (nat_lt (length f.lengths) f.head.reads) (nat_lt (length f.bytes) f.head.length) e
 
-pub head_stands : {S : Type 0} (service : Machine S) (head : EntryHead) → StandsFor service (record { head = head; bytes = []; lengths = [] }) (begun_entry service.fresh head)
+pub head_stands : {S : Type 0} (service : Machine S) (head : EntryHead) → StandsFor service (record { head = head; bytes = []; lengths = [] }) (begun_entry service.fresh service.greeting head)
 head_stands service head = record {
   head = refl;
   bytes = refl;

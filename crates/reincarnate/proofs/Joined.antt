@@ -146,6 +146,7 @@ hands_on service profile e i s is =
         reset = refl;
         unanswered = refl;
         delays = ap (λ x. x.delays) is.profile_is;
+        batches = ap (λ x. x.batches) is.profile_is;
       };
       u = u;
       i = i;

@@ -65,11 +65,11 @@ nothing_below service writing m bytes lengths none front =
     (empty_of_length bytes (sym below.whole ∙ ap sum no_reads), no_reads)) front
 
 start_stands : {S : Type 0} (service : Machine S) (writing : Writing S) (head : EntryHead) (m : Mark) (bytes lengths : List ℕ) → m.reads ≡ 0 → IsFront service writing m bytes lengths
-    → StandsFor service (record { head = head; bytes = bytes; lengths = lengths }) (begun_entry service.fresh head)
+    → StandsFor service (record { head = head; bytes = bytes; lengths = lengths }) (begun_entry service.fresh service.greeting head)
 start_stands service writing head m bytes lengths none front =
     let empty = nothing_below service writing m bytes lengths none front in
-    subst (λ b. StandsFor service (record { head = head; bytes = b; lengths = lengths }) (begun_entry service.fresh head)) (sym empty.0)
-    (subst (λ l. StandsFor service (record { head = head; bytes = []; lengths = l }) (begun_entry service.fresh head)) (sym empty.1) (head_stands service head))
+    subst (λ b. StandsFor service (record { head = head; bytes = b; lengths = lengths }) (begun_entry service.fresh service.greeting head)) (sym empty.0)
+    (subst (λ l. StandsFor service (record { head = head; bytes = []; lengths = l }) (begun_entry service.fresh service.greeting head)) (sym empty.1) (head_stands service head))
 
 some_below : {S : Type 0} (service : Machine S) (writing : Writing S) (m : Mark) (bytes lengths : List ℕ) → (m.reads == 0) ≡ false → IsFront service writing m bytes lengths
     → IsBelow service writing m bytes lengths
@@ -93,11 +93,11 @@ led_by : {S : Type 0} (service : Machine S) (writing : Writing S) (so_far : Fetc
     → ((e : EntryState S) → Begins service writing head m e → (bytes lengths : List ℕ) → IsFront service writing m bytes lengths → StandsSoFar service (begun_on bytes lengths so_far) (next e))
     → b ≡ lies_within head m → z ≡ (m.reads == 0) → o ≡ writing.state_of m.state
     → MarkLeads service writing so_far (if k && (b && (z || is_some o)) then Some m else None)
-    (option_map next (if k then (if b then (if z then Some (begun_entry service.fresh head) else option_map (begun_at head m) o) else None) else None))
+    (option_map next (if k then (if b then (if z then Some (begun_entry service.fresh service.greeting head) else option_map (begun_at head m) o) else None) else None))
 led_by service writing so_far head m next false b z o stands within none read = tt
 led_by service writing so_far head m next true false z o stands within none read = tt
 led_by service writing so_far head m next true true true o stands within none read =
-    stands (begun_entry service.fresh head) (λ bytes lengths front. start_stands service writing head m bytes lengths (eqb-true m.reads 0 (sym none)) front)
+    stands (begun_entry service.fresh service.greeting head) (λ bytes lengths front. start_stands service writing head m bytes lengths (eqb-true m.reads 0 (sym none)) front)
 led_by service writing so_far head m next true true false (Some state) stands within none read =
     stands (begun_at head m state) (λ bytes lengths front.
     mark_stands service writing head m state bytes lengths (sym within) (sym read) (some_below service writing m bytes lengths (sym none) front))
@@ -106,13 +106,13 @@ led_by service writing so_far head m next true true false None stands within non
 held_leads : {S : Type 0} (service : Machine S) (writing : Writing S) (boot kind count : ℕ) (code : Marks) (newest : Option (EntryState S)) (before : List (EntryState S)) (so_far : FetchedSoFar)
     (key : Key) (m : Mark) → StandsFetching service so_far.entries (record { boot = boot; kind = kind; count = count; marks = code; newest = newest; earlier = before })
     → MarkLeads service writing so_far (mark_of_newest writing (HeldMsg key m) so_far.entries)
-    (option_map (with_marked (record { boot = boot; kind = kind; count = count; marks = code; newest = newest; earlier = before })) (marked_on service.fresh writing.state_of key m newest))
+    (option_map (with_marked (record { boot = boot; kind = kind; count = count; marks = code; newest = newest; earlier = before })) (marked_on service.fresh service.greeting writing.state_of key m newest))
 held_leads service writing boot kind count code newest before so_far key m st = by_entries newest before so_far.entries so_far.awaits_mark st
   where
     by_entries : (newest : Option (EntryState _)) (before : List (EntryState _)) (entries : List Fetched) (awaiting : Bool)
         → StandsFetching service entries (record { boot = boot; kind = kind; count = count; marks = code; newest = newest; earlier = before })
         → MarkLeads service writing (record { entries = entries; awaits_mark = awaiting }) (mark_of_newest writing (HeldMsg key m) entries)
-        (option_map (with_marked (record { boot = boot; kind = kind; count = count; marks = code; newest = newest; earlier = before })) (marked_on service.fresh writing.state_of key m newest))
+        (option_map (with_marked (record { boot = boot; kind = kind; count = count; marks = code; newest = newest; earlier = before })) (marked_on service.fresh service.greeting writing.state_of key m newest))
     by_entries None [] [] awaiting st = tt
     by_entries None [] (f ∷ earlier) awaiting st = absurd st.entries
     by_entries None (e ∷ before) entries awaiting st = absurd (cons_is_not_nil e before (st.newest refl))
@@ -121,37 +121,37 @@ held_leads service writing boot kind count code newest before so_far key m st = 
         let s : FetchingState _ = record { boot = boot; kind = kind; count = count; marks = code; newest = Some e; earlier = before } in
         let so : FetchedSoFar = record { entries = f ∷ earlier; awaits_mark = awaiting } in
         subst (λ h. MarkLeads service writing so (mark_of_newest writing (HeldMsg key m) (f ∷ earlier))
-        (option_map (with_marked s) (if key_eq key h.key then begun_from service.fresh writing.state_of m h else None))) (sym st.entries.0.head)
+        (option_map (with_marked s) (if key_eq key h.key then begun_from service.fresh service.greeting writing.state_of m h else None))) (sym st.entries.0.head)
         (led_by service writing so f.head m (with_marked s) (key_eq key f.head.key) (lies_within f.head m) (m.reads == 0) (writing.state_of m.state)
         (λ x begins bytes lengths front. record {
           fetched = record { entries = (begins bytes lengths front, st.entries.1); newest = λ q. none_is_some _ (sym q); whole = st.whole };
           awaits = refl;
         }) refl refl refl)
 
-body_leads : {S : Type 0} (started : ℕ → S) (after : S → List ℕ → Served S) (form : S → List ℕ) (state_of : ℕ → List ℕ → Option S) (s : FetchingState S) (so_far : FetchedSoFar) (body : MarkBody)
-    → StandsFetching (machine (started s.kind) after) so_far.entries s
-    → MarkLeads (machine (started s.kind) after) (writing form (state_of s.kind)) so_far (mark_of_newest (writing form (state_of s.kind)) body so_far.entries) (held_heard started state_of body s)
-body_leads started after form state_of s so_far (HeldMsg key m) st =
-    held_leads (machine (started s.kind) after) (writing form (state_of s.kind)) s.boot s.kind s.count s.marks s.newest s.earlier so_far key m st
-body_leads started after form state_of s so_far (MarkMsg key m) st = tt
-body_leads started after form state_of s so_far (MarkedMsg key reads) st = tt
-body_leads started after form state_of s so_far (AskMsg key) st = tt
+body_leads : {S : Type 0} (started : ℕ → S) (after : S → List ℕ → Served S) (greeting : S → List ℕ) (form : S → List ℕ) (state_of : ℕ → List ℕ → Option S) (s : FetchingState S) (so_far : FetchedSoFar) (body : MarkBody)
+    → StandsFetching (machine (started s.kind) after greeting) so_far.entries s
+    → MarkLeads (machine (started s.kind) after greeting) (writing form (state_of s.kind)) so_far (mark_of_newest (writing form (state_of s.kind)) body so_far.entries) (held_heard started greeting state_of body s)
+body_leads started after greeting form state_of s so_far (HeldMsg key m) st =
+    held_leads (machine (started s.kind) after greeting) (writing form (state_of s.kind)) s.boot s.kind s.count s.marks s.newest s.earlier so_far key m st
+body_leads started after greeting form state_of s so_far (MarkMsg key m) st = tt
+body_leads started after greeting form state_of s so_far (MarkedMsg key reads) st = tt
+body_leads started after greeting form state_of s so_far (AskMsg key) st = tt
 
 by_choice : {S : Type 0} (service : Machine S) (writing : Writing S) (so_far : FetchedSoFar) (b : Bool) (told : Option Mark) (now : Option (FetchingState S))
     → MarkLeads service writing so_far told now → MarkLeads service writing so_far (if b then told else None) (if b then now else None)
 by_choice service writing so_far true told now l = l
 by_choice service writing so_far false told now l = tt
 
-mark_leads : {S : Type 0} (started : ℕ → S) (after : S → List ℕ → Served S) (form : S → List ℕ) (state_of : ℕ → List ℕ → Option S) (s : FetchingState S) (so_far : FetchedSoFar) (message : MarkMessage)
-    → StandsSoFar (machine (started s.kind) after) so_far s
-    → MarkLeads (machine (started s.kind) after) (writing form (state_of s.kind)) so_far (mark_reported (writing form (state_of s.kind)) s.boot message so_far) (mark_heard started state_of message s)
-mark_leads started after form state_of s so_far message st =
-    let service : Machine _ = machine (started s.kind) after in
+mark_leads : {S : Type 0} (started : ℕ → S) (after : S → List ℕ → Served S) (greeting : S → List ℕ) (form : S → List ℕ) (state_of : ℕ → List ℕ → Option S) (s : FetchingState S) (so_far : FetchedSoFar) (message : MarkMessage)
+    → StandsSoFar (machine (started s.kind) after greeting) so_far s
+    → MarkLeads (machine (started s.kind) after greeting) (writing form (state_of s.kind)) so_far (mark_reported (writing form (state_of s.kind)) s.boot message so_far) (mark_heard started greeting state_of message s)
+mark_leads started after greeting form state_of s so_far message st =
+    let service : Machine _ = machine (started s.kind) after greeting in
     let written : Writing _ = writing form (state_of s.kind) in
-    subst (λ a. MarkLeads service written so_far (mark_reported written s.boot message so_far) (if message.boot == s.boot && a then held_heard started state_of message.body s else None))
+    subst (λ a. MarkLeads service written so_far (mark_reported written s.boot message so_far) (if message.boot == s.boot && a then held_heard started greeting state_of message.body s else None))
     (sym st.awaits)
-    (by_choice service written so_far (message.boot == s.boot && so_far.awaits_mark) (mark_of_newest written message.body so_far.entries) (held_heard started state_of message.body s)
-    (body_leads started after form state_of s so_far message.body st.fetched))
+    (by_choice service written so_far (message.boot == s.boot && so_far.awaits_mark) (mark_of_newest written message.body so_far.entries) (held_heard started greeting state_of message.body s)
+    (body_leads started after greeting form state_of s so_far message.body st.fetched))
 
 -- A message that isn't about marks
 abbrev SoFarLeads : {S : Type 0} → Machine S → Option FetchedSoFar → Option (FetchingState S) → Type 0
@@ -189,15 +189,15 @@ unless : {S : Type 0} (service : Machine S) (a : Bool) (told : Option FetchedSoF
 unless service true told now l = tt
 unless service false told now l = l
 
-log_so_far : {S : Type 0} (started : ℕ → S) (after : S → List ℕ → Served S) (s : FetchingState S) (so_far : FetchedSoFar) (message : Message) → StandsSoFar (machine (started s.kind) after) so_far s
-    → SoFarLeads (machine (started s.kind) after) (fetched_on (uses s.marks) s.boot s.count message so_far) (log_heard started after message s)
-log_so_far started after s so_far message st =
-    let service : Machine _ = machine (started s.kind) after in
+log_so_far : {S : Type 0} (started : ℕ → S) (after : S → List ℕ → Served S) (greeting : S → List ℕ) (s : FetchingState S) (so_far : FetchedSoFar) (message : Message) → StandsSoFar (machine (started s.kind) after greeting) so_far s
+    → SoFarLeads (machine (started s.kind) after greeting) (fetched_on (uses s.marks) s.boot s.count message so_far) (log_heard started after greeting message s)
+log_so_far started after greeting s so_far message st =
+    let service : Machine _ = machine (started s.kind) after greeting in
     let code : Marks = marks_after s.marks message.body in
-    subst (λ a. SoFarLeads service (fetched_on (uses s.marks) s.boot s.count message so_far) (if a then None else option_map (noted code) (after_answer started after message s))) (sym st.awaits)
-    (unless service so_far.awaits_mark _ (option_map (noted code) (after_answer started after message s))
-    (noted_leads service (awaits_after (uses s.marks) message.body) code (fetched_then s.boot s.count message so_far.entries) (after_answer started after message s)
-    (awaits_is s.marks message.body) (log_leads started after s so_far.entries message st.fetched)))
+    subst (λ a. SoFarLeads service (fetched_on (uses s.marks) s.boot s.count message so_far) (if a then None else option_map (noted code) (after_answer started after greeting message s))) (sym st.awaits)
+    (unless service so_far.awaits_mark _ (option_map (noted code) (after_answer started after greeting message s))
+    (noted_leads service (awaits_after (uses s.marks) message.body) code (fetched_then s.boot s.count message so_far.entries) (after_answer started after greeting message s)
+    (awaits_is s.marks message.body) (log_leads started after greeting s so_far.entries message st.fetched)))
 
 -- The whole law of an answer
 log_done : {S : Type 0} (service : Machine S) (told : Option FetchedSoFar) (now : Option (FetchingState S)) (fits : Bool) (old new : FetchingState S) → SoFarLeads service told now
@@ -218,15 +218,15 @@ mark_done service written so_far (Some held) None fits old new l m = absurd l
 mark_done service written so_far (Some held) (Some s) fits old new l m =
     (m.0, λ bytes lengths front. subst (StandsSoFar service (begun_on bytes lengths so_far)) (sym m.1) (l bytes lengths front))
 
-pub any_leads : {S : Type 0} (started : ℕ → S) (after : S → List ℕ → Served S) (form : S → List ℕ) (state_of : ℕ → List ℕ → Option S) (s : FetchingState S) (so_far : FetchedSoFar) (message : AnyMessage)
-    (fits : Bool) (new : FetchingState S) → StandsSoFar (machine (started s.kind) after) so_far s
-    → MatchOption (any_heard started after state_of message s) ((fits ≡ false) × (new ≡ s)) (λ x. (fits ≡ true) × (new ≡ x))
-    → AnyLeads (machine (started s.kind) after) (writing form (state_of s.kind)) so_far message fits s new
-any_leads started after form state_of s so_far (Of_log message) fits new st m =
-    log_done (machine (started s.kind) after) (fetched_on (uses s.marks) s.boot s.count message so_far) (log_heard started after message s) fits s new (log_so_far started after s so_far message st) m
-any_leads started after form state_of s so_far (About_mark message) fits new st m =
-    mark_done (machine (started s.kind) after) (writing form (state_of s.kind)) so_far (mark_reported (writing form (state_of s.kind)) s.boot message so_far) (mark_heard started state_of message s)
-    fits s new (mark_leads started after form state_of s so_far message st) m
+pub any_leads : {S : Type 0} (started : ℕ → S) (after : S → List ℕ → Served S) (greeting : S → List ℕ) (form : S → List ℕ) (state_of : ℕ → List ℕ → Option S) (s : FetchingState S) (so_far : FetchedSoFar) (message : AnyMessage)
+    (fits : Bool) (new : FetchingState S) → StandsSoFar (machine (started s.kind) after greeting) so_far s
+    → MatchOption (any_heard started after greeting state_of message s) ((fits ≡ false) × (new ≡ s)) (λ x. (fits ≡ true) × (new ≡ x))
+    → AnyLeads (machine (started s.kind) after greeting) (writing form (state_of s.kind)) so_far message fits s new
+any_leads started after greeting form state_of s so_far (Of_log message) fits new st m =
+    log_done (machine (started s.kind) after greeting) (fetched_on (uses s.marks) s.boot s.count message so_far) (log_heard started after greeting message s) fits s new (log_so_far started after greeting s so_far message st) m
+any_leads started after greeting form state_of s so_far (About_mark message) fits new st m =
+    mark_done (machine (started s.kind) after greeting) (writing form (state_of s.kind)) so_far (mark_reported (writing form (state_of s.kind)) s.boot message so_far) (mark_heard started greeting state_of message s)
+    fits s new (mark_leads started after greeting form state_of s so_far message st) m
 
 -- What is asked
 mark_asked_is : {S : Type 0} (service : Machine S) (boot kind count : ℕ) (code : Marks) (newest : Option (EntryState S)) (before : List (EntryState S)) (entries : List Fetched)

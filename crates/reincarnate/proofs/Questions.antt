@@ -4,15 +4,15 @@ use Rattle.std.proofs.lemmas.Bool.{and_from, le-leb}
 use Rattle.ft_io.specs.declared.Key.{Key}
 use Rattle.seq_arith.specs.Mark.MarkBody.{AskMsg}
 use Rattle.seq_arith.specs.MarkGrammar as marks
-use Rattle.seq_arith.specs.MessageGrammar.{is_sound, has_length}
+use Rattle.seq_arith.specs.MessageGrammar.{has_length, is_sound_by}
 use Rattle.ft_model.specs.Offset.{one_if}
 use Rattle.logger_wire.specs.declared.Body.TheVariants as body
 use Rattle.reincarnate.specs.Questions.{IsAskable}
 use Rattle.wrapped_conn.proofs.Sendable.{FitsKey}
 
 pub hello_askable : IsAskable body.Hello
-unfolding is_sound has_length
-hello_askable boot live fits = record {
+unfolding is_sound_by has_length
+hello_askable grammar boot live fits = record {
   lens = refl;
   spellable = record {
     boot = omega (arith, fits);
@@ -23,8 +23,8 @@ hello_askable boot live fits = record {
 }
 
 pub list_askable : (index : ℕ) → index ≤ 63 → IsAskable (body.List index)
-unfolding is_sound has_length
-list_askable index few boot live fits = record {
+unfolding is_sound_by has_length
+list_askable index few grammar boot live fits = record {
   lens = refl;
   spellable = record {
     boot = omega (arith, fits);
@@ -36,8 +36,8 @@ list_askable index few boot live fits = record {
 }
 
 pub bytes_askable : (key : Key) (offset : ℕ) → FitsKey key → offset ≤ 2 ^ 24 → IsAskable (body.Bytes key offset)
-unfolding is_sound has_length
-bytes_askable key offset k within boot live fits = record {
+unfolding is_sound_by has_length
+bytes_askable key offset k within grammar boot live fits = record {
   lens = refl;
   spellable = record {
     boot = omega (arith, fits);
@@ -54,8 +54,8 @@ few_reads count sum len true have within short = omega (arith, have, within, sho
 few_reads count sum len false have within short = omega (arith, have, within, short)
 
 pub cuts_askable : (key : Key) (first : ℕ) → FitsKey key → first ≤ 2 ^ 24 + 1 → IsAskable (body.Cuts key first)
-unfolding is_sound has_length
-cuts_askable key first k few boot live fits = record {
+unfolding is_sound_by has_length
+cuts_askable key first k few grammar boot live fits = record {
   lens = refl;
   spellable = record {
     boot = omega (arith, fits);

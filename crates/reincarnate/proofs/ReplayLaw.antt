@@ -90,7 +90,7 @@ replays_stand service bytes lengths (n ∷ ws) acked r h =
     (λ t. replays_stand service bytes lengths ws acked (fed_on service.after n r) (fed_stands service bytes lengths n ws acked r h (grind (arith, t)))) (λ t. h)
 
 pub begins : {S : Type 0} (service : Machine S) (acked : ℕ)
-    → HasReplayed service [] [] [] acked (record { service = service.fresh; closed = false; made = 0; acked = acked; pending = []; held = [] })
+    → HasReplayed service [] [] [] acked (record { service = service.fresh; closed = false; made = length service.greeting; acked = acked; pending = drop acked service.greeting; held = [] })
 unfolding reference
 begins service acked = record {
   replayed = [];
@@ -98,7 +98,7 @@ begins service acked = record {
   within = omega arith;
   held = refl;
   acked_is = refl;
-  run = λ small. record { service = refl; closed = refl; made = refl; pending = sym (drop-nil acked) };
+  run = λ small. record { service = refl; closed = refl; made = refl; pending = refl };
 }
 
 pub more_held : {S : Type 0} (service : Machine S) (bytes lengths ws more : List ℕ) (acked : ℕ) (r : ReplayState S) → HasReplayed service bytes lengths ws acked r

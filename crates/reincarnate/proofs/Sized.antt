@@ -23,8 +23,8 @@ use Rattle.log_replay.specs.LoggedHead.{IsSegmentSize}
 use Rattle.reincarnate.proofs.ReplayOn.{Replays, replays}
 use Rattle.reincarnate.proofs.Ready.{first_of_four}
 
-pub begun_sized : {S : Type 0} (fresh : S) (head : EntryHead) → head.length ≤ 2 ^ 24 → IsSegmentSize head.mss → IsSized (begun_entry fresh head)
-begun_sized fresh head h segments = record {
+pub begun_sized : {S : Type 0} (fresh : S) (greeting : List ℕ) (head : EntryHead) → head.length ≤ 2 ^ 24 → IsSegmentSize head.mss → IsSized (begun_entry fresh greeting head)
+begun_sized fresh greeting head h segments = record {
   stream = h;
   segments = segments;
   bytes = omega arith;

@@ -1,6 +1,7 @@
 -- An entry of the log as far as it is fetched. Its reads are replayed as soon as their bytes are there.
 use Rattle.limits.specs.Limits.{longest_stream}
-use Rattle.std.specs.Prelude.{◌≡◌, ◌⊎◌, ℕ, ◌+◌, ◌^◌, ◌<◌, ◌≤◌, ◌==◌, Bool, true, false, ◌&&◌, nat_lt, nat_le, Option, Some, None, List, [], ◌∷◌, ◌++◌, length, sum, if◌then◌else◌}
+use Rattle.std.specs.Prelude.{◌≡◌, ◌⊎◌, ℕ, ◌+◌, ◌^◌, ◌<◌, ◌≤◌, ◌==◌, Bool, true, false, ◌&&◌, nat_lt, nat_le, Option, Some, None, List, [], ◌∷◌, ◌++◌}
+use Rattle.std.specs.Prelude.{length, sum, if◌then◌else◌}
 use Rattle.std.specs.List.{AllByRecursion}
 use Rattle.ft_io.specs.declared.Key.{Key}
 use Rattle.ft_io.specs.Key.{key_eq}
@@ -12,7 +13,7 @@ use Rattle.reincarnate.specs.declared.lack.Lack.{Lack}
 use Rattle.reincarnate.specs.declared.lack.Lack.TheVariants as lack
 use Rattle.log_replay.specs.LoggedHead.{IsSegmentSize}
 use Rattle.log_replay.specs.ReadLengths.{cuts_of, cuts_through, HaveBytes}
-use Rattle.log_replay.specs.Replay.{ReplayState, fed_on}
+use Rattle.log_replay.specs.Replay.{ReplayState, begun_replay, fed_on}
 
 pub record EntryState (S : Type 0) : Type 0 where
   pub head : EntryHead  -- the entry without its bytes and lengths
@@ -21,14 +22,14 @@ pub record EntryState (S : Type 0) : Type 0 where
   pub waiting : List ℕ  -- the lengths of those that aren't replayed
   pub replay : ReplayState S  -- the service, with what it still holds
 
--- an entry of which only the head is fetched
-abbrev pub begun_entry : {S : Type 0} → S → EntryHead → EntryState S
-begun_entry fresh head = record {
+-- an entry of which only the head is fetched: its service has made its greeting, and the client may have acknowledged a part of it
+abbrev pub begun_entry : {S : Type 0} → S → (greeting : List ℕ) → EntryHead → EntryState S
+begun_entry fresh greeting head = record {
   head = head;
   bytes = 0;
   cuts = cuts_of [];
   waiting = [];
-  replay = record { service = fresh; closed = false; made = 0; acked = head.acked; pending = []; held = [] };
+  replay = begun_replay fresh greeting head.acked;
 }
 
 -- what of it is asked for next: the bytes of the reads whose lengths are there, then further lengths, then the bytes after all reads

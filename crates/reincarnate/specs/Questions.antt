@@ -3,12 +3,13 @@ use Rattle.std.specs.Prelude.{ℕ, ◌≤◌, ◌<◌, ◌^◌, ◌==◌, Bool, 
 use Rattle.std.specs.Option.{option_to_list}
 use Rattle.ft_io.specs.declared.Key.{Key}
 use Rattle.ft_io.specs.Key.{key_eq}
+use Rattle.seq_arith.specs.declared.kinds.Grammar.{Grammar}
 use Rattle.seq_arith.specs.Mark.{MarkBody, MarkMessage}
 use Rattle.seq_arith.specs.Mark.MarkBody.{AskMsg, HeldMsg}
 use Rattle.seq_arith.specs.Message.{EntryHead, Body, Message}
 use Rattle.seq_arith.specs.Message.Body.{ListMsg, EntryMsg, PartMsg, LensMsg}
 use Rattle.logger_wire.specs.declared.Body as wire
-use Rattle.logger_wire.specs.Value.{IsSendable}
+use Rattle.logger_wire.specs.Value.{IsSendableBy}
 use Rattle.server_trait.specs.Service.{Served}
 use Rattle.mark_laws.specs.MarkedLog.{AnyMessage}
 use Rattle.mark_laws.specs.MarkedLog.AnyMessage.{About_mark, Of_log}
@@ -18,9 +19,9 @@ use Rattle.reincarnate.specs.declared.marks.Marks.TheVariants as marks
 use Rattle.reincarnate.specs.Marking.{used_if, awaits, marks_after, marked_on}
 use Rattle.reincarnate.specs.Progress.{EntryState, begun_entry, lacks, asked_for, part_fits, with_bytes, cuts_with, with_lengths}
 
--- a question that a server of any boot number may send
+-- a question that a server of any boot number may send in each grammar
 abbrev pub IsAskable : wire.Body → Type 0
-IsAskable body = (boot : ℕ) → 1 ≤ boot → boot < 2 ^ 64 → IsSendable (record { boot = boot; body = body })
+IsAskable body = (grammar : Grammar) (boot : ℕ) → 1 ≤ boot → boot < 2 ^ 64 → IsSendableBy grammar (record { boot = boot; body = body })
 
 pub record FetchingState (S : Type 0) : Type 0 where
   pub boot : ℕ  -- the server's boot number
@@ -60,8 +61,8 @@ entry_known key s = find (λ e. key_eq e.head.key key) (entries_of s)
 abbrev pub head_fits : {S : Type 0} → (index : ℕ) → Key → FetchingState S → Bool
 head_fits index key s = is_none (asked_of s.newest) && nat_lt index s.count && index == length (entries_of s) && is_none (entry_known key s)
 
-abbrev pub with_head : {S : Type 0} → S → EntryHead → FetchingState S → FetchingState S
-with_head fresh head s = record s { newest = Some (begun_entry fresh head); earlier = entries_of s }
+abbrev pub with_head : {S : Type 0} → S → (greeting : List ℕ) → EntryHead → FetchingState S → FetchingState S
+with_head fresh greeting head s = record s { newest = Some (begun_entry fresh greeting head); earlier = entries_of s }
 
 abbrev pub with_newest : {S : Type 0} → FetchingState S → EntryState S → FetchingState S
 with_newest s e = record s { newest = Some e }
@@ -75,15 +76,16 @@ lens_on after key first lens None = None
 lens_on after key first lens (Some e) = option_map (λ cuts. with_lengths after cuts lens e) (cuts_with key first lens e)
 
 -- what is known after an answer, if it fits
-abbrev pub answered : {S : Type 0} → (ℕ → S) → (S → List ℕ → Served S) → FetchingState S → Body → Option (FetchingState S)
-answered started after s (EntryMsg index head) = if head_fits index head.key s then Some (with_head (started s.kind) head s) else None
-answered started after s (PartMsg key offset bytes) = option_map (with_newest s) (part_on after key offset bytes s.newest)
-answered started after s (LensMsg key first lens) = option_map (with_newest s) (lens_on after key first lens s.newest)
-answered started after s _ = None
+abbrev pub answered : {S : Type 0} → (ℕ → S) → (S → List ℕ → Served S) → (S → List ℕ) → FetchingState S → Body → Option (FetchingState S)
+answered started after greeting s (EntryMsg index head) =
+    if head_fits index head.key s then Some (with_head (started s.kind) (greeting (started s.kind)) head s) else None
+answered started after greeting s (PartMsg key offset bytes) = option_map (with_newest s) (part_on after key offset bytes s.newest)
+answered started after greeting s (LensMsg key first lens) = option_map (with_newest s) (lens_on after key first lens s.newest)
+answered started after greeting s _ = None
 
 -- an answer to another boot doesn't fit
-abbrev pub after_answer : {S : Type 0} → (ℕ → S) → (S → List ℕ → Served S) → Message → FetchingState S → Option (FetchingState S)
-after_answer started after message s = if message.boot == s.boot then answered started after s message.body else None
+abbrev pub after_answer : {S : Type 0} → (ℕ → S) → (S → List ℕ → Served S) → (S → List ℕ) → Message → FetchingState S → Option (FetchingState S)
+after_answer started after greeting message s = if message.boot == s.boot then answered started after greeting s message.body else None
 
 -- Marks: the newest entry's is asked for first, where it is awaited
 abbrev pub mark_asked : {S : Type 0} → (boot : ℕ) → Option (EntryState S) → Option AnyMessage
@@ -98,24 +100,25 @@ any_asked s =
 abbrev pub noted : {S : Type 0} → Marks → FetchingState S → FetchingState S
 noted marks s = record s { marks = marks }
 
-abbrev pub log_heard : {S : Type 0} → (ℕ → S) → (S → List ℕ → Served S) → Message → FetchingState S → Option (FetchingState S)
-log_heard started after message s =
-    if awaits s.marks then None else option_map (noted (marks_after s.marks message.body)) (after_answer started after message s)
+abbrev pub log_heard : {S : Type 0} → (ℕ → S) → (S → List ℕ → Served S) → (S → List ℕ) → Message → FetchingState S → Option (FetchingState S)
+log_heard started after greeting message s =
+    if awaits s.marks then None else option_map (noted (marks_after s.marks message.body)) (after_answer started after greeting message s)
 
 -- the mark of the newest entry
 abbrev pub with_marked : {S : Type 0} → FetchingState S → EntryState S → FetchingState S
 with_marked s e = record s { newest = Some e; marks = marks.Used }
 
-abbrev pub held_heard : {S : Type 0} → (ℕ → S) → (ℕ → List ℕ → Option S) → MarkBody → FetchingState S → Option (FetchingState S)
-held_heard started state_of (HeldMsg key m) s =
-    option_map (with_marked s) (marked_on (started s.kind) (state_of s.kind) key m s.newest)
-held_heard started state_of _ s = None
+abbrev pub held_heard : {S : Type 0} → (ℕ → S) → (S → List ℕ) → (ℕ → List ℕ → Option S) → MarkBody → FetchingState S → Option (FetchingState S)
+held_heard started greeting state_of (HeldMsg key m) s =
+    option_map (with_marked s) (marked_on (started s.kind) (greeting (started s.kind)) (state_of s.kind) key m s.newest)
+held_heard started greeting state_of _ s = None
 
 -- .. while it is awaited
-abbrev pub mark_heard : {S : Type 0} → (ℕ → S) → (ℕ → List ℕ → Option S) → MarkMessage → FetchingState S → Option (FetchingState S)
-mark_heard started state_of message s = if message.boot == s.boot && awaits s.marks then held_heard started state_of message.body s else None
+abbrev pub mark_heard : {S : Type 0} → (ℕ → S) → (S → List ℕ) → (ℕ → List ℕ → Option S) → MarkMessage → FetchingState S → Option (FetchingState S)
+mark_heard started greeting state_of message s = if message.boot == s.boot && awaits s.marks then held_heard started greeting state_of message.body s else None
 
 -- what is known after any message, if it is an answer
-abbrev pub any_heard : {S : Type 0} → (ℕ → S) → (S → List ℕ → Served S) → (ℕ → List ℕ → Option S) → AnyMessage → FetchingState S → Option (FetchingState S)
-any_heard started after state_of (Of_log message) s = log_heard started after message s
-any_heard started after state_of (About_mark message) s = mark_heard started state_of message s
+abbrev pub any_heard : {S : Type 0} → (ℕ → S) → (S → List ℕ → Served S) → (S → List ℕ) → (ℕ → List ℕ → Option S) → AnyMessage → FetchingState S
+    → Option (FetchingState S)
+any_heard started after greeting state_of (Of_log message) s = log_heard started after greeting message s
+any_heard started after greeting state_of (About_mark message) s = mark_heard started greeting state_of message s

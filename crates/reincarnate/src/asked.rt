@@ -2,7 +2,8 @@
 
 ghost use Rattle.std.specs.Prelude.{◌≡◌, ◌≤◌, ◌&&◌, false, [], Ok, IfOk};
 ghost use Rattle.seq_arith.specs.Message.Body.{HelloMsg};
-ghost use Rattle.logger_wire.specs.Value.{message_of, IsSendable};
+ghost use Rattle.seq_arith.specs.declared.kinds.Grammar.{Grammar};
+ghost use Rattle.logger_wire.specs.Value.{message_of, IsSendableBy};
 ghost use Rattle.reincarnate.specs.Questions.{begun_fetching};
 ghost use Rattle.reincarnate.specs.Refinement.{StandsSoFar};
 ghost use Rattle.server_trait.specs.Service.{machine};
@@ -45,7 +46,7 @@ impl Asked {
     /// The question: Hello.
     pub fn question(&self) -> Msg<'_>
         ensures value { message_of result ≡ record { boot = self.now; body = HelloMsg } }
-        ensures sendable { IsSendable result }
+        ensures sendable { (grammar : Grammar) → IsSendableBy grammar result }
     {
         fit_boot(self.boot);
         Msg {
@@ -66,7 +67,7 @@ impl Asked {
         requires { count ≤ 64 }
         ensures value { result ≡ Ok (begun_fetching self kind count (marks && S.is_savable)) }
         // Nothing is fetched yet.
-        ensures law { IfOk result (λ f. StandsSoFar (machine (S.started kind) S.after) (record { entries = []; awaits_mark = false }) f) }
+        ensures law { IfOk result (λ f. StandsSoFar (machine (S.started kind) S.after S.greeting) (record { entries = []; awaits_mark = false }) f) }
     {
         let marks = Marks::used_if(marks && S::savable());
         Ok(Fetching::begin(alloc, self.boot, kind, count, marks))

@@ -77,8 +77,8 @@ impl<S: Service> Entries<S> {
         ensures rest { self.new ≡ drop 1 self.old }
         ensures end { IfNone result (self.old ≡ []) }
         ensures shorter { IfSome result (λ _. length self.old ≡ length self.new + 1) }
-        ensures law { (fresh : S) (fetched : List Fetched) → StandsWhole (machine fresh S.after) fetched self.old
-            → FirstIs (machine fresh S.after) fetched result self.new }
+        ensures law { (fresh : S) (fetched : List Fetched) → StandsWhole (machine fresh S.after S.greeting) fetched self.old
+            → FirstIs (machine fresh S.after S.greeting) fetched result self.new }
     {
         self.take_first()
     }
@@ -100,8 +100,8 @@ impl<S: Service> Entries<S> {
     pub fn next(&mut self) -> Option<Replayed<S>>
         ensures value { result ≡ next_live self.old }
         ensures rest { self.new ≡ behind_next self.old }
-        ensures law { (fresh : S) (fetched : List Fetched) → StandsWhole (machine fresh S.after) fetched self.old
-            → NextIs (machine fresh S.after) (live_from fetched) result self.new }
+        ensures law { (fresh : S) (fetched : List Fetched) → StandsWhole (machine fresh S.after S.greeting) fetched self.old
+            → NextIs (machine fresh S.after S.greeting) (live_from fetched) result self.new }
     {
         self.take_next()
     }

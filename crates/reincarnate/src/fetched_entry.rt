@@ -62,18 +62,22 @@ impl<S: Service> Model for FetchedEntry<S> {
 
 impl<S: Service> FetchedEntry<S> {
     /// An entry of which only the head is fetched.
-    pub(crate) fn begin(alloc: Global, kind: u8, head: EntryHead) -> FetchedEntry<S>
+    pub(crate) fn begin(
+        alloc: Global,
+        kind: u8,
+        head: EntryHead,
+    ) -> Result<FetchedEntry<S>, NoMemory>
         requires stream { head.length ≤ longest_stream }
         requires segments { IsSegmentSize head.mss }
-        ensures { result ≡ begun_entry (S.started kind) (head_said head) }
+        ensures { IfOk result (λ e. e ≡ begun_entry (S.started kind) (S.greeting (S.started kind)) (head_said head)) }
     {
-        FetchedEntry {
+        Ok(FetchedEntry {
             head,
             bytes: 0,
             cuts: Cuts::NONE,
             waiting: VecDeque::new(alloc),
-            replay: Replay::new(alloc, kind, head.acked),
-        }
+            replay: Replay::new(alloc, kind, head.acked)?,
+        })
     }
 
     /// An entry that begins at a mark.
@@ -279,13 +283,14 @@ impl<S: Saved> FetchedEntry<S> {
         mark: &Mark<'_>,
     ) -> Result<Option<FetchedEntry<S>>, NoMemory>
         requires { mark.now.made ≤ longest_stream }
-        ensures { IfOk result (λ begun. begun ≡ begun_from (S.started kind) (S.state_of kind) (mark_said mark.now) self.now.head) }
+        ensures { IfOk result (λ begun. begun
+            ≡ begun_from (S.started kind) (S.greeting (S.started kind)) (S.state_of kind) (mark_said mark.now) self.now.head) }
     {
         if !lies_within(mark, &self.head) {
             return Ok(None);
         }
         if mark.reads == 0 {
-            return Ok(Some(FetchedEntry::begin(alloc, kind, self.head)));
+            return Ok(Some(FetchedEntry::begin(alloc, kind, self.head)?));
         }
         match S::load(alloc, kind, mark.state)? {
             Some(service) => Ok(Some(FetchedEntry::begin_at(alloc, self.head, mark, service))),

@@ -1,10 +1,12 @@
 //! The restart while it asks for the log's entries.
 
 ghost use Rattle.limits.specs.Limits.{longest_stream};
-ghost use Rattle.std.specs.Prelude.{◌≡◌, ◌⊎◌, ◌<◌, ◌≤◌, ◌^◌, true, false, length, option_map, find, OnOk, IfOk, IfNone, IfSome, MatchOption, None, [], List, ◌++◌};
+ghost use Rattle.std.specs.Prelude.{◌≡◌, ◌⊎◌, ◌<◌, ◌≤◌, ◌^◌, true, false, length, option_map, find, OnOk, IfOk, IfNone, IfSome, MatchOption, None};
+ghost use Rattle.std.specs.Prelude.{[], List, ◌++◌};
 ghost use Rattle.std.specs.Prelude.{reverse, if◌then◌else◌};
 ghost use Rattle.std.specs.List.{AllByRecursion};
 ghost use Rattle.std.specs.Option.{option_to_list};
+ghost use Rattle.seq_arith.specs.declared.kinds.Grammar.{Grammar};
 ghost use Rattle.seq_arith.specs.MessageGrammar.{lens_in};
 ghost use Rattle.server_trait.specs.Service.{machine};
 ghost use Rattle.ft_io.specs.Key.{key_eq};
@@ -15,8 +17,8 @@ ghost use Rattle.seq_arith.specs.MarkGrammar.{IsSpellable};
 ghost use Rattle.logger_wire.specs.MarkValue.{mark_said, message_of as mark_message_of};
 ghost use Rattle.mark_laws.specs.MarkedLog.AnyMessage.{About_mark};
 ghost use Rattle.mark_laws.specs.Restart.{FetchedSoFar, next_question};
-ghost use Rattle.reincarnate.specs.Marking.{any_of, IsAnySendable, awaits, marks_after, marked_on};
-ghost use Rattle.logger_wire.specs.Value.{body_of, message_of, IsSendable};
+ghost use Rattle.reincarnate.specs.Marking.{any_of, IsAnyRead, IsAnySendable, IsRead, awaits, marks_after, marked_on};
+ghost use Rattle.logger_wire.specs.Value.{body_of, message_of, IsSendableBy};
 ghost use Rattle.logger_wire.specs.Records.{head_said};
 ghost use Rattle.reincarnate.specs.Progress.{AreReady};
 ghost use Rattle.log_replay.specs.LoggedHead.{IsSegmentSize};
@@ -128,7 +130,7 @@ impl<S: Service> Fetching<S> {
     /// Returns the next question to the logger, or None if nothing is missing.
     pub fn question(&self) -> Option<AnyMsg<'_>>
         ensures value { option_map any_of result ≡ any_asked self.now }
-        ensures law { (so_far : FetchedSoFar) → StandsSoFar (machine (S.started self.now.kind) S.after) so_far self.now
+        ensures law { (so_far : FetchedSoFar) → StandsSoFar (machine (S.started self.now.kind) S.after S.greeting) so_far self.now
             → option_map any_of result ≡ next_question self.now.boot self.now.count so_far }
         ensures end { IfNone result (asked self.now ≡ None) }
         ensures sendable { IfSome result (λ m. IsAnySendable m) }
@@ -152,7 +154,8 @@ impl<S: Service> Fetching<S> {
 
     /// The question for the mark of the newest entry, where it is awaited.
     fn ask_mark(&self) -> Option<MarkMsg<'_>>
-        ensures value { option_map (λ m. About_mark (mark_message_of m)) result ≡ (if awaits self.now.marks then mark_asked self.now.boot self.now.newest else None) }
+        ensures value { option_map (λ m. About_mark (mark_message_of m)) result
+            ≡ (if awaits self.now.marks then mark_asked self.now.boot self.now.newest else None) }
         ensures sendable { IfSome result (λ m. IsSpellable (mark_message_of m)) }
     {
         if !self.marks.are_awaited() {
@@ -165,7 +168,7 @@ impl<S: Service> Fetching<S> {
     }
 
     fn ask_log(&self) -> Option<Msg<'_>>
-        ensures sendable { IfSome result (λ m. IsSendable m) }
+        ensures sendable { IfSome result (λ m. (grammar : Grammar) → IsSendableBy grammar m) }
         ensures end { IfNone result (asked self.now ≡ None) }
         ensures value { option_map message_of result ≡ option_map (λ body. record { boot = self.now.boot; body = body }) (asked self.now) }
     {
@@ -182,7 +185,7 @@ impl<S: Service> Fetching<S> {
     /// Returns the head of this key's entry, or None if no such entry is fetched yet.
     pub fn known(&self, key: Key) -> Option<EntryHead>
         ensures value { option_map head_said result ≡ option_map (λ e. e.head) (entry_known key self.now) }
-        ensures law { (fetched : List Fetched) → StandsFetching (machine (S.started self.now.kind) S.after) fetched self.now
+        ensures law { (fetched : List Fetched) → StandsFetching (machine (S.started self.now.kind) S.after S.greeting) fetched self.now
             → option_map head_said result ≡ option_map (λ f. f.head) (find (λ f. key_eq f.head.key key) fetched) }
     {
         self.head_of(key)
@@ -210,9 +213,9 @@ impl<S: Service> Fetching<S> {
     }
 
     /// Takes a message that isn't about marks. It is no answer while a mark is awaited.
-    fn hear_log(&mut self, alloc: Global, m: &Msg<'_>) -> Result<bool, NoMemory>
-        requires { IsSendable m.now }
-        ensures value { IfOk result (λ fits. MatchOption (log_heard S.started S.after (message_of m.now) self.old)
+    fn receive_log(&mut self, alloc: Global, m: &Msg<'_>) -> Result<bool, NoMemory>
+        requires { IsRead m.now }
+        ensures value { IfOk result (λ fits. MatchOption (log_heard S.started S.after S.greeting (message_of m.now) self.old)
             ((fits ≡ false) × (self.new ≡ self.old)) (λ s. (fits ≡ true) × (self.new ≡ s))) }
     {
         if self.marks.are_awaited() {
@@ -223,13 +226,13 @@ impl<S: Service> Fetching<S> {
 
     /// The same where no mark is awaited. After an entry's head its mark may be awaited.
     fn take_answer(&mut self, alloc: Global, m: &Msg<'_>) -> Result<bool, NoMemory>
-        requires { IsSendable m.now }
+        requires { IsRead m.now }
         ensures value { IfOk result (λ fits. MatchOption
-            (option_map (noted (marks_after self.old.marks (body_of m.now.body))) (after_answer S.started S.after (message_of m.now) self.old))
+            (option_map (noted (marks_after self.old.marks (body_of m.now.body))) (after_answer S.started S.after S.greeting (message_of m.now) self.old))
             ((fits ≡ false) × (self.new ≡ self.old)) (λ s. (fits ≡ true) × (self.new ≡ s))) }
     {
         let marks = self.marks.after(&m.body);
-        if !self.hear(alloc, m)? {
+        if !self.receive(alloc, m)? {
             return Ok(false);
         }
         self.marks = marks;
@@ -237,9 +240,9 @@ impl<S: Service> Fetching<S> {
     }
 
     /// The same, apart from whether a mark is awaited afterwards.
-    fn hear(&mut self, alloc: Global, m: &Msg<'_>) -> Result<bool, NoMemory>
-        requires { IsSendable m.now }
-        ensures value { IfOk result (λ fits. MatchOption (after_answer S.started S.after (message_of m.now) self.old)
+    fn receive(&mut self, alloc: Global, m: &Msg<'_>) -> Result<bool, NoMemory>
+        requires { IsRead m.now }
+        ensures value { IfOk result (λ fits. MatchOption (after_answer S.started S.after S.greeting (message_of m.now) self.old)
             ((fits ≡ false) × (self.new ≡ self.old)) (λ s. (fits ≡ true) × (self.new ≡ s))) }
     {
         if m.boot != self.boot {
@@ -248,10 +251,9 @@ impl<S: Service> Fetching<S> {
         self.on_body(alloc, m)
     }
 
-    #[tactic(auto, using(crate::proofs::Sendable::head_in_range, crate::proofs::Sendable::mss_in_range, crate::proofs::Sendable::part_in_range, crate::proofs::Sendable::lens_in_range))]
     fn on_body(&mut self, alloc: Global, m: &Msg<'_>) -> Result<bool, NoMemory>
-        requires sendable { IsSendable m.now }
-        ensures value { IfOk result (λ fits. MatchOption (answered S.started S.after self.old (body_of m.now.body))
+        requires sendable { IsRead m.now }
+        ensures value { IfOk result (λ fits. MatchOption (answered S.started S.after S.greeting self.old (body_of m.now.body))
             ((fits ≡ false) × (self.new ≡ self.old)) (λ s. (fits ≡ true) × (self.new ≡ s))) }
     {
         match m.body {
@@ -268,13 +270,14 @@ impl<S: Service> Fetching<S> {
         requires stream { head.length ≤ longest_stream }
         requires segments { IsSegmentSize head.mss }
         ensures fits { IfOk result (λ fits. fits ≡ head_fits index head.key self.old) }
-        ensures state { IfOk result (λ fits. self.new ≡ (if fits then with_head (S.started self.old.kind) (head_said head) self.old else self.old)) }
+        ensures state { IfOk result (λ fits. self.new ≡ (if fits then with_head (S.started self.old.kind)
+            (S.greeting (S.started self.old.kind)) (head_said head) self.old else self.old)) }
     {
         if !self.head_fits(index, head.key) {
             return Ok(false);
         }
         set_aside(&mut self.newest, &mut self.earlier)?;
-        let entry = FetchedEntry::begin(alloc, self.kind, head);
+        let entry = FetchedEntry::begin(alloc, self.kind, head)?;
         drop(self.newest.replace(entry));
         Ok(true)
     }
@@ -331,8 +334,8 @@ impl<S: Service> Fetching<S> {
     pub fn finish(self) -> Entries<S>
         requires { asked self ≡ None }
         ensures value { result ≡ reverse self.earlier ++ option_to_list self.newest }
-        ensures law { (fetched : List Fetched) → StandsFetching (machine (S.started self.kind) S.after) fetched self
-            → StandsWhole (machine (S.started self.kind) S.after) (reverse fetched) result }
+        ensures law { (fetched : List Fetched) → StandsFetching (machine (S.started self.kind) S.after S.greeting) fetched self
+            → StandsWhole (machine (S.started self.kind) S.after S.greeting) (reverse fetched) result }
     {
         let Fetching {
             boot: _,
@@ -349,31 +352,32 @@ impl<S: Service> Fetching<S> {
 impl<S: Saved> Fetching<S> {
     /// Takes an answer, if it fits the question, and returns whether it does. After `NoMemory` this value may only be dropped.
     pub fn on_answer(&mut self, alloc: Global, m: &AnyMsg<'_>) -> Result<bool, NoMemory>
-        requires { IsAnySendable m.now }
-        ensures value { IfOk result (λ fits. MatchOption (any_heard S.started S.after S.state_of (any_of m.now) self.old)
+        requires { IsAnyRead m.now }
+        ensures value { IfOk result (λ fits. MatchOption (any_heard S.started S.after S.greeting S.state_of (any_of m.now) self.old)
             ((fits ≡ false) × (self.new ≡ self.old)) (λ s. (fits ≡ true) × (self.new ≡ s))) }
-        ensures law { IfOk result (λ fits. (so_far : FetchedSoFar) → StandsSoFar (machine (S.started self.old.kind) S.after) so_far self.old
-            → AnyLeads (machine (S.started self.old.kind) S.after) (writing S.form (S.state_of self.old.kind)) so_far (any_of m.now) fits self.old self.new) }
+        ensures law { IfOk result (λ fits. (so_far : FetchedSoFar) → StandsSoFar (machine (S.started self.old.kind) S.after S.greeting) so_far self.old
+            → AnyLeads (machine (S.started self.old.kind) S.after S.greeting) (writing S.form (S.state_of self.old.kind)) so_far
+            (any_of m.now) fits self.old self.new) }
     {
-        self.hear_any(alloc, m)
+        self.receive_any(alloc, m)
     }
 
-    fn hear_any(&mut self, alloc: Global, m: &AnyMsg<'_>) -> Result<bool, NoMemory>
-        requires { IsAnySendable m.now }
-        ensures value { IfOk result (λ fits. MatchOption (any_heard S.started S.after S.state_of (any_of m.now) self.old)
+    fn receive_any(&mut self, alloc: Global, m: &AnyMsg<'_>) -> Result<bool, NoMemory>
+        requires { IsAnyRead m.now }
+        ensures value { IfOk result (λ fits. MatchOption (any_heard S.started S.after S.greeting S.state_of (any_of m.now) self.old)
             ((fits ≡ false) × (self.new ≡ self.old)) (λ s. (fits ≡ true) × (self.new ≡ s))) }
     {
         match m {
-            AnyMsg::Log(m) => self.hear_log(alloc, m),
-            AnyMsg::Mark(m) => self.hear_mark(alloc, m),
+            AnyMsg::Log(m) => self.receive_log(alloc, m),
+            AnyMsg::Mark(m) => self.receive_mark(alloc, m),
         }
     }
 
     /// Takes a message about marks.
     #[tactic(auto, using(crate::proofs::Sendable::held_in_range))]
-    fn hear_mark(&mut self, alloc: Global, m: &MarkMsg<'_>) -> Result<bool, NoMemory>
+    fn receive_mark(&mut self, alloc: Global, m: &MarkMsg<'_>) -> Result<bool, NoMemory>
         requires { IsSpellable (mark_message_of m.now) }
-        ensures value { IfOk result (λ fits. MatchOption (mark_heard S.started S.state_of (mark_message_of m.now) self.old)
+        ensures value { IfOk result (λ fits. MatchOption (mark_heard S.started S.greeting S.state_of (mark_message_of m.now) self.old)
             ((fits ≡ false) × (self.new ≡ self.old)) (λ s. (fits ≡ true) × (self.new ≡ s))) }
     {
         if m.boot != self.boot || !self.marks.are_awaited() {
@@ -388,7 +392,7 @@ impl<S: Saved> Fetching<S> {
     /// Takes the mark of the newest entry: if it is an answer, the entry begins there.
     fn on_held(&mut self, alloc: Global, key: Key, mark: &Mark<'_>) -> Result<bool, NoMemory>
         requires { mark.now.made ≤ longest_stream }
-        ensures value { IfOk result (λ fits. MatchOption (held_heard S.started S.state_of (HeldMsg key (mark_said mark.now)) self.old)
+        ensures value { IfOk result (λ fits. MatchOption (held_heard S.started S.greeting S.state_of (HeldMsg key (mark_said mark.now)) self.old)
             ((fits ≡ false) × (self.new ≡ self.old)) (λ s. (fits ≡ true) × (self.new ≡ s))) }
     {
         let Some(entry) = self.begun_from(alloc, key, mark)? else {
@@ -407,7 +411,8 @@ impl<S: Saved> Fetching<S> {
         mark: &Mark<'_>,
     ) -> Result<Option<FetchedEntry<S>>, NoMemory>
         requires { mark.now.made ≤ longest_stream }
-        ensures { IfOk result (λ begun. begun ≡ marked_on (S.started self.now.kind) (S.state_of self.now.kind) key (mark_said mark.now) self.now.newest) }
+        ensures { IfOk result (λ begun. begun ≡ marked_on (S.started self.now.kind)
+            (S.greeting (S.started self.now.kind)) (S.state_of self.now.kind) key (mark_said mark.now) self.now.newest) }
     {
         match &self.newest {
             Some(entry) if entry.has_key(key) => entry.from_mark(alloc, self.kind, mark),

@@ -49,7 +49,8 @@ impl<S: Service> Model for Replayed<S> {
 
     ghost view = { λ r. record { head = head_said r.head; cuts = r.cuts; replay = r.replay } };
 
-    ghost invariant = { λ r. (r.head.length ≤ longest_stream) × IsSegmentSize r.head.mss × HaveBytes r.cuts × (r.cuts.sum + length r.replay.held ≡ r.head.length) };
+    ghost invariant = { λ r. (r.head.length ≤ longest_stream) × IsSegmentSize r.head.mss × HaveBytes r.cuts
+        × (r.cuts.sum + length r.replay.held ≡ r.head.length) };
 }
 
 impl<S: Service> Replayed<S> {
@@ -88,8 +89,9 @@ impl<S: Service> Replayed<S> {
         requires { 1 ≤ boot }
         ensures value { IfOk result (λ s. s ≡ spliced_from boot local isn.0 self) }
         ensures lost { IfErr result (λ e. e.stage ≡ Stage.Replayed) }
-        ensures law { IfOk result (λ s. (fresh : S) (e : Entry) → IsReplayed (machine fresh S.after) e self → IsSoundEntry (machine fresh S.after) e
-            → IsSpliced (machine fresh S.after) e isn.0 s) }
+        ensures law { IfOk result (λ s. (fresh : S) (e : Entry) → IsReplayed (machine fresh S.after S.greeting) e self
+            → IsSoundEntry (machine fresh S.after S.greeting) e
+            → IsSpliced (machine fresh S.after S.greeting) e isn.0 s) }
     {
         self.splice_in(Profile::Plain, alloc, boot, local, isn)
     }
@@ -106,8 +108,9 @@ impl<S: Service> Replayed<S> {
         requires { 1 ≤ boot }
         ensures value { IfOk result (λ s. s ≡ spliced_from_in (profile_of profile) boot local isn.0 self) }
         ensures lost { IfErr result (λ e. e.stage ≡ Stage.Replayed) }
-        ensures law { IfOk result (λ s. (fresh : S) (e : Entry) → IsReplayed (machine fresh S.after) e self → IsSoundEntry (machine fresh S.after) e
-            → IsSplicedIn (profile_of profile) (machine fresh S.after) e isn.0 s) }
+        ensures law { IfOk result (λ s. (fresh : S) (e : Entry) → IsReplayed (machine fresh S.after S.greeting) e self
+            → IsSoundEntry (machine fresh S.after S.greeting) e
+            → IsSplicedIn (profile_of profile) (machine fresh S.after S.greeting) e isn.0 s) }
     {
         self.join(profile, alloc, boot, local, isn)
     }

@@ -44,7 +44,15 @@ impl<S: Service> Model for Spliced<S> {
 
     ghost Value = { SplicedState S };
 
-    ghost view = { λ s. record { profile = profile_of s.profile; boot = s.boot; key = s.key; local = s.local; south = s.south; endpoint = s.endpoint; north = s.north } };
+    ghost view = { λ s. record {
+      profile = profile_of s.profile;
+      boot = s.boot;
+      key = s.key;
+      local = s.local;
+      south = s.south;
+      endpoint = s.endpoint;
+      north = s.north;
+    } };
 
     ghost invariant = { λ s. IsSound (conn_of {S = S} (record {
       profile = profile_of s.profile;
@@ -104,11 +112,11 @@ impl<S: Service> Spliced<S> {
     pub fn hand_on(self) -> Conn<S>
         ensures value { result ≡ conn_of self }
         ensures sound { IsSound result }
-        ensures law { (fresh : S) (e : Entry) (i : ℕ) → IsSpliced (machine fresh S.after) e i self
-            → StandsBefore (machine fresh S.after) result (point_of (machine fresh S.after) plain e) }
+        ensures law { (fresh : S) (e : Entry) (i : ℕ) → IsSpliced (machine fresh S.after S.greeting) e i self
+            → StandsBefore (machine fresh S.after S.greeting) result (point_of (machine fresh S.after S.greeting) plain e) }
         // The same in any profile.
-        ensures profile { (profile : ProfileRules) (fresh : S) (e : Entry) (i : ℕ) → IsSplicedIn profile (machine fresh S.after) e i self
-            → StandsBefore (machine fresh S.after) result (point_of (machine fresh S.after) profile e) }
+        ensures profile { (profile : ProfileRules) (fresh : S) (e : Entry) (i : ℕ) → IsSplicedIn profile (machine fresh S.after S.greeting) e i self
+            → StandsBefore (machine fresh S.after S.greeting) result (point_of (machine fresh S.after S.greeting) profile e) }
     {
         let Spliced {
             profile,

@@ -56,23 +56,23 @@ newest_same : {S : Type 0} (s : FetchingState S) (o : Option (EntryState S)) →
 newest_same s (Some e) = record { boot = refl; kind = refl; so_many = refl; marks = refl }
 newest_same s None = tt
 
-body_same : {S : Type 0} (started : ℕ → S) (after : S → List ℕ → Served S) (body : Body) (s : FetchingState S) → IfSome (answered started after s body) (IsSame s)
-body_same started after (EntryMsg index head) s =
-    chosen (IsSame s) (head_fits index head.key s) (with_head (started s.kind) head s) (λ e. record { boot = refl; kind = refl; so_many = refl; marks = refl })
-body_same started after (PartMsg key offset bytes) s = newest_same s (part_on after key offset bytes s.newest)
-body_same started after (LensMsg key first lens) s = newest_same s (lens_on after key first lens s.newest)
-body_same started after _ s = tt
+body_same : {S : Type 0} (started : ℕ → S) (after : S → List ℕ → Served S) (greeting : S → List ℕ) (body : Body) (s : FetchingState S) → IfSome (answered started after greeting s body) (IsSame s)
+body_same started after greeting (EntryMsg index head) s =
+    chosen (IsSame s) (head_fits index head.key s) (with_head (started s.kind) (greeting (started s.kind)) head s) (λ e. record { boot = refl; kind = refl; so_many = refl; marks = refl })
+body_same started after greeting (PartMsg key offset bytes) s = newest_same s (part_on after key offset bytes s.newest)
+body_same started after greeting (LensMsg key first lens) s = newest_same s (lens_on after key first lens s.newest)
+body_same started after greeting _ s = tt
 
-pub heard_same : {S : Type 0} (started : ℕ → S) (after : S → List ℕ → Served S) (message : Message) (s : FetchingState S) → IfSome (after_answer started after message s) (IsSame s)
-heard_same started after message s = go (message.boot == s.boot)
+pub heard_same : {S : Type 0} (started : ℕ → S) (after : S → List ℕ → Served S) (greeting : S → List ℕ) (message : Message) (s : FetchingState S) → IfSome (after_answer started after greeting message s) (IsSame s)
+heard_same started after greeting message s = go (message.boot == s.boot)
   where
-    go : (b : Bool) → IfSome (if b then answered started after s message.body else None) (IsSame s)
-    go true = body_same started after message.body s
+    go : (b : Bool) → IfSome (if b then answered started after greeting s message.body else None) (IsSame s)
+    go true = body_same started after greeting message.body s
     go false = tt
 
-pub answer_same : {S : Type 0} (started : ℕ → S) (after : S → List ℕ → Served S) (message : Message) (s t : FetchingState S) (fits : Bool)
-    → MatchOption (after_answer started after message s) ((fits ≡ false) × (t ≡ s)) (λ x. (fits ≡ true) × (t ≡ x)) → IsSame s t
-answer_same {S} started after message s t fits = go (after_answer started after message s) (heard_same started after message s)
+pub answer_same : {S : Type 0} (started : ℕ → S) (after : S → List ℕ → Served S) (greeting : S → List ℕ) (message : Message) (s t : FetchingState S) (fits : Bool)
+    → MatchOption (after_answer started after greeting message s) ((fits ≡ false) × (t ≡ s)) (λ x. (fits ≡ true) × (t ≡ x)) → IsSame s t
+answer_same {S} started after greeting message s t fits = go (after_answer started after greeting message s) (heard_same started after greeting message s)
   where
     go : (o : Option (FetchingState S)) → IfSome o (IsSame s) → MatchOption o ((fits ≡ false) × (t ≡ s)) (λ x. (fits ≡ true) × (t ≡ x)) → IsSame s t
     go None h (unfit, is) = subst (IsSame s) (sym is) (record { boot = refl; kind = refl; so_many = refl; marks = refl })
@@ -133,9 +133,9 @@ pub still_own : {S : Type 0} (who : Identity) (s t : FetchingState S) → IsSame
 still_own who s t same own = record { boot = same.boot ∙ own.boot; kind = same.kind ∙ own.kind; unmarked = subst UsesNone (sym same.marks) own.unmarked }
 
 -- the service of this incarnation is that of its restart
-pub own_stands : {S : Type 0} (started : ℕ → S) (after : S → List ℕ → Served S) (who : Identity) (f : FetchingState S) (count : ℕ) (fetched : List Fetched) → f.kind ≡ who.kind
-    → FetchingStands (machine (started who.kind) after) count fetched f → FetchingStands (machine (started f.kind) after) count fetched f
-own_stands started after who f count fetched kind st = subst (λ k. FetchingStands (machine (started k) after) count fetched f) (sym kind) st
+pub own_stands : {S : Type 0} (started : ℕ → S) (after : S → List ℕ → Served S) (greeting : S → List ℕ) (who : Identity) (f : FetchingState S) (count : ℕ) (fetched : List Fetched) → f.kind ≡ who.kind
+    → FetchingStands (machine (started who.kind) after greeting) count fetched f → FetchingStands (machine (started f.kind) after greeting) count fetched f
+own_stands started after greeting who f count fetched kind st = subst (λ k. FetchingStands (machine (started k) after greeting) count fetched f) (sym kind) st
 
 -- the entry that is known of a key has that key
 pub known_key : {S : Type 0} (key : Key) (head : EntryHead) (s : FetchingState S) → Some head ≡ option_map (λ e. e.head) (entry_known key s) → head.key ≡ key

@@ -4,6 +4,7 @@ use Rattle.std.specs.Option.{option_to_list}
 use Rattle.ft_io.specs.declared.Key.{Key}
 use Rattle.seq_arith.specs.Message.{EntryHead}
 use Rattle.seq_arith.specs.Packet.{Segment, has_rst}
+use Rattle.tcp_rules.specs.Profile.{grammar_of}
 use Rattle.ft_model.specs.Network.{source_of}
 use Rattle.ft_model.specs.Network.Packet.{To_client}
 use Rattle.ft_model.specs.Restart.{Fetched, live_entry, holding_segment}
@@ -28,12 +29,12 @@ module _ (node : Node) (fetched : List Fetched) (segment : Segment) where
 
   -- nor does a client without an entry that isn't done
   pub none_held : (key : Key) (told : List Wire) → (is_for node.server segment && not (has_rst segment)) ≡ true → source_of segment ≡ key
-      → None ≡ option_map (λ f. f.head) (live_entry key fetched) → ArePut (held node fetched segment) told told
-  none_held key told e from is = subst (λ ps. ArePut ps told told) (sym (held_by key None e from is)) (record { wires = sym (append-nil told); spelled = tt })
+      → None ≡ option_map (λ f. f.head) (live_entry key fetched) → ArePut (grammar_of node.profile) (held node fetched segment) told told
+  none_held key told e from is = subst (λ ps. ArePut (grammar_of node.profile) ps told told) (sym (held_by key None e from is)) (record { wires = sym (append-nil told); spelled = tt })
 
   -- another is told where its stream stands
   pub one_held : (key : Key) (head : EntryHead) (answer : Segment) (old new : List Wire) → (is_for node.server segment && not (has_rst segment)) ≡ true → source_of segment ≡ key
-      → Some head ≡ option_map (λ f. f.head) (live_entry key fetched) → answer ≡ holding_segment node.server head → AreSent (answer ∷ []) old new → ArePut (held node fetched segment) old new
+      → Some head ≡ option_map (λ f. f.head) (live_entry key fetched) → answer ≡ holding_segment node.server head → AreSent (answer ∷ []) old new → ArePut (grammar_of node.profile) (held node fetched segment) old new
   one_held key head answer old new e from is same put =
-      subst (λ ps. ArePut ps old new) (sym (held_by key (Some head) e from is))
-      (subst (λ s. ArePut (To_client s ∷ []) old new) same (record { wires = put.wires; spelled = put.spelled }))
+      subst (λ ps. ArePut (grammar_of node.profile) ps old new) (sym (held_by key (Some head) e from is))
+      (subst (λ s. ArePut (grammar_of node.profile) (To_client s ∷ []) old new) same (put.each (grammar_of node.profile)))

@@ -16,3 +16,4 @@ pub mod MarkedFetch
 pub mod MarkedInputs
 pub mod MarkedApart
 pub mod MarkedNodes
+pub mod OtherGrammar

@@ -3,6 +3,8 @@ use Rattle.std.proofs.Common.{◌≡◌, ◌∙◌, ◌<◌, ◌^◌, ◌==◌, 
 use Rattle.ft_io.specs.declared.Key.{Key}
 use Rattle.seq_arith.specs.Packet.{Segment}
 use Rattle.server_trait.specs.Service.{Machine}
+use Rattle.seq_arith.specs.declared.kinds.Grammar.{Grammar}
+use Rattle.tcp_rules.specs.Profile.{grammar_of}
 use Rattle.ft_model.specs.Network.{source_of}
 use Rattle.ft_model.specs.Node.{Node, Stage as law_stage, is_for}
 use Rattle.ft_model.specs.Node.Input.{Packet_comes, Message_comes, Noise_comes, Tick_comes}
@@ -18,7 +20,7 @@ use Rattle.node_serving.specs.declared.serving.Serving.{Serving}
 use Rattle.server_node.specs.declared.marked.Marked.{Marked}
 use Rattle.server_node.specs.declared.marked.MarkedStage.{MarkedStage}
 use Rattle.server_node.specs.declared.marked.MarkedStage.TheVariants as marked
-use Rattle.node_serving.specs.Identity.{node_of}
+use Rattle.node_serving.specs.Identity.{node_of, grammar_in}
 use Rattle.node_serving.specs.MarkedAlone.{GoesBesideMarks, plain_input}
 use Rattle.node_serving.specs.Ownership.{IsOnlyFor}
 use Rattle.server_node.specs.Marked.{IsSoundAt, IsSoundMarked}
@@ -49,28 +51,28 @@ module _ {S : Type 0} (service : Machine S) (node : Node) (i : MarkedInput) wher
 
 -- a message, a mark or a tick while it fetches
 pub fetching_beside : {S : Type 0} (service : Machine S) (node : Node) (i : MarkedInput) (f : FetchingState S) (marks : KeyMarks) (now : Marked S) (sent : List Wire)
-    → HoldsOthersMarked i f marks now.stage now.marks sent → (is_for_nobody_marked node i ≡ false) → MarkedApart service node i (record { stage = marked.Fetching f; marks = marks }) now sent
+    → HoldsOthersMarked (grammar_of node.profile) i f marks now.stage now.marks sent → (is_for_nobody_marked node i ≡ false) → MarkedApart service node i (record { stage = marked.Fetching f; marks = marks }) now sent
 fetching_beside service node i f marks now sent holds some = record { others = holds; untouched = λ nobody. absurd (true≢false (sym nobody ∙ some)) }
 
 -- a packet then
-pub held_beside : {S : Type 0} (service : Machine S) (node : Node) (segment : Segment) (f : FetchingState S) (marks : KeyMarks) (old sent : List Wire) → old ≡ [] → IsOnlyFor (source_of segment) old sent
+pub held_beside : {S : Type 0} (service : Machine S) (node : Node) (segment : Segment) (f : FetchingState S) (marks : KeyMarks) (old sent : List Wire) → old ≡ [] → IsOnlyFor (grammar_of node.profile) (source_of segment) old sent
     → (is_for node.server segment ≡ false → sent ≡ old)
     → MarkedApart service node (Plain_comes (Packet_comes segment)) (record { stage = marked.Fetching f; marks = marks }) (record { stage = marked.Fetching f; marks = marks }) sent
 held_beside service node segment f marks old sent first only silent =
-    record { others = (refl, refl, only_for (source_of segment) old sent first only); untouched = λ nobody. (refl, silent (not_true (is_for node.server segment) nobody) ∙ first) }
+    record { others = (refl, refl, only_for (grammar_of node.profile) (source_of segment) old sent first only); untouched = λ nobody. (refl, silent (not_true (is_for node.server segment) nobody) ∙ first) }
 
 -- an input that is about no key leaves everything as it is
-holds_still : {S : Type 0} (i : MarkedInput) (f : FetchingState S) (m : KeyMarks) → HoldsOthersMarked i f m (marked.Fetching f) m []
-holds_still (Plain_comes (Packet_comes segment)) f m = (refl, refl, tt)
-holds_still (Plain_comes (Message_comes message)) f m = tt
-holds_still (Plain_comes Noise_comes) f m = tt
-holds_still (Plain_comes Tick_comes) f m = tt
-holds_still (Mark_comes message) f m = tt
+holds_still : {S : Type 0} (grammar : Grammar) (i : MarkedInput) (f : FetchingState S) (m : KeyMarks) → HoldsOthersMarked grammar i f m (marked.Fetching f) m []
+holds_still grammar (Plain_comes (Packet_comes segment)) f m = (refl, refl, tt)
+holds_still grammar (Plain_comes (Message_comes message)) f m = tt
+holds_still grammar (Plain_comes Noise_comes) f m = tt
+holds_still grammar (Plain_comes Tick_comes) f m = tt
+holds_still grammar (Mark_comes message) f m = tt
 
 others_still : {S : Type 0} (service : Machine S) (who : Identity) (standing : law_stage) (i : MarkedInput) (at : MarkedStage S) (m : KeyMarks) → who.isn < 2 ^ 32 → IsSoundAt who at
     → ((key : Key) → concerns (node_of who standing) (plain_input i) key ≡ false) → OthersMarked service (node_of who standing) i at m at m []
 others_still service who standing i marked.Asking m low sound none = tt
-others_still service who standing i (marked.Fetching f) m low sound none = holds_still i f m
+others_still service who standing i (marked.Fetching f) m low sound none = holds_still (grammar_in who) i f m
 others_still service who standing i (marked.Serving s) m low sound none =
     let count = counted_by who.isn s.next.0 low sound.1 in
     goes_unmarked service (node_of who standing) i s s m [] [] (idle_alone service (node_of who standing) (plain_input i) s count.0 count.1 none)

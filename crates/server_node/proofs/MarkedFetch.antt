@@ -44,7 +44,7 @@ use Rattle.node_serving.specs.declared.serving.Serving.{Serving as CodeServing}
 use Rattle.conn_marks.proofs.MarkWires.{plain_out}
 use Rattle.server_node.specs.FetchStage.{AreDistinct, FetchingStands}
 use Rattle.node_serving.specs.SentBytes.{ArePut}
-use Rattle.node_serving.specs.Identity.{node_of}
+use Rattle.node_serving.specs.Identity.{node_of, grammar_in}
 use Rattle.server_node.specs.MarkedNumbers.{AllNumberedAt, entries_of}
 use Rattle.server_node.specs.MarkedRestart.{AllBytes, AreRestoredMarked}
 use Rattle.server_node.specs.MarkedTurns.{FetchingStandsMarked, MarkedStands, GoesOn, TurnsOn, FetchesOn, IsFairTo, IsSoundStart, IsUnfencedMarked, Notes, marking_noted, BodyBytes, IsPartBytes, SendsQuestion, input_of_any}
@@ -115,36 +115,36 @@ awaiting_uses marks.Unused a = absurd (true≢false (sym a))
 awaiting_uses marks.Used a = refl
 awaiting_uses marks.Awaited a = refl
 
-log_kept : {S : Type 0} (started : ℕ → S) (after : S → List ℕ → Served S) (message : Message) (s : FetchingState S) → IfSome (log_heard started after message s) (IsKeptOn s)
-log_kept {S} started after message s = go (awaits s.marks) (after_answer started after message s) (heard_same started after message s)
+log_kept : {S : Type 0} (started : ℕ → S) (after : S → List ℕ → Served S) (greeting : S → List ℕ) (message : Message) (s : FetchingState S) → IfSome (log_heard started after greeting message s) (IsKeptOn s)
+log_kept {S} started after greeting message s = go (awaits s.marks) (after_answer started after greeting message s) (heard_same started after greeting message s)
   where
     go : (a : Bool) (o : Option (FetchingState S)) → IfSome o (IsSame s) → IfSome (if a then None else option_map (noted (marks_after s.marks message.body)) o) (IsKeptOn s)
     go true o h = tt
     go false None h = tt
     go false (Some x) h = record { boot = h.boot; kind = h.kind; so_many = h.so_many; uses_marks = uses_after s.marks message.body }
 
-held_kept : {S : Type 0} (started : ℕ → S) (state_of : ℕ → List ℕ → Option S) (body : MarkBody) (s : FetchingState S) → awaits s.marks ≡ true → IfSome (held_heard started state_of body s) (IsKeptOn s)
-held_kept {S} started state_of (HeldMsg key m) s a = go (marked_on (started s.kind) (state_of s.kind) key m s.newest)
+held_kept : {S : Type 0} (started : ℕ → S) (greeting : S → List ℕ) (state_of : ℕ → List ℕ → Option S) (body : MarkBody) (s : FetchingState S) → awaits s.marks ≡ true → IfSome (held_heard started greeting state_of body s) (IsKeptOn s)
+held_kept {S} started greeting state_of (HeldMsg key m) s a = go (marked_on (started s.kind) (greeting (started s.kind)) (state_of s.kind) key m s.newest)
   where
     go : (o : Option (EntryState S)) → IfSome (option_map (with_marked s) o) (IsKeptOn s)
     go None = tt
     go (Some e) = record { boot = refl; kind = refl; so_many = refl; uses_marks = sym (awaiting_uses s.marks a) }
-held_kept started state_of (MarkMsg key m) s a = tt
-held_kept started state_of (MarkedMsg key reads) s a = tt
-held_kept started state_of (AskMsg key) s a = tt
+held_kept started greeting state_of (MarkMsg key m) s a = tt
+held_kept started greeting state_of (MarkedMsg key reads) s a = tt
+held_kept started greeting state_of (AskMsg key) s a = tt
 
-about_kept : {S : Type 0} (started : ℕ → S) (state_of : ℕ → List ℕ → Option S) (message : MarkMessage) (s : FetchingState S) → IfSome (mark_heard started state_of message s) (IsKeptOn s)
-about_kept {S} started state_of message s =
-    holds_if (λ o. IfSome o (IsKeptOn s)) (message.boot == s.boot && awaits s.marks) (held_heard started state_of message.body s) None
-    (λ t. held_kept started state_of message.body s (and_parts (message.boot == s.boot) (awaits s.marks) t).1) (λ t. tt)
+about_kept : {S : Type 0} (started : ℕ → S) (greeting : S → List ℕ) (state_of : ℕ → List ℕ → Option S) (message : MarkMessage) (s : FetchingState S) → IfSome (mark_heard started greeting state_of message s) (IsKeptOn s)
+about_kept {S} started greeting state_of message s =
+    holds_if (λ o. IfSome o (IsKeptOn s)) (message.boot == s.boot && awaits s.marks) (held_heard started greeting state_of message.body s) None
+    (λ t. held_kept started greeting state_of message.body s (and_parts (message.boot == s.boot) (awaits s.marks) t).1) (λ t. tt)
 
-any_kept_on : {S : Type 0} (started : ℕ → S) (after : S → List ℕ → Served S) (state_of : ℕ → List ℕ → Option S) (message : AnyMessage) (s : FetchingState S) → IfSome (any_heard started after state_of message s) (IsKeptOn s)
-any_kept_on started after state_of (Of_log message) s = log_kept started after message s
-any_kept_on started after state_of (About_mark message) s = about_kept started state_of message s
+any_kept_on : {S : Type 0} (started : ℕ → S) (after : S → List ℕ → Served S) (greeting : S → List ℕ) (state_of : ℕ → List ℕ → Option S) (message : AnyMessage) (s : FetchingState S) → IfSome (any_heard started after greeting state_of message s) (IsKeptOn s)
+any_kept_on started after greeting state_of (Of_log message) s = log_kept started after greeting message s
+any_kept_on started after greeting state_of (About_mark message) s = about_kept started greeting state_of message s
 
-pub kept_on : {S : Type 0} (started : ℕ → S) (after : S → List ℕ → Served S) (state_of : ℕ → List ℕ → Option S) (message : AnyMessage) (s t : FetchingState S) (fits : Bool)
-    → MatchOption (any_heard started after state_of message s) ((fits ≡ false) × (t ≡ s)) (λ x. (fits ≡ true) × (t ≡ x)) → IsKeptOn s t
-kept_on {S} started after state_of message s t fits m = go (any_heard started after state_of message s) (any_kept_on started after state_of message s) m
+pub kept_on : {S : Type 0} (started : ℕ → S) (after : S → List ℕ → Served S) (greeting : S → List ℕ) (state_of : ℕ → List ℕ → Option S) (message : AnyMessage) (s t : FetchingState S) (fits : Bool)
+    → MatchOption (any_heard started after greeting state_of message s) ((fits ≡ false) × (t ≡ s)) (λ x. (fits ≡ true) × (t ≡ x)) → IsKeptOn s t
+kept_on {S} started after greeting state_of message s t fits m = go (any_heard started after greeting state_of message s) (any_kept_on started after greeting state_of message s) m
   where
     go : (o : Option (FetchingState S)) → IfSome o (IsKeptOn s) → MatchOption o ((fits ≡ false) × (t ≡ s)) (λ x. (fits ≡ true) × (t ≡ x)) → IsKeptOn s t
     go None h (unfit, same) = subst (IsKeptOn s) (sym same) (record { boot = refl; kind = refl; so_many = refl; uses_marks = refl })
@@ -187,7 +187,7 @@ rests_on by who standing awaits marking now lent st none =
 
 -- a question more
 pub asks_on : {S : Type 0} (by : Marker S) (who : Identity) (standing : law_stage) (awaits : Bool) (before marking : Key → Marking) (count : ℕ) (now : FetchedSoFar) (f : FetchingState S) (m : KeyMarks) (question : AnyMessage) (lent : List Wire)
-    → Keeps by marking m → FetchingStandsMarked by count now f → next_question who.boot count now ≡ Some question → AreOut (outgoing question ∷ []) [] lent
+    → Keeps by marking m → FetchingStandsMarked by count now f → next_question who.boot count now ≡ Some question → AreOut (grammar_in who) (outgoing question ∷ []) [] lent
     → FetchesOn by who (node_at who standing awaits before) count now marking (record { stage = marked.Fetching f; marks = m }) lent
 asks_on by who standing awaits before marking count now f m question lent keeps st next out = record {
   standing = Fetching count now.entries;
@@ -351,13 +351,13 @@ took_at by who (Fenced newer) awaited marking bytes lengths any f t fits m later
 
 -- what is asked next
 pub asked_on : {S : Type 0} (by : Marker S) (who : Identity) (standing : law_stage) (awaited : Bool) (before marking : Key → Marking) (count : ℕ) (now : FetchedSoFar) (f : FetchingState S) (m : KeyMarks) (o : Option AnyMessage) (lent : List Wire)
-    → next_question who.boot count now ≡ o → SendsQuestion o true [] lent → Keeps by marking m → FetchingStandsMarked by count now f
+    → next_question who.boot count now ≡ o → SendsQuestion (grammar_in who) o true [] lent → Keeps by marking m → FetchingStandsMarked by count now f
     → FetchesOn by who (node_at who standing awaited before) count now marking (record { stage = marked.Fetching f; marks = m }) lent
 asked_on by who standing awaited before marking count now f m (Some question) lent next s keeps st = asks_on by who standing awaited before marking count now f m question lent keeps st next s.1
 asked_on by who standing awaited before marking count now f m None lent next s keeps st = absurd (true≢false s.0)
 
 pub ended_on : {S : Type 0} (by : Marker S) (who : Identity) (standing : law_stage) (awaited : Bool) (before marking : Key → Marking) (count : ℕ) (now : FetchedSoFar) (serving : CodeServing S) (m : KeyMarks) (o : Option AnyMessage) (mid lent : List Wire)
-    → next_question who.boot count now ≡ o → SendsQuestion o false [] mid → AreRestoredMarked by (node_of who standing) marking now.entries serving m mid lent
+    → next_question who.boot count now ≡ o → SendsQuestion (grammar_in who) o false [] mid → AreRestoredMarked by (node_of who standing) marking now.entries serving m mid lent
     → FetchesOn by who (node_at who standing awaited before) count now marking (record { stage = marked.Serving serving; marks = m }) lent
 ended_on by who standing awaited before marking count now serving m (Some question) mid lent next s r = absurd (true≢false (sym s.0))
 ended_on by who standing awaited before marking count now serving m None mid lent next s r =
@@ -365,7 +365,7 @@ ended_on by who standing awaited before marking count now serving m None mid len
 
 -- at a tick the question is asked again
 pub tick_asked : {S : Type 0} (by : Marker S) (who : Identity) (count : ℕ) (fetched : List Fetched) (awaited : Bool) (marking : Key → Marking) (bytes lengths : List ℕ) (f : FetchingState S) (m : KeyMarks) (asks : Bool) (o : Option AnyMessage)
-    (lent : List Wire) → next_question who.boot count (so_far (node_at who (Fetching count fetched) awaited marking) fetched) ≡ o → SendsQuestion o asks [] lent → MarkedStands by (node_at who (Fetching count fetched) awaited marking) (record { stage = marked.Fetching f; marks = m })
+    (lent : List Wire) → next_question who.boot count (so_far (node_at who (Fetching count fetched) awaited marking) fetched) ≡ o → SendsQuestion (grammar_in who) o asks [] lent → MarkedStands by (node_at who (Fetching count fetched) awaited marking) (record { stage = marked.Fetching f; marks = m })
     → TurnsOn by who bytes lengths (node_at who (Fetching count fetched) awaited marking) (Plain_comes Tick_comes) (record { stage = marked.Fetching f; marks = m }) lent
 tick_asked by who count fetched awaited marking bytes lengths f m asks (Some question) lent next s st = record {
   standing = Fetching count fetched;
@@ -389,7 +389,7 @@ tick_asked by who count fetched awaited marking bytes lengths f m asks None lent
 }
 
 pub tick_asked_at : {S : Type 0} (by : Marker S) (who : Identity) (standing : law_stage) (awaited : Bool) (marking : Key → Marking) (bytes lengths : List ℕ) (f : FetchingState S) (m : KeyMarks) (asks : Bool) (o : Option AnyMessage) (lent : List Wire)
-    → ((now : FetchedSoFar) → StandsSoFar by.service now f → o ≡ next_question f.boot f.count now) → f.boot ≡ who.boot → SendsQuestion o asks [] lent
+    → ((now : FetchedSoFar) → StandsSoFar by.service now f → o ≡ next_question f.boot f.count now) → f.boot ≡ who.boot → SendsQuestion (grammar_in who) o asks [] lent
     → MarkedStands by (node_at who standing awaited marking) (record { stage = marked.Fetching f; marks = m })
     → TurnsOn by who bytes lengths (node_at who standing awaited marking) (Plain_comes Tick_comes) (record { stage = marked.Fetching f; marks = m }) lent
 tick_asked_at by who (Fetching count fetched) awaited marking bytes lengths f m asks o lent next boot s st =
@@ -402,7 +402,7 @@ tick_asked_at by who (Fenced newer) awaited marking bytes lengths f m asks o len
 
 -- a segment while it fetches
 pub held_at : {S : Type 0} (by : Marker S) (who : Identity) (segment : Segment) (standing : law_stage) (awaited : Bool) (marking : Key → Marking) (bytes lengths : List ℕ) (f : FetchingState S) (m : KeyMarks) (lent : List Wire)
-    → ((count : ℕ) (fetched : List Fetched) → FetchingStands by.service count fetched f → ArePut (held (node_of who standing) fetched segment) [] lent)
+    → ((count : ℕ) (fetched : List Fetched) → FetchingStands by.service count fetched f → ArePut (grammar_in who) (held (node_of who standing) fetched segment) [] lent)
     → MarkedStands by (node_at who standing awaited marking) (record { stage = marked.Fetching f; marks = m })
     → TurnsOn by who bytes lengths (node_at who standing awaited marking) (Plain_comes (Packet_comes segment)) (record { stage = marked.Fetching f; marks = m }) lent
 held_at by who segment (Fetching count fetched) awaited marking bytes lengths f m lent holds st =
@@ -415,7 +415,7 @@ held_at by who segment (Fetching count fetched) awaited marking bytes lengths f 
       stands = st;
       goes = (Fetching count fetched, packets, (refl, refl), refl, refl);
       numbers = tt;
-      out = plain_out packets [] lent put.wires put.spelled;
+      out = plain_out (grammar_in who) packets [] lent put.wires put.spelled;
     }
 held_at by who segment Asking awaited marking bytes lengths f m lent holds st = absurd st.stage
 held_at by who segment (Serving opened places) awaited marking bytes lengths f m lent holds st = absurd st.stage
@@ -424,7 +424,7 @@ held_at by who segment (Fenced newer) awaited marking bytes lengths f m lent hol
 -- while it asks how many entries there are
 
 pub hello_at : {S : Type 0} (by : Marker S) (who : Identity) (standing : law_stage) (awaited : Bool) (marking : Key → Marking) (bytes lengths : List ℕ) (m : KeyMarks) (lent : List Wire)
-    → ArePut (told_by who.boot HelloMsg ∷ []) [] lent → MarkedStands {S = S} by (node_at who standing awaited marking) (record { stage = marked.Asking; marks = m })
+    → ArePut (grammar_in who) (told_by who.boot HelloMsg ∷ []) [] lent → MarkedStands {S = S} by (node_at who standing awaited marking) (record { stage = marked.Asking; marks = m })
     → TurnsOn by who bytes lengths (node_at who standing awaited marking) (Plain_comes Tick_comes) (record { stage = marked.Asking; marks = m }) lent
 hello_at by who Asking awaited marking bytes lengths m lent put st = record {
   standing = Asking;
@@ -434,7 +434,7 @@ hello_at by who Asking awaited marking bytes lengths m lent put st = record {
   stands = st;
   goes = (Asking, told_by who.boot HelloMsg ∷ [], (refl, refl), refl, refl);
   numbers = tt;
-  out = plain_out (told_by who.boot HelloMsg ∷ []) [] lent put.wires put.spelled;
+  out = plain_out (grammar_in who) (told_by who.boot HelloMsg ∷ []) [] lent put.wires put.spelled;
 }
 hello_at by who (Fetching count fetched) awaited marking bytes lengths m lent put st = absurd st.stage
 hello_at by who (Serving opened places) awaited marking bytes lengths m lent put st = absurd st.stage

@@ -21,7 +21,7 @@ use Rattle.server_node.specs.declared.marked.MarkedStage.{MarkedStage}
 use Rattle.server_node.specs.declared.marked.MarkedStage.TheVariants as marked
 use Rattle.node_serving.specs.declared.serving.Serving.{Serving as CodeServing}
 use Rattle.node_serving.specs.declared.slot.Slot.{Slot}
-use Rattle.node_serving.specs.Identity.{node_of}
+use Rattle.node_serving.specs.Identity.{node_of, grammar_in}
 use Rattle.server_node.specs.Marked.{AreApart}
 use Rattle.node_serving.specs.MarkedServing.{ServingGoesMarked, HeardOfMark}
 use Rattle.server_node.specs.MarkedNumbers.{entries_of, fetched_by_marked}
@@ -141,7 +141,7 @@ noise_serves {S = S} by who opened places awaits marking (marked.Serving s) m by
     let node : Node = node_of who (Serving opened places) in
     let goes : ServingGoes by.service node Noise_comes opened places s [] [] =
     known_goes by.service node Noise_comes opened places s [] [] [] refl refl st.stage.0.number (none_concerned by.service node Noise_comes s.slots.entries places [] (λ k. refl) st.stage.0.slots)
-    (subst (λ ps. ArePut ps [] []) (sym (opens_none s.slots.entries)) (put_none [])) in
+    (subst (λ ps. ArePut (grammar_in who) ps [] []) (sym (opens_none s.slots.entries)) (put_none (grammar_in who) [])) in
     subst (λ l. TurnsOn by who bytes lengths (node_at who (Serving opened places) awaits marking) (Plain_comes Noise_comes) (record { stage = marked.Serving s; marks = m }) l) (sym none)
     (serving_on_marked by who awaits marking Noise_comes opened places s m bytes lengths [] refl
     (served_unmarked by who (Serving opened places) awaits marking Noise_comes (record { ip = 0; port = 0 }) opened places s.slots.entries s m [] (λ k. refl) refl refl tt st.stage.0.slots distinct st.keeps st.stage.1 goes))

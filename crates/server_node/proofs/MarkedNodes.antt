@@ -1,6 +1,7 @@
 -- The turn of a node that marks, as that of its stage and of the whole node.
 use Rattle.std.proofs.Common.{◌≡◌, ◌∙◌, ◌<◌, ◌^◌, ℕ, Bool, true, false, true≢false, ◌==◌, ◌&&◌, refl, sym, ap, subst, nat_lt, Result, Ok, Err, Option, None, MatchOption, option_map, List, [], if◌then◌else◌}
 use Rattle.ft_io.specs.declared.Key.{Key}
+use Rattle.seq_arith.specs.declared.kinds.Grammar.{Grammar}
 use Rattle.seq_arith.specs.Mark.{MarkMessage}
 use Rattle.seq_arith.specs.MarkGrammar as marks
 use Rattle.seq_arith.specs.Message.{Message}
@@ -8,6 +9,7 @@ use Rattle.seq_arith.specs.MessageGrammar as messages
 use Rattle.seq_arith.specs.declared.kinds.BadMsg.{BadMsg}
 use Rattle.seq_arith.specs.declared.mark.BadMark.{BadMark}
 use Rattle.server_trait.specs.declared.Service.{Ghosts}
+use Rattle.tcp_rules.specs.Profile.{grammar_of}
 use Rattle.ft_model.specs.Lawful.{Rests, Fetches, is_fenced, fence, newer_than, summary_count}
 use Rattle.ft_model.specs.Node.{Place, Stage as law_stage}
 use Rattle.ft_model.specs.Node.Input.{Message_comes, Noise_comes}
@@ -22,6 +24,7 @@ use Rattle.mark_laws.specs.MarkedNode.{Marker, MarkedNode, MarkedInput, RestsMar
 use Rattle.mark_laws.specs.MarkedNode.MarkedInput.{Plain_comes}
 use Rattle.mark_laws.specs.MarkedWorld.{either_said, input_of as marked_of}
 use Rattle.conn_marks.specs.KeyMarks.{KeyMarks}
+use Rattle.conn_marks.specs.MarkSends.{AreOut}
 use Rattle.node_serving.specs.declared.identity.Identity.{Identity}
 use Rattle.server_node.specs.declared.input.Input.{Input}
 use Rattle.server_node.specs.declared.input.Input.TheVariants as input
@@ -31,7 +34,7 @@ use Rattle.server_node.specs.declared.marked.MarkedStage.TheVariants as marked
 use Rattle.server_node.specs.declared.node.Node.{Node}
 use Rattle.server_node.specs.declared.stage.Stage.{Stage}
 use Rattle.server_node.specs.declared.stage.Stage.TheVariants as stage
-use Rattle.node_serving.specs.Identity.{node_of, service_of}
+use Rattle.node_serving.specs.Identity.{node_of, service_of, grammar_in}
 use Rattle.server_node.specs.Inputs.{input_of}
 use Rattle.server_node.specs.Marked.{AreApart}
 use Rattle.server_node.specs.MarkedApart.{StageTurnsApart}
@@ -133,21 +136,21 @@ module _ {S : Type 0} (s : Ghosts S) (v : Saving S) (who : Identity) where
   )
 
 -- bytes that are no message of the log are what the code of marks reads, or noise
-pub not_of_log : (bytes : List ℕ) (why : BadMsg) → messages.reading bytes ≡ Err why → marked_of (either_said (messages.reading bytes) (marks.reading bytes)) ≡ heard_of (marks.reading bytes)
-not_of_log bytes why is = ap (λ r. marked_of (either_said r (marks.reading bytes))) is ∙ heard (marks.reading bytes)
+pub not_of_log : (grammar : Grammar) (bytes : List ℕ) (why : BadMsg) → messages.reading_by grammar bytes ≡ Err why → marked_of (either_said (messages.reading_by grammar bytes) (marks.reading bytes)) ≡ heard_of (marks.reading bytes)
+not_of_log grammar bytes why is = ap (λ r. marked_of (either_said r (marks.reading bytes))) is ∙ heard (marks.reading bytes)
   where
     heard : (r : Result MarkMessage BadMark) → marked_of (either_said (Err why) r) ≡ heard_of r
     heard (Ok message) = refl
     heard (Err bad) = refl
 
-pub of_the_log : (bytes : List ℕ) (message : Message) → messages.reading bytes ≡ Ok message → marked_of (either_said (messages.reading bytes) (marks.reading bytes)) ≡ Plain_comes (Message_comes message)
-of_the_log bytes message is = ap (λ r. marked_of (either_said r (marks.reading bytes))) is
+pub of_the_log : (grammar : Grammar) (bytes : List ℕ) (message : Message) → messages.reading_by grammar bytes ≡ Ok message → marked_of (either_said (messages.reading_by grammar bytes) (marks.reading bytes)) ≡ Plain_comes (Message_comes message)
+of_the_log grammar bytes message is = ap (λ r. marked_of (either_said r (marks.reading bytes))) is
 
 -- what doesn't end a node without marks doesn't end one that marks
-pub calm : (who : Identity) (standing : law_stage) (awaits : Bool) (marking : Key → Marking) (i : Input) → IsUnfenced who (input_of i) → IsUnfencedMarked (node_at who standing awaits marking) (marked_input_of i)
+pub calm : (who : Identity) (standing : law_stage) (awaits : Bool) (marking : Key → Marking) (i : Input) → IsUnfenced who (input_of (grammar_in who) i) → IsUnfencedMarked (node_at who standing awaits marking) (marked_input_of (grammar_in who) i)
 calm who standing awaits marking (input.Packet bytes) h = h standing
 calm who standing awaits marking input.Tick h = h standing
-calm who standing awaits marking (input.Message bytes) h = go (messages.reading bytes.now) (marks.reading bytes.now) (h standing)
+calm who standing awaits marking (input.Message bytes) h = go (messages.reading_by (grammar_in who) bytes.now) (marks.reading bytes.now) (h standing)
   where
     go : (a : Result Message BadMsg) (b : Result MarkMessage BadMark) → fence (node_of who standing) (message_or_noise a) ≡ None → IsUnfencedMarked (node_at who standing awaits marking) (marked_of (either_said a b))
     go (Ok message) b f = f
@@ -173,15 +176,16 @@ module _ {S : Type 0} {s : Ghosts S} (v : Saving S) (i : MarkedInput) (was now :
   led is same unfenced fair m n e turn stands =
       let here = subst (λ x. MarkedStands by x m) is stands in
       let g = turn every node.plain.stage node.awaits_mark node.marking bytes lengths unfenced (subst (λ x. IsFairTo by bytes lengths x i) is fair) here in
-      let after : MarkedNode = node_at was.who g.standing g.awaits g.marking in record {
+      let after : MarkedNode = node_at was.who g.standing g.awaits g.marking in
+      let out = subst (λ x. AreOut (grammar_of x.plain.profile) g.sent [] lent) (sym is) g.out in record {
         after = after;
         sent = g.sent;
         stands = record { who = ap (λ w. node_of w g.standing) (sym same); stage = subst (NodeStandsAt by after) (sym e) g.stands };
         turn = record { live = alive by was.who node.plain.stage node.awaits_mark node.marking m here; turn = subst (λ x. InputTurn by bytes lengths x i g.sent after) (sym is) g.goes };
         numbers = subst (AllNumberedMarked by.service node.plain.isn (fetched_by_marked by bytes lengths node node.plain.stage i)) (sym e)
             (subst (λ x. AllNumberedAt by.service x.plain.isn (fetched_by_marked by bytes lengths x x.plain.stage i) n.stage) (sym is) g.numbers);
-        wires = g.out.wires;
-        spelled = g.out.spelled;
+        wires = out.wires;
+        spelled = out.spelled;
       }
 
   by_stage : node ≡ at → now.who ≡ was.who → IsUnfencedMarked at i → IsFairTo by bytes lengths node i → (a b : Stage S) → now.stage ≡ b → IsTurnMarked s v was.who i a b lent → NodeStandsAt by node a

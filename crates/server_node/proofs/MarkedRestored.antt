@@ -6,6 +6,7 @@ use Rattle.ft_io.specs.declared.Key.{Key}
 use Rattle.ft_io.specs.Key.{key_eq}
 use Rattle.ft_io.proofs.Choices.{by_cases}
 use Rattle.server_trait.specs.Service.{AreBytes}
+use Rattle.tcp_rules.specs.Profile.{grammar_of}
 use Rattle.ft_model.specs.Connection.{ConnectionTurn}
 use Rattle.ft_model.specs.Lawful.{Revives, restored, all_restored, restored_count}
 use Rattle.ft_model.specs.Log.{Entry}
@@ -45,7 +46,7 @@ use Rattle.server_node.proofs.Restored.{behind_others, all_numbered_more}
 -- a slot's first turn, with its mark
 pub revives_with : {S : Type 0} (by : Marker S) (node : Node) (e : Entry) (now : Slot S) (was marks : KeyMarks) (old mid new : List Wire) → AreBytes e.bytes
     → SlotRevives by.service node e.key (Lives (point_of by.service node.profile e)) now old mid
-    → ((place : Place) → SlotStands by.service node e.key now place → MarksPlace by node.boot e.key (length old) (Some place) was marks mid new)
+    → ((place : Place) → SlotStands by.service node e.key now place → MarksPlace by (grammar_of node.profile) node.boot e.key (length old) (Some place) was marks mid new)
     → SlotRevivesWith by node e now was marks old new
 revives_with {S} by node e now was marks old mid new bytes g marked = go g.after g.turn g.stands
   where
@@ -68,7 +69,7 @@ revives_with {S} by node e now was marks old mid new bytes g marked = go g.after
           turn = (q, refl, t);
           changes = m.changes;
           settled = settled;
-          out = put_out node.boot e.key q (new_marks by.service by.writing by.every (marking_in was e.key) q) g.packets old mid new (at q st) g.wires g.spelled m.sends;
+          out = put_out (grammar_of node.profile) node.boot e.key q (new_marks by.service by.writing by.every (marking_in was e.key) q) g.packets old mid new (at q st) g.wires g.spelled m.sends;
         }
 
     go : (after : Place) → LivesOn by.service node Begins (point_of by.service node.profile e) (after ∷ []) g.packets → SlotStands by.service node e.key now after → SlotRevivesWith by node e now was marks old new
@@ -131,7 +132,7 @@ module _ {S : Type 0} (by : Marker S) (node : Node) (marking : Key → Marking) 
       → after.next.0 ≡ initial_number node.isn (restored_count (f ∷ fetched))
       → (lookup (key_eq f.head.key) before.slots.entries ≡ None → after.slots.entries ≡ before.slots.entries ++ (f.head.key, now) ∷ [])
       → (f.head.done ≡ false → IsNumbered by.service (entry_in f) (initial_number node.isn (restored_count fetched)) (conn_in (Some now)))
-      → AreOut more mid new → AreRestoredMarked by node marking (f ∷ fetched) after marks old new
+      → AreOut (grammar_of node.profile) more mid new → AreRestoredMarked by node marking (f ∷ fetched) after marks old new
   more_marked f fetched before after now place more was marks old mid new fresh r st g settled changes number added numbered out =
       let key : Key = f.head.key in
       let none : lookup (key_eq key) before.slots.entries ≡ None = r.others key fresh in
@@ -170,7 +171,7 @@ module _ {S : Type 0} (by : Marker S) (node : Node) (marking : Key → Marking) 
                   (ap (markings_then by (r.places ++ place ∷ []) marking) its ∙ (own ∙ ap (λ k. marking_then by (Some place) (marking k)) (sym its))) settled,
               tt,
             );
-        out = out_on r.sent more old mid new r.out out;
+        out = out_on (grammar_of node.profile) r.sent more old mid new r.out out;
       }
 
   pub none_marked_yet : (now : Serving S) (marks : KeyMarks) (told : List Wire) → now.next.0 ≡ initial_number node.isn 0 → now.slots.entries ≡ [] → Keeps by marking marks
@@ -184,7 +185,7 @@ module _ {S : Type 0} (by : Marker S) (node : Node) (marking : Key → Marking) 
     others = λ key e. ap (lookup (key_eq key)) none;
     keeps = record { every = keeps.every; each = keeps.each };
     settled = tt;
-    out = out_none told;
+    out = out_none (grammar_of node.profile) told;
   }
 
   counted : (f : Fetched) (fetched : List Fetched) (b : Bool) → f.head.done ≡ b → restored_count (f ∷ fetched) ≡ length (if not b then f ∷ filter (λ x. not x.head.done) fetched else filter (λ x. not x.head.done) fetched)
@@ -203,7 +204,7 @@ module _ {S : Type 0} (by : Marker S) (node : Node) (marking : Key → Marking) 
       tt (changes_none was f.head.key (marking_in was f.head.key) refl)
       (same ∙ (r.stands.number ∙ ap (initial_number node.isn) (sym (counted f fetched true done))))
       (subst (λ k. lookup (key_eq k) before.slots.entries ≡ None → after.slots.entries ≡ before.slots.entries ++ (k, slot.Done) ∷ []) is added)
-      (λ live. absurd (false≢true (sym live ∙ done))) (out_none mid)
+      (λ live. absurd (false≢true (sym live ∙ done))) (out_none (grammar_of node.profile) mid)
 
   pub live_marked : (f : Fetched) (fetched : List Fetched) (key : Key) (before after : Serving S) (now : Slot S) (was marks : KeyMarks) (old mid new : List Wire) → f.head.done ≡ false → key ≡ f.head.key
       → is_fetched f.head.key fetched ≡ false → AreRestoredMarked by node marking fetched before was old mid → SlotRevivesWith by node (entry_in f) now was marks mid new

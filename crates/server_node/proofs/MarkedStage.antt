@@ -109,8 +109,8 @@ pub record IsKept {S : Type 0} (s t : FetchingState S) : Type 0 where
   pub boot : t.boot ≡ s.boot
   pub kind : t.kind ≡ s.kind
 
-noted_kept : {S : Type 0} (started : ℕ → S) (after : S → List ℕ → Served S) (message : Message) (s : FetchingState S) → IfSome (log_heard started after message s) (IsKept s)
-noted_kept {S} started after message s = go (awaits s.marks) (after_answer started after message s) (heard_same started after message s)
+noted_kept : {S : Type 0} (started : ℕ → S) (after : S → List ℕ → Served S) (greeting : S → List ℕ) (message : Message) (s : FetchingState S) → IfSome (log_heard started after greeting message s) (IsKept s)
+noted_kept {S} started after greeting message s = go (awaits s.marks) (after_answer started after greeting message s) (heard_same started after greeting message s)
   where
     go : (a : Bool) (o : Option (FetchingState S)) → IfSome o (IsSame s)
         → IfSome (if a then None else option_map (noted (marks_after s.marks message.body)) o) (IsKept s)
@@ -122,27 +122,27 @@ marked_kept : {S : Type 0} (s : FetchingState S) (o : Option (EntryState S)) →
 marked_kept s None = tt
 marked_kept s (Some e) = record { boot = refl; kind = refl }
 
-held_kept : {S : Type 0} (started : ℕ → S) (state_of : ℕ → List ℕ → Option S) (body : MarkBody) (s : FetchingState S) → IfSome (held_heard started state_of body s) (IsKept s)
-held_kept started state_of (HeldMsg key m) s = marked_kept s (marked_on (started s.kind) (state_of s.kind) key m s.newest)
-held_kept started state_of (MarkMsg key m) s = tt
-held_kept started state_of (MarkedMsg key reads) s = tt
-held_kept started state_of (AskMsg key) s = tt
+held_kept : {S : Type 0} (started : ℕ → S) (greeting : S → List ℕ) (state_of : ℕ → List ℕ → Option S) (body : MarkBody) (s : FetchingState S) → IfSome (held_heard started greeting state_of body s) (IsKept s)
+held_kept started greeting state_of (HeldMsg key m) s = marked_kept s (marked_on (started s.kind) (greeting (started s.kind)) (state_of s.kind) key m s.newest)
+held_kept started greeting state_of (MarkMsg key m) s = tt
+held_kept started greeting state_of (MarkedMsg key reads) s = tt
+held_kept started greeting state_of (AskMsg key) s = tt
 
-about_kept : {S : Type 0} (started : ℕ → S) (state_of : ℕ → List ℕ → Option S) (message : MarkMessage) (s : FetchingState S) → IfSome (mark_heard started state_of message s) (IsKept s)
-about_kept {S} started state_of message s = go (message.boot == s.boot && awaits s.marks)
+about_kept : {S : Type 0} (started : ℕ → S) (greeting : S → List ℕ) (state_of : ℕ → List ℕ → Option S) (message : MarkMessage) (s : FetchingState S) → IfSome (mark_heard started greeting state_of message s) (IsKept s)
+about_kept {S} started greeting state_of message s = go (message.boot == s.boot && awaits s.marks)
   where
-    go : (b : Bool) → IfSome (if b then held_heard started state_of message.body s else None) (IsKept s)
-    go true = held_kept started state_of message.body s
+    go : (b : Bool) → IfSome (if b then held_heard started greeting state_of message.body s else None) (IsKept s)
+    go true = held_kept started greeting state_of message.body s
     go false = tt
 
-any_kept : {S : Type 0} (started : ℕ → S) (after : S → List ℕ → Served S) (state_of : ℕ → List ℕ → Option S) (message : AnyMessage) (s : FetchingState S)
-    → IfSome (any_heard started after state_of message s) (IsKept s)
-any_kept started after state_of (Of_log message) s = noted_kept started after message s
-any_kept started after state_of (About_mark message) s = about_kept started state_of message s
+any_kept : {S : Type 0} (started : ℕ → S) (after : S → List ℕ → Served S) (greeting : S → List ℕ) (state_of : ℕ → List ℕ → Option S) (message : AnyMessage) (s : FetchingState S)
+    → IfSome (any_heard started after greeting state_of message s) (IsKept s)
+any_kept started after greeting state_of (Of_log message) s = noted_kept started after greeting message s
+any_kept started after greeting state_of (About_mark message) s = about_kept started greeting state_of message s
 
-pub answer_kept : {S : Type 0} (started : ℕ → S) (after : S → List ℕ → Served S) (state_of : ℕ → List ℕ → Option S) (message : AnyMessage) (who : Identity) (s t : FetchingState S) (fits : Bool)
-    → MatchOption (any_heard started after state_of message s) ((fits ≡ false) × (t ≡ s)) (λ x. (fits ≡ true) × (t ≡ x)) → IsOf who s → IsOf who t
-answer_kept {S} started after state_of message who s t fits m own = go (any_heard started after state_of message s) (any_kept started after state_of message s) m
+pub answer_kept : {S : Type 0} (started : ℕ → S) (after : S → List ℕ → Served S) (greeting : S → List ℕ) (state_of : ℕ → List ℕ → Option S) (message : AnyMessage) (who : Identity) (s t : FetchingState S) (fits : Bool)
+    → MatchOption (any_heard started after greeting state_of message s) ((fits ≡ false) × (t ≡ s)) (λ x. (fits ≡ true) × (t ≡ x)) → IsOf who s → IsOf who t
+answer_kept {S} started after greeting state_of message who s t fits m own = go (any_heard started after greeting state_of message s) (any_kept started after greeting state_of message s) m
   where
     kept : (x : FetchingState S) → IsKept s x → t ≡ x → IsOf who t
     kept x k e = subst (IsOf who) (sym e) (record { boot = k.boot ∙ own.boot; kind = k.kind ∙ own.kind })

@@ -1,5 +1,6 @@
 -- The questions of a restart as the node sends them.
 use Rattle.std.proofs.Common.{◌≡◌, ◌∙◌, ℕ, Bool, true, false, true≢false, nat_lt, refl, sym, ap, subst, List, [], ◌∷◌, length, append-nil, Option, Some, None, IfSome, is_some, option_map, if◌then◌else◌}
+use Rattle.tcp_rules.specs.Profile.{grammar_of}
 use Rattle.ft_model.proofs.Lists.{none_is_some, some_is}
 use Rattle.seq_arith.specs.Message.{Message, Body}
 use Rattle.seq_arith.specs.Message.Body.{ListMsg}
@@ -59,17 +60,17 @@ asks_where boot o m e = ap is_some e ∙ go o
     go None = refl
 
 -- .. and it is the law's
-pub asks_nothing : (node : Node) (boot : ℕ) (o : Option Wanted) (told : List Wire) → None ≡ option_map (said_in boot) (option_map question o) → ArePut (asked_law node o) told told
+pub asks_nothing : (node : Node) (boot : ℕ) (o : Option Wanted) (told : List Wire) → None ≡ option_map (said_in boot) (option_map question o) → ArePut (grammar_of node.profile) (asked_law node o) told told
 asks_nothing node boot None told e = record { wires = sym (append-nil told); spelled = tt }
 asks_nothing node boot (Some w) told e = none_is_some (said_in boot (question w)) e
 
 pub asks_this : (node : Node) (boot : ℕ) (o : Option Wanted) (m : Message) (old new : List Wire) → boot ≡ node.boot → Some m ≡ option_map (said_in boot) (option_map question o)
-    → ArePut (To_logger m ∷ []) old new → ArePut (asked_law node o) old new
+    → ArePut (grammar_of node.profile) (To_logger m ∷ []) old new → ArePut (grammar_of node.profile) (asked_law node o) old new
 asks_this node boot None m old new own e put = none_is_some m (sym e)
 asks_this node boot (Some w) m old new own e put =
     let is : m ≡ said_in boot (question w) = some_is m (said_in boot (question w)) e in
     let here : To_logger m ∷ [] ≡ asked_law node (Some w) = ap (λ x. To_logger x ∷ []) (is ∙ (λ j. said_in (own j) (question w))) in
-    subst (λ ps. ArePut ps old new) here put
+    subst (λ ps. ArePut (grammar_of node.profile) ps old new) here put
 
 -- so does the restart ask
 pub is_asked : (boot : ℕ) (o : Option Body) (m : Option Message) → m ≡ option_map (said_in boot) o → is_some m ≡ is_some o

@@ -6,6 +6,7 @@ use Rattle.ft_io.specs.declared.Key.{Key}
 use Rattle.ft_io.specs.Key.{key_eq}
 use Rattle.server_trait.specs.Service.{Machine}
 use Rattle.std.proofs.lemmas.Bool.{false≢true, or_parts}
+use Rattle.tcp_rules.specs.Profile.{grammar_of}
 use Rattle.ft_model.specs.Log.{Entry}
 use Rattle.ft_model.proofs.Lists.{none_is_some}
 use Rattle.ft_model.specs.Node.{Node}
@@ -94,7 +95,7 @@ module _ {S : Type 0} (service : Machine S) (node : Node) where
   restored_more f fetched before after now old mid new fresh r s number added numbered =
       let none : lookup (key_eq f.head.key) before.slots.entries ≡ None = r.others f.head.key fresh in
       let is : after.slots.entries ≡ before.slots.entries ++ (f.head.key, now) ∷ [] = added none in
-      let all = put_on r.packets s.packets old mid new (record { wires = r.wires; spelled = r.spelled }) (record { wires = s.wires; spelled = s.spelled }) in record {
+      let all = put_on (grammar_of node.profile) r.packets s.packets old mid new (record { wires = r.wires; spelled = r.spelled }) (record { wires = s.wires; spelled = s.spelled }) in record {
         places = r.places ++ s.after ∷ [];
         packets = r.packets ++ s.packets;
         stands = record {

@@ -7,6 +7,8 @@ use Rattle.std.proofs.lemmas.List.{map-append}
 use Rattle.ft_io.specs.declared.Key.{Key}
 use Rattle.ft_io.specs.Key.{key_eq}
 use Rattle.server_trait.specs.Service.{Machine}
+use Rattle.seq_arith.specs.declared.kinds.Grammar.{Grammar}
+use Rattle.tcp_rules.specs.Profile.{grammar_of}
 use Rattle.ft_model.specs.Lawful.{restored, restored_count}
 use Rattle.ft_model.specs.Node.{Node}
 use Rattle.ft_model.specs.Node.Place.{Lives, Ended}
@@ -35,16 +37,16 @@ all_unlike : (key : Key) (fetched : List Fetched) → is_fetched key fetched ≡
 all_unlike key [] e = tt
 all_unlike key (f ∷ fetched) e = let parts = or_parts (key_eq f.head.key key) (is_fetched key fetched) e in (parts.0, all_unlike key fetched parts.1)
 
-pub silent_fetched : (key : Key) (fetched : List Fetched) (told : List Wire) → is_fetched key fetched ≡ false → AllByRecursion (IsForFetched fetched) told → of_key key told ≡ []
-silent_fetched key fetched [] fresh whose = refl
-silent_fetched key fetched (w ∷ ws) fresh whose = one whose.0 (silent_fetched key fetched ws fresh whose.1)
+pub silent_fetched : (grammar : Grammar) (key : Key) (fetched : List Fetched) (told : List Wire) → is_fetched key fetched ≡ false → AllByRecursion (IsForFetched grammar fetched) told → of_key grammar key told ≡ []
+silent_fetched grammar key fetched [] fresh whose = refl
+silent_fetched grammar key fetched (w ∷ ws) fresh whose = one whose.0 (silent_fetched grammar key fetched ws fresh whose.1)
   where
-    one : IsForFetched fetched w → of_key key ws ≡ [] → of_key key (w ∷ ws) ≡ []
+    one : IsForFetched grammar fetched w → of_key grammar key ws ≡ [] → of_key grammar key (w ∷ ws) ≡ []
     one (k, there, its) rest = go (key_eq k key) refl
       where
-        go : (b : Bool) → key_eq k key ≡ b → of_key key (w ∷ ws) ≡ []
+        go : (b : Bool) → key_eq k key ≡ b → of_key grammar key (w ∷ ws) ≡ []
         go true t = absurd (true≢false (sym (subst (λ x. is_fetched x fetched ≡ true) (same_key k key t) there) ∙ fresh))
-        go false t = of_both key (w ∷ []) ws ∙ (ap (λ x. x ++ of_key key ws) (none_of k key (w ∷ []) (its, tt) t) ∙ rest)
+        go false t = of_both grammar key (w ∷ []) ws ∙ (ap (λ x. x ++ of_key grammar key ws) (none_of grammar k key (w ∷ []) (its, tt) t) ∙ rest)
 
 module _ {S : Type 0} (service : Machine S) (node : Node) where
   -- before any
@@ -60,7 +62,7 @@ module _ {S : Type 0} (service : Machine S) (node : Node) where
 
   -- an entry more, the newest
   more_restored : (f : Fetched) (fetched : List Fetched) (before after : Serving S) (now : Slot S) (old mid new : List Wire) → is_fetched f.head.key fetched ≡ false
-      → RestoredAlone service node fetched before old mid → IsOnlyFor f.head.key mid new
+      → RestoredAlone service node fetched before old mid → IsOnlyFor (grammar_of node.profile) f.head.key mid new
       → (IsRestorable service f → SlotRevives service node f.head.key (restored service node.profile f) now mid new)
       → (lookup (key_eq f.head.key) before.slots.entries ≡ None → after.slots.entries ≡ before.slots.entries ++ (f.head.key, now) ∷ [])
       → after.next.0 ≡ initial_number node.isn (restored_count (f ∷ fetched)) → known_as now ≡ Is_connected → RestoredAlone service node (f ∷ fetched) after old new
@@ -75,9 +77,9 @@ module _ {S : Type 0} (service : Machine S) (node : Node) where
     others = λ key e.
         let parts = or_parts (key_eq f.head.key key) (is_fetched key fetched) e in
         ap (lookup (key_eq key)) is ∙ behind_others key f.head.key before.slots.entries now (key_eq_turns f.head.key key parts.0) (r.others key parts.1);
-    whose = all_append (IsForFetched (f ∷ fetched)) r.told p.told
-        (all_weaker (IsForFetched fetched) (IsForFetched (f ∷ fetched)) r.told (λ w (k, there, its). (k, or_right (key_eq f.head.key k) (is_fetched k fetched) there, its)) r.whose)
-        (all_weaker (IsFor f.head.key) (IsForFetched (f ∷ fetched)) p.told (λ w its. (f.head.key, or_left (key_eq f.head.key f.head.key) (is_fetched f.head.key fetched) (key_is f.head.key), its)) p.alone);
+    whose = all_append (IsForFetched (grammar_of node.profile) (f ∷ fetched)) r.told p.told
+        (all_weaker (IsForFetched (grammar_of node.profile) fetched) (IsForFetched (grammar_of node.profile) (f ∷ fetched)) r.told (λ w (k, there, its). (k, or_right (key_eq f.head.key k) (is_fetched k fetched) there, its)) r.whose)
+        (all_weaker (IsFor (grammar_of node.profile) f.head.key) (IsForFetched (grammar_of node.profile) (f ∷ fetched)) p.told (λ w its. (f.head.key, or_left (key_eq f.head.key f.head.key) (is_fetched f.head.key fetched) (key_is f.head.key), its)) p.alone);
     known = record {
       number = number;
       known = ap known_in is ∙ (map-append (λ (e : Key × Slot S). (e.0, known_as e.1)) before.slots.entries ((f.head.key, now) ∷ [])
@@ -99,8 +101,8 @@ module _ {S : Type 0} (service : Machine S) (node : Node) where
             stands = subst (λ x. StandsFor service node f.head.key x (Some s.after))
                 (sym (ap (lookup (key_eq f.head.key)) is ∙ found_last f.head.key before.slots.entries now none)) s.stands;
             turn = s.turn;
-            wires = of_both f.head.key r.told p.told ∙ (ap (λ ws. ws ++ of_key f.head.key p.told) (silent_fetched f.head.key fetched r.told fresh r.whose)
-                ∙ told_its f.head.key p.told s.packets p.alone (told_is mid new p.told s.packets p.put s.wires) s.spelled);
+            wires = of_both (grammar_of node.profile) f.head.key r.told p.told ∙ (ap (λ ws. ws ++ of_key (grammar_of node.profile) f.head.key p.told) (silent_fetched (grammar_of node.profile) f.head.key fetched r.told fresh r.whose)
+                ∙ told_its (grammar_of node.profile) f.head.key p.told s.packets p.alone (told_is (grammar_of node.profile) mid new p.told s.packets p.put s.wires) s.spelled);
             spelled = s.spelled;
           }
 
@@ -114,8 +116,8 @@ module _ {S : Type 0} (service : Machine S) (node : Node) where
             stands = subst (λ s. StandsFor service node x.head.key s (Some k.after))
                 (sym (ap (lookup (key_eq x.head.key)) is ∙ other_last f.head.key x.head.key other before.slots.entries now)) k.stands;
             turn = k.turn;
-            wires = of_both x.head.key r.told p.told ∙ (ap (λ ws. of_key x.head.key r.told ++ ws) (none_of f.head.key x.head.key p.told p.alone other)
-                ∙ (append-nil (of_key x.head.key r.told) ∙ k.wires));
+            wires = of_both (grammar_of node.profile) x.head.key r.told p.told ∙ (ap (λ ws. of_key (grammar_of node.profile) x.head.key r.told ++ ws) (none_of (grammar_of node.profile) f.head.key x.head.key p.told p.alone other)
+                ∙ (append-nil (of_key (grammar_of node.profile) x.head.key r.told) ∙ k.wires));
             spelled = k.spelled;
           }
 
@@ -126,7 +128,7 @@ module _ {S : Type 0} (service : Machine S) (node : Node) where
       → RestoredAlone service node (f ∷ fetched) after old mid
   ended_alone f fetched key before after old mid done is fresh r same added =
       let place : restored service node.profile f ≡ Ended f.head.key = ap (λ b. if b then Ended f.head.key else Lives (point_of service node.profile (entry_in f))) done in
-      more_restored f fetched before after slot.Done old mid mid fresh r (quiet_for f.head.key mid)
+      more_restored f fetched before after slot.Done old mid mid fresh r (quiet_for (grammar_of node.profile) f.head.key mid)
       (λ ok. subst (λ p. SlotRevives service node f.head.key p slot.Done mid mid) (sym place)
       (record { after = Ended f.head.key; packets = []; stands = refl; turn = (refl, refl); wires = sym (append-nil mid); spelled = tt }))
       (subst (λ k. lookup (key_eq k) before.slots.entries ≡ None → after.slots.entries ≡ before.slots.entries ++ (k, slot.Done) ∷ []) is added)
@@ -134,14 +136,14 @@ module _ {S : Type 0} (service : Machine S) (node : Node) where
 
   -- .. and one that isn't
   pub live_alone : (f : Fetched) (fetched : List Fetched) (key : Key) (before after : Serving S) (now : Slot S) (old mid new : List Wire) → f.head.done ≡ false → key ≡ f.head.key
-      → is_fetched f.head.key fetched ≡ false → RestoredAlone service node fetched before old mid → IsOnlyFor key mid new
+      → is_fetched f.head.key fetched ≡ false → RestoredAlone service node fetched before old mid → IsOnlyFor (grammar_of node.profile) key mid new
       → (IsSoundEntry service (entry_in f) → SlotRevives service node f.head.key (Lives (point_of service node.profile (entry_in f))) now mid new)
       → after.next.0 ≡ (before.next.0 + 65536) % 2 ^ 32 → known_as now ≡ Is_connected
       → (lookup (key_eq key) before.slots.entries ≡ None → after.slots.entries ≡ before.slots.entries ++ (key, now) ∷ [])
       → RestoredAlone service node (f ∷ fetched) after old new
   live_alone f fetched key before after now old mid new live is fresh r p revives next kind added =
       let place : restored service node.profile f ≡ Lives (point_of service node.profile (entry_in f)) = ap (λ b. if b then Ended f.head.key else Lives (point_of service node.profile (entry_in f))) live in
-      more_restored f fetched before after now old mid new fresh r (subst (λ k. IsOnlyFor k mid new) is p)
+      more_restored f fetched before after now old mid new fresh r (subst (λ k. IsOnlyFor (grammar_of node.profile) k mid new) is p)
       (λ ok. subst (λ q. SlotRevives service node f.head.key q now mid new) (sym place) (revives (ok live)))
       (subst (λ k. lookup (key_eq k) before.slots.entries ≡ None → after.slots.entries ≡ before.slots.entries ++ (k, now) ∷ []) is added)
       (next ∙ (ap (λ n. (n + 65536) % 2 ^ 32) r.known.number ∙ (next_number node.isn (restored_count fetched)

@@ -16,7 +16,7 @@ use Rattle.node_serving.specs.declared.identity.Identity.{Identity}
 use Rattle.node_serving.specs.declared.serving.Serving.{Serving}
 use Rattle.server_node.specs.declared.stage.Stage.{Stage}
 use Rattle.server_node.specs.declared.stage.Stage.TheVariants as stage
-use Rattle.node_serving.specs.Identity.{node_of}
+use Rattle.node_serving.specs.Identity.{node_of, grammar_in}
 use Rattle.server_node.specs.RestartNumbers.{fetched_by}
 use Rattle.node_serving.specs.Openings.{ArePut}
 use Rattle.server_node.specs.FetchStage.{AreDistinct, FetchingStands, IsOwn}
@@ -33,7 +33,7 @@ module _ {S : Type 0} (service : Machine S) (who : Identity) where
 
   -- something is missing: it is asked for
   pub waits_on : (standing : law.Stage) (count : ℕ) (fetched : List Fetched) (f : FetchingState S) (old new : List Wire) → FetchingStands service count fetched f
-      → is_some (wanted count fetched) ≡ true → ArePut (asked (node_of who standing) (wanted count fetched)) old new
+      → is_some (wanted count fetched) ≡ true → ArePut (grammar_in who) (asked (node_of who standing) (wanted count fetched)) old new
       → StageGoes service who fetched (Fetches service (node_of who standing) count fetched) (stage.Fetching f) old new
   waits_on standing count fetched f old new st more put = record {
     after = Fetching count fetched;
@@ -47,11 +47,11 @@ module _ {S : Type 0} (service : Machine S) (who : Identity) where
 
   -- nothing is: all is restored
   pub serves_on : (standing : law.Stage) (count : ℕ) (fetched : List Fetched) (now : Serving S) (old mid new : List Wire) → is_some (wanted count fetched) ≡ false
-      → ArePut (asked (node_of who standing) (wanted count fetched)) old mid → AreRestored service (node_of who standing) fetched now mid new
+      → ArePut (grammar_in who) (asked (node_of who standing) (wanted count fetched)) old mid → AreRestored service (node_of who standing) fetched now mid new
       → StageGoes service who fetched (Fetches service (node_of who standing) count fetched) (stage.Serving now) old new
   serves_on standing count fetched now old mid new nothing put r = go (wanted count fetched) nothing put
     where
-      go : (o : Option Wanted) → is_some o ≡ false → ArePut (asked (node_of who standing) o) old mid
+      go : (o : Option Wanted) → is_some o ≡ false → ArePut (grammar_in who) (asked (node_of who standing) o) old mid
           → StageGoes service who fetched (Continues service (node_of who standing) count fetched o) (stage.Serving now) old new
       go (Some w) e p = absurd (true≢false e)
       go None e p = record {
@@ -65,7 +65,7 @@ module _ {S : Type 0} (service : Machine S) (who : Identity) where
         );
         goes = (r.places, refl, r.go);
         numbers = r.numbers;
-        wires = r.wires ∙ ap (λ ws. ws ++ map Rattle.ft_model.specs.Wire.wire_of r.packets) (p.wires ∙ append-nil old);
+        wires = r.wires ∙ ap (λ ws. ws ++ map (Rattle.ft_model.specs.Wire.wire_by (grammar_in who)) r.packets) (p.wires ∙ append-nil old);
         spelled = r.spelled;
       }
 
@@ -114,22 +114,22 @@ module _ {S : Type 0} (service : Machine S) (who : Identity) where
 
   -- something is missing: it is asked for, whatever the entries are
   pub still_asks : (standing : law.Stage) (count : ℕ) (fetched : List Fetched) (f : FetchingState S) (old new : List Wire) → is_some (wanted count fetched) ≡ true
-      → FetchingStands service count fetched f → ArePut (asked (node_of who standing) (wanted count fetched)) old new
+      → FetchingStands service count fetched f → ArePut (grammar_in who) (asked (node_of who standing) (wanted count fetched)) old new
       → StillAsks service (node_of who standing) count fetched f old new
   still_asks standing count fetched f old new some st put = go (wanted count fetched) refl some put
     where
-      go : (o : Option Wanted) → wanted count fetched ≡ o → is_some o ≡ true → ArePut (asked (node_of who standing) o) old new
+      go : (o : Option Wanted) → wanted count fetched ≡ o → is_some o ≡ true → ArePut (grammar_in who) (asked (node_of who standing) o) old new
           → StillAsks service (node_of who standing) count fetched f old new
       go None is e p = absurd (true≢false (sym e))
       go (Some w) is e p = record { next = w; missing = is; stands = st; asks = p }
 
   -- nothing is missing: each entry has its turn by itself
   pub serves_alone : (standing : law.Stage) (count : ℕ) (fetched : List Fetched) (now : Serving S) (old mid new : List Wire) → is_some (wanted count fetched) ≡ false
-      → ArePut (asked (node_of who standing) (wanted count fetched)) old mid → RestoredAlone service (node_of who standing) fetched now mid new
+      → ArePut (grammar_in who) (asked (node_of who standing) (wanted count fetched)) old mid → RestoredAlone service (node_of who standing) fetched now mid new
       → RestartGoes service (node_of who standing) count fetched (stage.Serving now) old new
   serves_alone standing count fetched now old mid new nothing put r = go (wanted count fetched) refl nothing put
     where
-      go : (o : Option Wanted) → wanted count fetched ≡ o → is_some o ≡ false → ArePut (asked (node_of who standing) o) old mid
+      go : (o : Option Wanted) → wanted count fetched ≡ o → is_some o ≡ false → ArePut (grammar_in who) (asked (node_of who standing) o) old mid
           → RestartGoes service (node_of who standing) count fetched (stage.Serving now) old new
       go (Some w) is e p = absurd (true≢false e)
       go None is e p = (
@@ -197,14 +197,14 @@ module _ {S : Type 0} (service : Machine S) (who : Identity) where
 
   -- a tick asks again
   pub ticks_on : (standing : law.Stage) (f : FetchingState S) (told : List Wire) → StageStands service (node_of who standing) (stage.Fetching f)
-      → ((count : ℕ) (fetched : List Fetched) → FetchingStands service count fetched f → ArePut (asked (node_of who standing) (wanted count fetched)) [] told)
+      → ((count : ℕ) (fetched : List Fetched) → FetchingStands service count fetched f → ArePut (grammar_in who) (asked (node_of who standing) (wanted count fetched)) [] told)
       → NodeGoes service (node_of who standing) Tick_comes who (stage.Fetching f) told
   ticks_on standing f told (count, fetched, is, st) put =
       fetches_on service who standing Tick_comes count fetched f (asked (node_of who standing) (wanted count fetched)) told is refl st (refl, refl) (put count fetched st)
 
   -- a packet is held
   pub holds_on : (standing : law.Stage) (segment : Segment) (f : FetchingState S) (told : List Wire) → StageStands service (node_of who standing) (stage.Fetching f)
-      → ((count : ℕ) (fetched : List Fetched) → FetchingStands service count fetched f → ArePut (held (node_of who standing) fetched segment) [] told)
+      → ((count : ℕ) (fetched : List Fetched) → FetchingStands service count fetched f → ArePut (grammar_in who) (held (node_of who standing) fetched segment) [] told)
       → NodeGoes service (node_of who standing) (Packet_comes segment) who (stage.Fetching f) told
   holds_on standing segment f told (count, fetched, is, st) put =
       fetches_on service who standing (Packet_comes segment) count fetched f (held (node_of who standing) fetched segment) told is refl st (refl, refl) (put count fetched st)

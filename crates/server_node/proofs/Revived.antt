@@ -3,6 +3,7 @@ use Rattle.std.proofs.Common.{◌≡◌, ◌∙◌, ◌≤◌, ℕ, refl, sym, a
 use Rattle.std.specs.Prelude.{IfSome}
 use Rattle.tcp_rules.specs.Profile.{Profile}
 use Rattle.server_trait.specs.Service.{Machine}
+use Rattle.tcp_rules.specs.Profile.{grammar_of}
 use Rattle.ft_model.specs.Log.{Entry}
 use Rattle.ft_model.specs.Point.{Point}
 use Rattle.ft_model.specs.News.News.{Begins as Becomes_live}
@@ -25,7 +26,7 @@ use Rattle.server_node.specs.RestartEnd.{SlotRevives}
 
 pub live_again : {S : Type 0} (service : Machine S) (node : Node) (e : Entry) (c now : ConnState S) (old new : List Wire) → c.local ≡ node.server → c.boot ≡ node.boot → e.mss ≤ 1460
     → StandsBefore service c (point_of service node.profile e)
-    → ((p : Point) → p.key ≡ e.key → Begins service node.server node.boot c p → ConnGoes service node.server node.boot Becomes_live p now old new)
+    → ((p : Point) → p.key ≡ e.key → Begins service node.server node.boot c p → ConnGoes (grammar_of node.profile) service node.server node.boot Becomes_live p now old new)
     → SlotRevives service node e.key (Lives (point_of service node.profile e)) (slot.Live now) old new
 unfolding Begins
 live_again service node e c now old new local boot size before h =

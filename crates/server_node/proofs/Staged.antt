@@ -20,7 +20,7 @@ use Rattle.node_serving.specs.declared.slot.Slot.{Slot}
 use Rattle.node_serving.specs.declared.slot.Slot.TheVariants as slot
 use Rattle.server_node.specs.declared.stage.Stage.{Stage}
 use Rattle.server_node.specs.declared.stage.Stage.TheVariants as stage
-use Rattle.node_serving.specs.Identity.{node_of}
+use Rattle.node_serving.specs.Identity.{node_of, grammar_in}
 use Rattle.node_serving.specs.Openings.{ArePut, all_opens}
 use Rattle.server_node.specs.FetchStage.{FetchingStands}
 use Rattle.node_serving.specs.ServingStage.{ServingStands, ServingGoes}
@@ -79,7 +79,7 @@ module _ {S : Type 0} (service : Machine S) (who : Identity) where
 
   -- one while it asks for the log
   pub asks_on : (standing : law.Stage) (input : law.Input) (packets : List Packet) (told : List Wire) → standing ≡ law_stage.Asking → fence (node_of who standing) input ≡ None
-      → StageTurn service (node_of who standing) law_stage.Asking input law_stage.Asking packets → ArePut packets [] told
+      → StageTurn service (node_of who standing) law_stage.Asking input law_stage.Asking packets → ArePut (grammar_in who) packets [] told
       → NodeGoes service (node_of who standing) input who stage.Asking told
   asks_on standing input packets told is unfenced turn put = record {
     after = law_stage.Asking;
@@ -102,7 +102,7 @@ module _ {S : Type 0} (service : Machine S) (who : Identity) where
   -- one in which no more is fetched
   pub fetches_on : (standing : law.Stage) (input : law.Input) (count : ℕ) (fetched : List Fetched) (f : FetchingState S) (packets : List Packet) (told : List Wire)
       → standing ≡ law_stage.Fetching count fetched → fence (node_of who standing) input ≡ None → FetchingStands service count fetched f
-      → StageTurn service (node_of who standing) (law_stage.Fetching count fetched) input (law_stage.Fetching count fetched) packets → ArePut packets [] told
+      → StageTurn service (node_of who standing) (law_stage.Fetching count fetched) input (law_stage.Fetching count fetched) packets → ArePut (grammar_in who) packets [] told
       → NodeGoes service (node_of who standing) input who (stage.Fetching f) told
   fetches_on standing input count fetched f packets told is unfenced st turn put =
       let after : law.Stage = law_stage.Fetching count fetched in record {
@@ -125,12 +125,12 @@ module _ {S : Type 0} (service : Machine S) (who : Identity) where
 
   -- noise changes nothing
   pub noise_rests : (standing : law.Stage) (at : Stage S) → StageStands service (node_of who standing) at → NodeGoes service (node_of who standing) Noise_comes who at []
-  noise_rests standing stage.Asking st = asks_on standing Noise_comes [] [] st refl (refl, refl) (put_none [])
-  noise_rests standing (stage.Fetching f) (count, fetched, is, st) = fetches_on standing Noise_comes count fetched f [] [] is refl st (refl, refl) (put_none [])
+  noise_rests standing stage.Asking st = asks_on standing Noise_comes [] [] st refl (refl, refl) (put_none (grammar_in who) [])
+  noise_rests standing (stage.Fetching f) (count, fetched, is, st) = fetches_on standing Noise_comes count fetched f [] [] is refl st (refl, refl) (put_none (grammar_in who) [])
   noise_rests standing (stage.Serving s) st = serves_on standing Noise_comes s s [] refl st
       (λ opened places is stands. known_goes service (node_of who standing) Noise_comes opened places s [] [] [] refl refl stands.number
       (none_concerned service (node_of who standing) Noise_comes s.slots.entries places [] (λ k. refl) stands.slots)
-      (subst (λ ps. ArePut ps [] []) (sym (none_asked s.slots.entries)) (put_none [])))
+      (subst (λ ps. ArePut (grammar_in who) ps [] []) (sym (none_asked s.slots.entries)) (put_none (grammar_in who) [])))
     where
       none_asked : (es : List (Key × Slot S)) → all_opens (node_of who standing) Noise_comes es ≡ []
       none_asked [] = refl
@@ -148,10 +148,10 @@ module _ {S : Type 0} (service : Machine S) (who : Identity) where
       → NodeGoes service (node_of who standing) (Message_comes message) who at []
   others_message standing stage.Asking message other st = asks_on standing (Message_comes message) [] [] st (no_fence standing message other)
       (subst (λ o. MatchOption o (Rests law_stage.Asking law_stage.Asking []) (λ count. Fetches service (node_of who standing) count [] law_stage.Asking []))
-      (sym (ap (λ b. if b then summary_count message.body else None) other)) (refl, refl)) (put_none [])
+      (sym (ap (λ b. if b then summary_count message.body else None) other)) (refl, refl)) (put_none (grammar_in who) [])
   others_message standing (stage.Fetching f) message other (count, fetched, is, st) = fetches_on standing (Message_comes message) count fetched f [] [] is (no_fence standing message other) st
       (subst (λ o. MatchOption o (Rests (law_stage.Fetching count fetched) (law_stage.Fetching count fetched) []) (λ more. Fetches service (node_of who standing) count more (law_stage.Fetching count fetched) []))
-      (sym (ap (λ b. if b then fetched_after (wanted count fetched) message.body fetched else None) other)) (refl, refl)) (put_none [])
+      (sym (ap (λ b. if b then fetched_after (wanted count fetched) message.body fetched else None) other)) (refl, refl)) (put_none (grammar_in who) [])
   others_message standing (stage.Serving s) message other st = serves_on standing (Message_comes message) s s [] (no_fence standing message other) st
       (λ opened places is stands. message_goes service (node_of who standing) message opened places s [] [] stands.number
       (none_concerned service (node_of who standing) (Message_comes message) s.slots.entries places [] (λ k. ap (λ b. b && names message.body k) other) stands.slots))
@@ -163,7 +163,7 @@ module _ {S : Type 0} (service : Machine S) (who : Identity) where
       → NodeGoes service (node_of who standing) (Message_comes message) who stage.Asking []
   unanswered standing message other is unfenced = asks_on standing (Message_comes message) [] [] is unfenced
       (subst (λ o. MatchOption o (Rests law_stage.Asking law_stage.Asking []) (λ count. Fetches service (node_of who standing) count [] law_stage.Asking []))
-      (sym (ap (λ o. if message.boot == who.boot then o else None) other ∙ nothing (message.boot == who.boot))) (refl, refl)) (put_none [])
+      (sym (ap (λ o. if message.boot == who.boot then o else None) other ∙ nothing (message.boot == who.boot))) (refl, refl)) (put_none (grammar_in who) [])
     where
       nothing : (b : Bool) → (let o : Option ℕ = if b then None else None in o) ≡ None
       nothing true = refl

@@ -7,6 +7,8 @@ use Rattle.ft_io.specs.Key.{key_eq}
 use Rattle.seq_arith.specs.Message.{Message}
 use Rattle.seq_arith.specs.Packet.{Segment}
 use Rattle.server_trait.specs.Service.{Machine}
+use Rattle.seq_arith.specs.declared.kinds.Grammar.{Grammar}
+use Rattle.tcp_rules.specs.Profile.{grammar_of}
 use Rattle.ft_model.specs.Node as law
 use Rattle.ft_model.specs.Lawful.{count_told, summary_count, fetched_then}
 use Rattle.ft_model.specs.Network.{source_of}
@@ -42,32 +44,32 @@ module _ {S : Type 0} (service : Machine S) (node : Node) (input : law.Input) (w
   pub serving_alone : GoAlone service node input was now new
   serving_alone = subst (GoAlone service node input was now) (sym all_told) s.alone
 
-pub only_for : (key : Key) (old new : List Wire) → old ≡ [] → IsOnlyFor key old new → AllByRecursion (IsFor key) new
-only_for key old new first put = subst (AllByRecursion (IsFor key)) (sym (put.put ∙ ap (λ o. o ++ put.told) first)) put.alone
+pub only_for : (grammar : Grammar) (key : Key) (old new : List Wire) → old ≡ [] → IsOnlyFor grammar key old new → AllByRecursion (IsFor grammar key) new
+only_for grammar key old new first put = subst (AllByRecursion (IsFor grammar key)) (sym (put.put ∙ ap (λ o. o ++ put.told) first)) put.alone
 
 -- a packet makes a node that serves send only what is its client's
 pub only_its_senders : {S : Type 0} (node : Node) (segment : Segment) (was : Serving S) (now : Stage S) (sent : List Wire) → Others node (Packet_comes segment) (stage.Serving was) now sent
-    → AllByRecursion (IsFor (source_of segment)) sent
-only_its_senders node segment was (stage.Serving now) sent others = all_weaker (IsForSubject node (Packet_comes segment)) (IsFor (source_of segment)) sent one others.whose
+    → AllByRecursion (IsFor (grammar_of node.profile) (source_of segment)) sent
+only_its_senders node segment was (stage.Serving now) sent others = all_weaker (IsForSubject node (Packet_comes segment)) (IsFor (grammar_of node.profile) (source_of segment)) sent one others.whose
   where
-    one : (w : Wire) → IsForSubject node (Packet_comes segment) w → IsFor (source_of segment) w
+    one : (w : Wire) → IsForSubject node (Packet_comes segment) w → IsFor (grammar_of node.profile) (source_of segment) w
     one w (key, about, its) =
-        subst (λ k. IsFor k w) (sym (same_key (source_of segment) key (and_parts (is_for node.server segment) (key_eq (source_of segment) key) about).1)) its
+        subst (λ k. IsFor (grammar_of node.profile) k w) (sym (same_key (source_of segment) key (and_parts (is_for node.server segment) (key_eq (source_of segment) key) about).1)) its
 only_its_senders node segment was (stage.Fetching f) sent others = absurd others
 only_its_senders node segment was stage.Asking sent others = absurd others
 only_its_senders node segment was (stage.Marked m) sent others = absurd others
 only_its_senders node segment was stage.Lost sent others = absurd others
 
 -- an input that is about no key changes nothing
-noise_holds : {S : Type 0} (input : law.Input) (f : FetchingState S) → HoldsOthers input f (stage.Fetching f) []
-noise_holds (Packet_comes segment) f = (refl, tt)
-noise_holds (Message_comes message) f = tt
-noise_holds Noise_comes f = tt
-noise_holds Tick_comes f = tt
+noise_holds : {S : Type 0} (grammar : Grammar) (input : law.Input) (f : FetchingState S) → HoldsOthers grammar input f (stage.Fetching f) []
+noise_holds grammar (Packet_comes segment) f = (refl, tt)
+noise_holds grammar (Message_comes message) f = tt
+noise_holds grammar Noise_comes f = tt
+noise_holds grammar Tick_comes f = tt
 
 pub rest_others : {S : Type 0} (node : Node) (input : law.Input) (at : Stage S) → Others node input at at []
 rest_others node input (stage.Serving s) = record { slots = λ key e. refl; whose = tt }
-rest_others node input (stage.Fetching f) = noise_holds input f
+rest_others node input (stage.Fetching f) = noise_holds (grammar_of node.profile) input f
 rest_others node input stage.Asking = tt
 rest_others node input (stage.Marked m) = tt
 rest_others node input stage.Lost = tt

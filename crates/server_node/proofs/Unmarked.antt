@@ -42,12 +42,12 @@ asked_of_log s q unused e =
 noted_same : {S : Type 0} (s : FetchingState S) (code : Marks) → code ≡ s.marks → noted code s ≡ s
 noted_same s code e = ap (λ m. noted m s) e
 
-pub answer_of_log : {S : Type 0} (started : ℕ → S) (after : S → List ℕ → Served S) (state_of : ℕ → List ℕ → Option S) (message : Message) (s t : FetchingState S) (fits : Bool) → UsesNone s.marks
-    → MatchOption (any_heard started after state_of (Of_log message) s) ((fits ≡ false) × (t ≡ s)) (λ x. (fits ≡ true) × (t ≡ x))
-    → MatchOption (after_answer started after message s) ((fits ≡ false) × (t ≡ s)) (λ x. (fits ≡ true) × (t ≡ x))
-answer_of_log {S} started after state_of message s t fits unused m =
-    go (after_answer started after message s) (heard_same started after message s)
-    (subst (λ a. MatchOption (if a then None else option_map (noted (marks_after s.marks message.body)) (after_answer started after message s)) ((fits ≡ false) × (t ≡ s))
+pub answer_of_log : {S : Type 0} (started : ℕ → S) (after : S → List ℕ → Served S) (greeting : S → List ℕ) (state_of : ℕ → List ℕ → Option S) (message : Message) (s t : FetchingState S) (fits : Bool) → UsesNone s.marks
+    → MatchOption (any_heard started after greeting state_of (Of_log message) s) ((fits ≡ false) × (t ≡ s)) (λ x. (fits ≡ true) × (t ≡ x))
+    → MatchOption (after_answer started after greeting message s) ((fits ≡ false) × (t ≡ s)) (λ x. (fits ≡ true) × (t ≡ x))
+answer_of_log {S} started after greeting state_of message s t fits unused m =
+    go (after_answer started after greeting message s) (heard_same started after greeting message s)
+    (subst (λ a. MatchOption (if a then None else option_map (noted (marks_after s.marks message.body)) (after_answer started after greeting message s)) ((fits ≡ false) × (t ≡ s))
     (λ x. (fits ≡ true) × (t ≡ x))) (none_awaited s.marks unused) m)
   where
     go : (o : Option (FetchingState S)) → IfSome o (IsSame s) → MatchOption (option_map (noted (marks_after s.marks message.body)) o) ((fits ≡ false) × (t ≡ s)) (λ x. (fits ≡ true) × (t ≡ x))

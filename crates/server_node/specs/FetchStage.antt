@@ -54,4 +54,8 @@ pub record IsOwn {S : Type 0} (who : Identity) (f : FetchingState S) : Type 0 wh
   pub unmarked : UsesNone f.marks
 
 pub IsOwn-prop : {S : Type 0} (who : Identity) (f : FetchingState S) → IsProp (IsOwn who f)
-IsOwn-prop who f = λ a b i. record { boot = ℕ_set f.boot who.boot a.boot b.boot i; kind = ℕ_set f.kind who.kind a.kind b.kind i; unmarked = UsesNone-prop f.marks a.unmarked b.unmarked i }
+IsOwn-prop who f = λ a b i. record {
+  boot = ℕ_set f.boot who.boot a.boot b.boot i;
+  kind = ℕ_set f.kind who.kind a.kind b.kind i;
+  unmarked = UsesNone-prop f.marks a.unmarked b.unmarked i;
+}

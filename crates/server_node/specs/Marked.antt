@@ -39,7 +39,8 @@ sound-prop : {S : Type 0} (who : Identity) (at : MarkedStage S) → IsProp (IsSo
 sound-prop who marked.Asking = Unit-prop
 sound-prop who (marked.Fetching f) = IsOf-prop who f
 sound-prop who (marked.Serving s) =
-    ×_prop (AllByRecursion-prop (λ e. IsSoundSlot who e.0 e.1) (λ e. IsSoundSlot-prop who e.0 e.1) s.slots.entries) (×_prop (ℕ_set (s.next.0 % 65536) (who.isn % 65536)) le_prop)
+    ×_prop (AllByRecursion-prop (λ e. IsSoundSlot who e.0 e.1) (λ e. IsSoundSlot-prop who e.0 e.1) s.slots.entries)
+    (×_prop (ℕ_set (s.next.0 % 65536) (who.isn % 65536)) le_prop)
 
 pub IsSoundMarked-prop : {S : Type 0} (who : Identity) (node : Marked S) → IsProp (IsSoundMarked who node)
 IsSoundMarked-prop who node = sound-prop who node.stage

@@ -1,8 +1,10 @@
 -- What holds of the turn of a node that marks whatever arrives, in whatever state its connections are.
 use Rattle.std.specs.Prelude.{◌≡◌, ◌==◌, not, Bool, true, List, []}
 use Rattle.std.specs.List.{AllByRecursion}
+use Rattle.seq_arith.specs.declared.kinds.Grammar.{Grammar}
 use Rattle.server_trait.specs.Service.{Machine}
 use Rattle.server_trait.specs.declared.Service.{Ghosts}
+use Rattle.tcp_rules.specs.Profile.{grammar_of}
 use Rattle.ft_model.specs.Network.{source_of}
 use Rattle.ft_model.specs.Node.{Node, Stage as law_stage}
 use Rattle.ft_model.specs.Node.Input.{Packet_comes}
@@ -28,16 +30,17 @@ is_for_nobody_marked node (Plain_comes input) = is_for_nobody node input
 is_for_nobody_marked node (Mark_comes message) = not (message.boot == node.boot)
 
 -- while the log is fetched, a packet changes nothing, and only its sender gets an answer
-abbrev pub HoldsOthersMarked : {S : Type 0} → MarkedInput → FetchingState S → KeyMarks → MarkedStage S → KeyMarks → List Wire → Type 0
-HoldsOthersMarked (Plain_comes (Packet_comes segment)) was marks now later sent =
-    (now ≡ marked.Fetching was) × (later ≡ marks) × AllByRecursion (IsFor (source_of segment)) sent
-HoldsOthersMarked _ was marks now later sent = Unit {0}
+abbrev pub HoldsOthersMarked : {S : Type 0} → Grammar → MarkedInput → FetchingState S → KeyMarks → MarkedStage S → KeyMarks → List Wire → Type 0
+HoldsOthersMarked grammar (Plain_comes (Packet_comes segment)) was marks now later sent =
+    (now ≡ marked.Fetching was) × (later ≡ marks) × AllByRecursion (IsFor grammar (source_of segment)) sent
+HoldsOthersMarked grammar _ was marks now later sent = Unit {0}
 
 -- a turn leaves others alone. Where the node serves before it, it serves after it, and each key has its turn
-abbrev pub OthersMarked : {S : Type 0} → Machine S → Node → MarkedInput → (was : MarkedStage S) → KeyMarks → (now : MarkedStage S) → KeyMarks → List Wire → Type 0
+abbrev pub OthersMarked : {S : Type 0} → Machine S → Node → MarkedInput → (was : MarkedStage S) → KeyMarks → (now : MarkedStage S) → KeyMarks → List Wire
+    → Type 0
 OthersMarked service node i (marked.Serving was) marks (marked.Serving now) later sent = GoesBesideMarks service node i was now marks later [] sent
 OthersMarked service node i (marked.Serving was) marks _ later sent = ⊥
-OthersMarked service node i (marked.Fetching was) marks now later sent = HoldsOthersMarked i was marks now later sent
+OthersMarked service node i (marked.Fetching was) marks now later sent = HoldsOthersMarked (grammar_of node.profile) i was marks now later sent
 OthersMarked service node i marked.Asking marks now later sent = Unit {0}
 
 -- a turn leaves others alone, and an input that is for nobody here changes nothing

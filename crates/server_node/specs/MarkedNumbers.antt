@@ -1,5 +1,5 @@
--- The numbers of the connections that a restart of a node that marks restores: those of a node without marks. Of an entry that begins at its mark, what is below
--- the mark counts as fetched.
+-- The numbers of the connections that a restart of a node that marks restores: those of a node without marks. Of an entry that begins at its mark, what is
+-- below the mark counts as fetched.
 use Rattle.std.specs.Prelude.{ℕ, nat_lt, Option, Some, None, option_map, List, []}
 use Rattle.server_trait.specs.Service.{Machine}
 use Rattle.ft_model.specs.Node.{Stage as law_stage}

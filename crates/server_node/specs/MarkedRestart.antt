@@ -6,6 +6,7 @@ use Rattle.ft_io.specs.declared.Key.{Key}
 use Rattle.ft_io.specs.Key.{key_eq}
 use Rattle.server_trait.specs.Service.{AreBytes}
 use Rattle.server_trait.specs.declared.Service.{Ghosts}
+use Rattle.tcp_rules.specs.Profile.{grammar_of}
 use Rattle.ft_model.specs.Lawful.{AreSound, Revives, all_restored, restored_count}
 use Rattle.ft_model.specs.Log.{Entry}
 use Rattle.ft_model.specs.Network.{Packet}
@@ -26,7 +27,7 @@ use Rattle.node_serving.specs.declared.slot.Slot.{Slot}
 use Rattle.node_serving.specs.declared.turn.Turn.{Turn}
 use Rattle.server_node.specs.FetchStage.{AreDistinct}
 use Rattle.server_node.specs.RestartNumbers.{AreNumbered}
-use Rattle.node_serving.specs.Identity.{node_of, service_of}
+use Rattle.node_serving.specs.Identity.{node_of, service_of, grammar_in}
 use Rattle.conn_marks.specs.MarkSends.{AreOut}
 use Rattle.conn_marks.specs.Settled.{Keeps, AllSettled, IsSettledPoint, MarksPlace}
 use Rattle.node_serving.specs.Markers.{Saving, marker_of}
@@ -49,10 +50,12 @@ pub record SlotRevivesWith {S : Type 0} (by : Marker S) (node : Node) (e : Entry
   pub turn : Revives by.service node (Lives (point_of by.service node.profile e)) (Lives after ∷ []) packets
   pub changes : Changes e.key (with_new by.service by.writing by.every after (marking_in was e.key)) was marks
   pub settled : IsSettledPoint by (with_new by.service by.writing by.every after (marking_in was e.key)) after
-  pub out : AreOut (with_marks (length (filter is_done packets)) (marks_out node.boot after (new_marks by.service by.writing by.every (marking_in was e.key) after)) packets) old new
+  pub out : AreOut (grammar_of node.profile) (with_marks (length (filter is_done packets))
+      (marks_out node.boot after (new_marks by.service by.writing by.every (marking_in was e.key) after)) packets) old new
 
 -- these entries, the newest first, have had their first turn in the log's order, and no other key has a slot
-pub record AreRestoredMarked {S : Type 0} (by : Marker S) (node : Node) (marking : Key → Marking) (fetched : List Fetched) (now : Serving S) (marks : KeyMarks) (old new : List Wire) : Type 0 where
+pub record AreRestoredMarked {S : Type 0} (by : Marker S) (node : Node) (marking : Key
+    → Marking) (fetched : List Fetched) (now : Serving S) (marks : KeyMarks) (old new : List Wire) : Type 0 where
   pub places : List Place
   pub sent : List Outgoing
   pub stands : ServingStands by.service node (restored_count fetched) places now
@@ -61,7 +64,7 @@ pub record AreRestoredMarked {S : Type 0} (by : Marker S) (node : Node) (marking
   pub others : (key : Key) → is_fetched key fetched ≡ false → lookup (key_eq key) now.slots.entries ≡ None
   pub keeps : Keeps by (markings_then by places marking) marks
   pub settled : AllSettled by (markings_then by places marking) places
-  pub out : AreOut sent old new
+  pub out : AreOut (grammar_of node.profile) sent old new
 
 -- the same, with the slots and the marks as a pair
 abbrev pub RestoredSoFar : {S : Type 0} → Marker S → Node → (Key → Marking) → List Fetched → Serving S × KeyMarks → (old new : List Wire) → Type 0
@@ -71,13 +74,15 @@ RestoredSoFar by node marking fetched now old new = AreRestoredMarked by node ma
 module _ {S : Type 0} (s : Ghosts S) (v : Saving S) (who : Identity) where
   abbrev pub LogRevivesMarked : List (EntryState S) → (now : Serving S) → (marks later : KeyMarks) → (old new : Turn) → Type 0
   LogRevivesMarked entries now marks later old new =
-      (every : ℕ) (standing : law_stage) (marking : Key → Marking) (fetched : List Fetched) → StandsWhole (service_of s who) (reverse fetched) entries → AreDistinct fetched
+      (every : ℕ) (standing : law_stage) (marking : Key → Marking) (fetched : List Fetched) → StandsWhole (service_of s who) (reverse fetched) entries
+      → AreDistinct fetched
       → AreSound (service_of s who) fetched → AllBytes fetched → Keeps (marker_of s v who every) marking marks
       → AreRestoredMarked (marker_of s v who every) (node_of who standing) marking fetched now later old.sent.items new.sent.items
 
   abbrev pub EntryRevivesMarked : Restored S → (was now : Serving S) → (marks later : KeyMarks) → (old new : Turn) → Type 0
   EntryRevivesMarked entry was now marks later old new =
-      (every : ℕ) (standing : law_stage) (marking : Key → Marking) (f : Fetched) (fetched : List Fetched) (first : List Wire) → RestoredIs (service_of s who) f entry
+      (every : ℕ) (standing : law_stage) (marking : Key → Marking) (f : Fetched) (fetched : List Fetched) (first : List Wire)
+      → RestoredIs (service_of s who) f entry
       → (f.head.done ≡ false → IsSoundEntry (service_of s who) (entry_in f)) → AreBytes f.bytes → is_fetched f.head.key fetched ≡ false
       → AreRestoredMarked (marker_of s v who every) (node_of who standing) marking fetched was marks first old.sent.items
       → AreRestoredMarked (marker_of s v who every) (node_of who standing) marking (f ∷ fetched) now later first new.sent.items
@@ -92,4 +97,4 @@ module _ {S : Type 0} (s : Ghosts S) (v : Saving S) (who : Identity) where
   SlotMarked key from now marks later old new =
       (every : ℕ) (standing : law_stage) (place : Place) → marks.every ≡ (marker_of s v who every).every
       → SlotStands (service_of s who) (node_of who standing) key now place
-      → MarksPlace (marker_of s v who every) who.boot key from (Some place) marks later old.sent.items new.sent.items
+      → MarksPlace (marker_of s v who every) (grammar_in who) who.boot key from (Some place) marks later old.sent.items new.sent.items

@@ -2,6 +2,7 @@
 use Rattle.std.specs.Prelude.{◌≡◌, ℕ, ◌<◌, Bool, true, false, nat_lt, Option, Some, None, IfSome, List, [], ◌∷◌, map, Result, Ok, Err}
 use Rattle.std.specs.List.{AllByRecursion}
 use Rattle.ft_io.specs.declared.Key.{Key}
+use Rattle.seq_arith.specs.declared.kinds.Grammar.{Grammar}
 use Rattle.seq_arith.specs.Mark.{Mark, MarkBody, MarkMessage}
 use Rattle.seq_arith.specs.Mark.MarkBody.{HeldMsg}
 use Rattle.seq_arith.specs.Message.{Body}
@@ -10,6 +11,7 @@ use Rattle.seq_arith.specs.PacketGrammar as packets
 use Rattle.seq_arith.specs.declared.mark.BadMark.{BadMark}
 use Rattle.server_trait.specs.Service.{AreBytes}
 use Rattle.server_trait.specs.declared.Service.{Ghosts}
+use Rattle.tcp_rules.specs.Profile.{grammar_of}
 use Rattle.ft_model.specs.Lawful.{AreSound, IsNearInput, IsSoundInput, fence}
 use Rattle.ft_model.specs.Node.{Stage as law_stage}
 use Rattle.ft_model.specs.Node.Input.{Message_comes, Noise_comes, Tick_comes}
@@ -38,7 +40,7 @@ use Rattle.server_node.specs.declared.node.Node.{Node}
 use Rattle.server_node.specs.declared.stage.Stage.{Stage}
 use Rattle.server_node.specs.declared.stage.Stage.TheVariants as stage
 use Rattle.server_node.specs.FetchStage.{AreDistinct}
-use Rattle.node_serving.specs.Identity.{node_of}
+use Rattle.node_serving.specs.Identity.{node_of, grammar_in}
 use Rattle.server_node.specs.Marked.{AreApart}
 use Rattle.server_node.specs.MarkedApart.{MarkedTurnsApart, StageTurnsApart}
 use Rattle.server_node.specs.MarkedNumbers.{AllNumberedAt, AllNumberedMarked, fetched_by_marked}
@@ -49,10 +51,10 @@ use Rattle.node_serving.specs.Markers.{Saving, marker_of, node_at}
 use Rattle.node_serving.specs.ServingStage.{ServingStands}
 
 -- what arrives, as the law's input: bytes that no codec reads are noise
-abbrev pub marked_input_of : Input → MarkedInput
-marked_input_of (input.Packet bytes) = Plain_comes (segment_or_noise (packets.reading bytes.now))
-marked_input_of (input.Message bytes) = input_of (said_by bytes.now)
-marked_input_of input.Tick = Plain_comes Tick_comes
+abbrev pub marked_input_of : Grammar → Input → MarkedInput
+marked_input_of grammar (input.Packet bytes) = Plain_comes (segment_or_noise (packets.reading bytes.now))
+marked_input_of grammar (input.Message bytes) = input_of (said_by grammar bytes.now)
+marked_input_of grammar input.Tick = Plain_comes Tick_comes
 
 -- the input for bytes that are no message of the log
 abbrev pub heard_of : Result MarkMessage BadMark → MarkedInput
@@ -111,7 +113,8 @@ IsUnfencedMarked node (Plain_comes i) = fence node.plain i ≡ None
 IsUnfencedMarked node (Mark_comes message) = Unit {0}
 
 -- the node corresponds to a state to which this law leads, having restored these entries if it serves then, and sends what the law says
-pub record GoesOn {S : Type 0} (by : Marker S) (who : Identity) (restored : List Fetched) (Goes : List Outgoing → MarkedNode → Type 0) (now : Marked S) (lent : List Wire) : Type 0 where
+pub record GoesOn {S : Type 0} (by : Marker S) (who : Identity) (restored : List Fetched) (Goes : List Outgoing → MarkedNode
+    → Type 0) (now : Marked S) (lent : List Wire) : Type 0 where
   pub standing : law_stage
   pub awaits : Bool
   pub marking : Key → Marking
@@ -119,14 +122,15 @@ pub record GoesOn {S : Type 0} (by : Marker S) (who : Identity) (restored : List
   pub stands : MarkedStands by (node_at who standing awaits marking) now
   pub goes : Goes sent (node_at who standing awaits marking)
   pub numbers : AllNumberedAt by.service who.isn restored now.stage
-  pub out : AreOut sent [] lent
+  pub out : AreOut (grammar_in who) sent [] lent
 
 -- .. by the law of this input, or of what is fetched so far
 abbrev pub TurnsOn : {S : Type 0} → Marker S → Identity → (bytes lengths : List ℕ) → MarkedNode → MarkedInput → (now : Marked S) → (lent : List Wire) → Type 0
 TurnsOn by who bytes lengths node i now lent =
     GoesOn by who (fetched_by_marked by bytes lengths node node.plain.stage i) (InputTurn by bytes lengths node i) now lent
 
-abbrev pub FetchesOn : {S : Type 0} → Marker S → Identity → MarkedNode → (count : ℕ) → FetchedSoFar → (Key → Marking) → (now : Marked S) → (lent : List Wire) → Type 0
+abbrev pub FetchesOn : {S : Type 0} → Marker S → Identity → MarkedNode → (count : ℕ) → FetchedSoFar → (Key → Marking) → (now : Marked S)
+    → (lent : List Wire) → Type 0
 FetchesOn by who node count so_far marking now lent = GoesOn by who so_far.entries (FetchesMarked by node count so_far marking) now lent
 
 -- what is stored of the marks once a message is taken
@@ -148,9 +152,9 @@ IsPartBytes (Of_log message) = BodyBytes message.body
 IsPartBytes (About_mark message) = Unit {0}
 
 -- the question is sent, if there is one
-abbrev pub SendsQuestion : Option AnyMessage → Bool → (old new : List Wire) → Type 0
-SendsQuestion (Some question) asks old new = (asks ≡ true) × AreOut (outgoing question ∷ []) old new
-SendsQuestion None asks old new = (asks ≡ false) × (new ≡ old)
+abbrev pub SendsQuestion : Grammar → Option AnyMessage → Bool → (old new : List Wire) → Type 0
+SendsQuestion grammar (Some question) asks old new = (asks ≡ true) × AreOut grammar (outgoing question ∷ []) old new
+SendsQuestion grammar None asks old new = (asks ≡ false) × (new ≡ old)
 
 -- for a service, given by its ghost members, and an incarnation
 module _ {S : Type 0} (s : Ghosts S) (v : Saving S) (who : Identity) where
@@ -167,7 +171,8 @@ module _ {S : Type 0} (s : Ghosts S) (v : Saving S) (who : Identity) where
   -- what is missing is asked for. Once nothing is, the log is restored
   abbrev pub FetchesOnMarked : (was : FetchingState S) → KeyMarks → (now : Marked S) → (sent : List Wire) → Type 0
   FetchesOnMarked was marks now sent =
-      (every : ℕ) (standing : law_stage) (awaits : Bool) (before marking : Key → Marking) (count : ℕ) (fetched : FetchedSoFar) → Keeps (marker_of s v who every) marking marks
+      (every : ℕ) (standing : law_stage) (awaits : Bool) (before marking : Key → Marking) (count : ℕ) (fetched : FetchedSoFar)
+      → Keeps (marker_of s v who every) marking marks
       → FetchingStandsMarked (marker_of s v who every) count fetched was → AreSound (marker_of s v who every).service fetched.entries
       → FetchesOn (marker_of s v who every) who (node_at who standing awaits before) count fetched marking now sent
 
@@ -194,14 +199,15 @@ pub record MarkedNodeStands {S : Type 0} {s : Ghosts S} (by : Marker S) (node : 
 
 -- its turn: it corresponds to a state to which the law's turn leads, and the packets that it returns are those that the law says it sends, each in its one
 -- spelling. If the turn ends a restart, the inner TCP of the nth restored connection has the nth initial sequence number of this incarnation
-pub record MarkedNodeGoes {S : Type 0} {s : Ghosts S} (by : Marker S) (bytes lengths : List ℕ) (node : MarkedNode) (i : MarkedInput) (now : Node S s) (lent : List Wire) : Type 0 where
+pub record MarkedNodeGoes {S : Type 0} {s : Ghosts S} (by : Marker S) (bytes lengths : List ℕ) (node : MarkedNode) (i : MarkedInput) (now : Node S s)
+    (lent : List Wire) : Type 0 where
   pub after : MarkedNode
   pub sent : List Outgoing
   pub stands : MarkedNodeStands by after now
   pub turn : LawfulMarkedTurn by bytes lengths node i sent after
   pub numbers : AllNumberedMarked by.service node.plain.isn (fetched_by_marked by bytes lengths node node.plain.stage i) now.stage
-  pub wires : lent ≡ map outgoing_wire sent
-  pub spelled : AllByRecursion HasOutgoingWire sent
+  pub wires : lent ≡ map (outgoing_wire (grammar_of node.plain.profile)) sent
+  pub spelled : AllByRecursion (HasOutgoingWire (grammar_of node.plain.profile)) sent
 
 -- .. from any state of the law to which it corresponds, under the premises, whatever is below the mark that comes
 abbrev pub MarkedNodeTurns : {S : Type 0} {s : Ghosts S} → Saving S → MarkedInput → (was now : Node S s) → (lent : List Wire) → Type 0

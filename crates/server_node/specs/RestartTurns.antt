@@ -24,7 +24,7 @@ use Rattle.node_serving.specs.declared.slot.Slot.{Slot}
 use Rattle.server_node.specs.declared.stage.Stage.{Stage}
 use Rattle.server_node.specs.declared.stage.Stage.TheVariants as stage
 use Rattle.node_serving.specs.declared.turn.Turn.{Turn}
-use Rattle.node_serving.specs.Identity.{node_of, service_of}
+use Rattle.node_serving.specs.Identity.{node_of, service_of, grammar_in}
 use Rattle.node_serving.specs.Loan.{conn_in}
 use Rattle.server_node.specs.RestartNumbers.{IsNumbered, fetched_by}
 use Rattle.server_node.specs.FetchStage.{AreDistinct, FetchingStands}
@@ -79,13 +79,13 @@ module _ {S : Type 0} (s : Ghosts S) (who : Identity) where
   abbrev pub SendsWanted : (was : FetchingState S) → (old new : Turn) → Type 0
   SendsWanted was old new =
       (standing : law_stage) (count : ℕ) (fetched : List Fetched) → FetchingStands (service_of s who) count fetched was
-      → Sends (asked (node_of who standing) (wanted count fetched)) old new
+      → Sends (grammar_in who) (asked (node_of who standing) (wanted count fetched)) old new
 
   -- the answer to a segment while the log is fetched is sent, if there is one
   abbrev pub SendsHeld : Segment → (was : FetchingState S) → (old new : Turn) → Type 0
   SendsHeld segment was old new =
       (standing : law_stage) (count : ℕ) (fetched : List Fetched) → FetchingStands (service_of s who) count fetched was
-      → Sends (held (node_of who standing) fetched segment) old new
+      → Sends (grammar_in who) (held (node_of who standing) fetched segment) old new
 
   -- the whole log is restored
   abbrev pub LogRevives : List (EntryState S) → (now : Serving S) → (old new : Turn) → Type 0
@@ -124,5 +124,5 @@ module _ {S : Type 0} (s : Ghosts S) (who : Identity) where
   -- .. and its inner TCP has this initial sequence number
   abbrev pub IsNumberedFrom : ReplayedState S → (number : ℕ) → (now : Slot S) → Type 0
   IsNumberedFrom replayed number now =
-      (fresh : S) (e : Entry) → IsReplayed (machine fresh s.after) e replayed → IsSoundEntry (machine fresh s.after) e
-      → IsNumbered (machine fresh s.after) e number (conn_in (Some now))
+      (fresh : S) (e : Entry) → IsReplayed (machine fresh s.after s.greeting) e replayed → IsSoundEntry (machine fresh s.after s.greeting) e
+      → IsNumbered (machine fresh s.after s.greeting) e number (conn_in (Some now))

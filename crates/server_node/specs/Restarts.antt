@@ -2,14 +2,16 @@
 use Rattle.std.specs.Prelude.{◌≡◌, MatchOption, ℕ, true, false, Option, Some, None, List, [], ◌∷◌, ◌++◌, map}
 use Rattle.std.specs.List.{AllByRecursion}
 use Rattle.ft_io.specs.declared.Key.{Key}
+use Rattle.seq_arith.specs.declared.kinds.Grammar.{Grammar}
 use Rattle.seq_arith.specs.Message.{Message}
 use Rattle.server_trait.specs.Service.{Machine}
+use Rattle.tcp_rules.specs.Profile.{grammar_of}
 use Rattle.ft_model.specs.Lawful.{Revives, restored, asked, count_told, fetched_then}
 use Rattle.ft_model.specs.Network.{Packet}
 use Rattle.ft_model.specs.Node.{Node, Place, Input}
 use Rattle.ft_model.specs.Node.Input.{Packet_comes, Message_comes, Noise_comes, Tick_comes}
 use Rattle.ft_model.specs.Restart.{Fetched, Wanted, IsSoundEntry, entry_in, is_fetched, wanted}
-use Rattle.ft_model.specs.Wire.{Wire, wire_of, HasWire}
+use Rattle.ft_model.specs.Wire.{Wire, wire_by, HasWireBy}
 use Rattle.reincarnate.specs.Questions.{FetchingState}
 use Rattle.node_serving.specs.declared.serving.Serving.{Serving}
 use Rattle.node_serving.specs.declared.slot.Slot.{Slot}
@@ -32,12 +34,12 @@ pub record KeyRevives {S : Type 0} (service : Machine S) (node : Node) (f : Fetc
   pub packets : List Packet
   pub stands : StandsFor service node f.head.key now (Some after)
   pub turn : Revives service node (restored service node.profile f) (after ∷ []) packets
-  pub wires : of_key f.head.key sent ≡ map wire_of packets
-  pub spelled : AllByRecursion HasWire packets
+  pub wires : of_key (grammar_of node.profile) f.head.key sent ≡ map (wire_by (grammar_of node.profile)) packets
+  pub spelled : AllByRecursion (HasWireBy (grammar_of node.profile)) packets
 
 -- a packet of a key whose entry is fetched
-abbrev pub IsForFetched : List Fetched → Wire → Type 0
-IsForFetched fetched wire = (key : Key) × (is_fetched key fetched ≡ true) × IsFor key wire
+abbrev pub IsForFetched : Grammar → List Fetched → Wire → Type 0
+IsForFetched grammar fetched wire = (key : Key) × (is_fetched key fetched ≡ true) × IsFor grammar key wire
 
 -- these entries have had their first turn, each by itself, and no other key has a slot or a packet. The node knows the clients of these entries
 pub record RestoredAlone {S : Type 0} (service : Machine S) (node : Node) (fetched : List Fetched) (now : Serving S) (old new : List Wire) : Type 0 where
@@ -45,15 +47,16 @@ pub record RestoredAlone {S : Type 0} (service : Machine S) (node : Node) (fetch
   pub put : new ≡ old ++ told
   pub each : AllByRecursion (λ f. IsRestorable service f → KeyRevives service node f (slot_of f.head.key now) told) fetched
   pub others : (key : Key) → is_fetched key fetched ≡ false → slot_of key now ≡ None
-  pub whose : AllByRecursion (IsForFetched fetched) told
+  pub whose : AllByRecursion (IsForFetched (grammar_of node.profile) fetched) told
   pub known : Knows node (clients_restored fetched) now
 
 -- the restart asks for what is missing next
-pub record StillAsks {S : Type 0} (service : Machine S) (node : Node) (count : ℕ) (fetched : List Fetched) (now : FetchingState S) (old new : List Wire) : Type 0 where
+pub record StillAsks {S : Type 0} (service : Machine S) (node : Node) (count : ℕ) (fetched : List Fetched) (now : FetchingState S)
+    (old new : List Wire) : Type 0 where
   pub next : Wanted
   pub missing : wanted count fetched ≡ Some next
   pub stands : FetchingStands service count fetched now
-  pub asks : ArePut (asked node (Some next)) old new
+  pub asks : ArePut (grammar_of node.profile) (asked node (Some next)) old new
 
 -- what a restart does with these entries: it asks for what is missing, or, if nothing is, the node serves
 abbrev pub RestartGoes : {S : Type 0} → Machine S → Node → (count : ℕ) → List Fetched → Stage S → (old new : List Wire) → Type 0

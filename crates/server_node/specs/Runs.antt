@@ -42,7 +42,8 @@ KeyRuns service node key first (turn ∷ earlier) start last =
     × (goes : KeyGoes service node turn.input key before (served_by first earlier) turn.now turn.sent) × (last ≡ goes.after)
 
 -- the key's run, at whose end its slot corresponds to its place
-pub record RunsAlone {S : Type 0} (service : Machine S) (node : Node) (key : Key) (first : Serving S) (turns : List (Turned S)) (start : Option Place) : Type 0 where
+pub record RunsAlone {S : Type 0} (service : Machine S) (node : Node) (key : Key) (first : Serving S) (turns : List (Turned S))
+    (start : Option Place) : Type 0 where
   pub last : Option Place
   pub runs : KeyRuns service node key first turns start last
   pub stands : StandsFor service node key (slot_of key (served_by first turns)) last

@@ -2,7 +2,9 @@
 use Rattle.std.specs.Prelude.{◌≡◌, ◌==◌, not, Bool, true, false, Option, None, List, []}
 use Rattle.std.specs.List.{AllByRecursion}
 use Rattle.ft_io.specs.declared.Key.{Key}
+use Rattle.seq_arith.specs.declared.kinds.Grammar.{Grammar}
 use Rattle.server_trait.specs.Service.{Machine}
+use Rattle.tcp_rules.specs.Profile.{grammar_of}
 use Rattle.ft_model.specs.Network.{source_of}
 use Rattle.ft_model.specs.Node.{Node, Input, is_for}
 use Rattle.ft_model.specs.Node.Input.{Packet_comes, Message_comes, Noise_comes, Tick_comes}
@@ -21,15 +23,15 @@ slot_in key (stage.Serving s) = slot_of key s
 slot_in key _ = None
 
 -- while the log is fetched, a packet changes nothing, and only its sender gets an answer
-abbrev pub HoldsOthers : {S : Type 0} → Input → FetchingState S → Stage S → List Wire → Type 0
-HoldsOthers (Packet_comes segment) was now sent = (now ≡ stage.Fetching was) × AllByRecursion (IsFor (source_of segment)) sent
-HoldsOthers _ was now sent = Unit {0}
+abbrev pub HoldsOthers : {S : Type 0} → Grammar → Input → FetchingState S → Stage S → List Wire → Type 0
+HoldsOthers grammar (Packet_comes segment) was now sent = (now ≡ stage.Fetching was) × AllByRecursion (IsFor grammar (source_of segment)) sent
+HoldsOthers grammar _ was now sent = Unit {0}
 
 -- a node's turn leaves others alone. Where it serves before the turn, it serves after it
 abbrev pub Others : {S : Type 0} → Node → Input → (was now : Stage S) → List Wire → Type 0
 Others node input (stage.Serving was) (stage.Serving now) sent = LeavesOthers node input was now sent
 Others node input (stage.Serving was) _ sent = ⊥
-Others node input (stage.Fetching was) now sent = HoldsOthers input was now sent
+Others node input (stage.Fetching was) now sent = HoldsOthers (grammar_of node.profile) input was now sent
 Others node input _ _ sent = Unit {0}
 
 abbrev pub Alone : {S : Type 0} → Machine S → Node → Input → (was now : Stage S) → List Wire → Type 0

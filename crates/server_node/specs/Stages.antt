@@ -4,12 +4,13 @@ use Rattle.std.specs.Coded.{×_prop, Unit-prop, le_prop}
 use Rattle.std.proofs.Math.Nat.{ℕ_set}
 use Rattle.std.specs.List.{AllByRecursion, AllByRecursion-prop}
 use Rattle.server_trait.specs.Service.{Machine}
+use Rattle.tcp_rules.specs.Profile.{grammar_of}
 use Rattle.ft_model.specs.Network.{Packet}
 use Rattle.ft_model.specs.Restart.{Fetched}
 use Rattle.ft_model.specs.Node as law
 use Rattle.ft_model.specs.Node.{Stage as law_stage}
 use Rattle.ft_model.specs.Lawful.{LawfulTurn}
-use Rattle.ft_model.specs.Wire.{Wire, wire_of, HasWire}
+use Rattle.ft_model.specs.Wire.{Wire, wire_by, HasWireBy}
 use Rattle.node_serving.specs.declared.identity.Identity.{Identity}
 use Rattle.server_node.specs.declared.stage.Stage.{Stage}
 use Rattle.server_node.specs.declared.stage.Stage.TheVariants as stage
@@ -25,8 +26,10 @@ use Rattle.node_serving.specs.ServingStage.{ServingStands}
 
 abbrev pub StageStands : {S : Type 0} → Machine S → law.Node → Stage S → Type 0
 StageStands service node stage.Asking = node.stage ≡ law_stage.Asking
-StageStands service node (stage.Fetching f) = (count : ℕ) × (fetched : List Fetched) × (node.stage ≡ law_stage.Fetching count fetched) × FetchingStands service count fetched f
-StageStands service node (stage.Serving s) = (opened : ℕ) × (places : List law.Place) × (node.stage ≡ law_stage.Serving opened places) × ServingStands service node opened places s
+StageStands service node (stage.Fetching f) = (count : ℕ) × (fetched : List Fetched) × (node.stage ≡ law_stage.Fetching count fetched)
+    × FetchingStands service count fetched f
+StageStands service node (stage.Serving s) = (opened : ℕ) × (places : List law.Place) × (node.stage ≡ law_stage.Serving opened places)
+    × ServingStands service node opened places s
 StageStands service node (stage.Marked m) = ⊥
 StageStands service node stage.Lost = ⊥
 
@@ -46,7 +49,8 @@ pub IsSoundStage-prop : {S : Type 0} (who : Identity) (at : Stage S) → IsProp 
 IsSoundStage-prop who stage.Asking = Unit-prop
 IsSoundStage-prop who (stage.Fetching f) = IsOwn-prop who f
 IsSoundStage-prop who (stage.Serving s) =
-    ×_prop (AllByRecursion-prop (λ e. IsSoundSlot who e.0 e.1) (λ e. IsSoundSlot-prop who e.0 e.1) s.slots.entries) (×_prop (ℕ_set (s.next.0 % 65536) (who.isn % 65536)) le_prop)
+    ×_prop (AllByRecursion-prop (λ e. IsSoundSlot who e.0 e.1) (λ e. IsSoundSlot-prop who e.0 e.1) s.slots.entries)
+    (×_prop (ℕ_set (s.next.0 % 65536) (who.isn % 65536)) le_prop)
 IsSoundStage-prop who (stage.Marked m) = IsSoundMarked-prop who m
 IsSoundStage-prop who stage.Lost = Unit-prop
 
@@ -58,8 +62,8 @@ pub record NodeGoes {S : Type 0} (service : Machine S) (node : law.Node) (input 
   pub stands : StageStands service (node_of who after) now
   pub turn : LawfulTurn service node input packets (node_of who after)
   pub numbers : AllNumbered service node.isn (fetched_by node node.stage input) now
-  pub wires : sent ≡ map wire_of packets
-  pub spelled : AllByRecursion HasWire packets
+  pub wires : sent ≡ map (wire_by (grammar_of node.profile)) packets
+  pub spelled : AllByRecursion (HasWireBy (grammar_of node.profile)) packets
 
 -- a turn ended by a fence, and this holds of the larger boot number; or because memory ran out
 abbrev pub IsFence : TurnEnd → (ℕ → Type 0) → Type 0

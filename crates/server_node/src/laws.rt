@@ -24,8 +24,8 @@ use server_trait::Service;
 /// north wrapper's counts agree with it. Until the connection is over or reset, its TCP is neither CLOSED nor reset, and its SND.NXT and SND.UNA are the
 /// point's, each minus delta.
 pub fn lent_connections_tell_their_point<S: Service>()
-    ensures { (fresh : S) (server : Addr) (boot : ℕ) (p : Point) (c : ConnState S) → IsSound c → IsOursAt (machine fresh S.after) server boot c p
-        → TellsItsPoint (machine fresh S.after) p c }
+    ensures { (fresh : S) (server : Addr) (boot : ℕ) (p : Point) (c : ConnState S) → IsSound c → IsOursAt (machine fresh S.after S.greeting) server boot c p
+        → TellsItsPoint (machine fresh S.after S.greeting) p c }
 {}
 
 /// If a node corresponds to the model's, so does each key: its slot corresponds to its place there, or it has neither slot nor place.

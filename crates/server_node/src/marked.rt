@@ -5,16 +5,17 @@ ghost use Rattle.std.specs.Prelude.{◌≡◌, ◌≤◌, ◌∷◌, ℕ, [], fa
 ghost use Rattle.seq_arith.specs.PacketGrammar.{reading};
 ghost use Rattle.seq_arith.specs.MarkGrammar.{IsSpellable, reading as mark_reading};
 ghost use Rattle.segment_codec.specs.Value.{segment_of};
-ghost use Rattle.logger_wire.specs.Value.{message_of, IsSendable};
+ghost use Rattle.logger_wire.specs.Value.{message_of, IsSendableBy};
 ghost use Rattle.logger_wire.specs.MarkValue.{message_of as mark_message_of};
 ghost use Rattle.ft_model.specs.Node.Input.{Packet_comes, Message_comes, Tick_comes};
 ghost use Rattle.mark_laws.specs.MarkedNode.MarkedInput.{Plain_comes, Mark_comes};
-ghost use Rattle.reincarnate.specs.Marking.{any_of, IsAnySendable};
+ghost use Rattle.reincarnate.specs.Marking.{any_of, IsAnyRead, IsAnySendable};
 ghost use Rattle.server_trait.specs.Service.{machine};
 ghost use Rattle.mark_laws.specs.Restart.{FetchedSoFar, next_question};
 ghost use Rattle.reincarnate.specs.Refinement.{StandsSoFar};
 ghost use Rattle.reincarnate.specs.Questions.{asked, any_asked};
 ghost use Rattle.node_serving.specs.Conn.{IsSound};
+ghost use Rattle.node_serving.specs.Identity.{grammar_in};
 ghost use Rattle.node_serving.specs.declared.identity.Identity.{Identity as Incarnation};
 ghost use Rattle.server_node.specs.FetchStage.{IsOf};
 ghost use Rattle.node_serving.specs.Loan.{IsConnAt, place_in};
@@ -23,7 +24,8 @@ ghost use Rattle.mark_laws.specs.MarkedNode.{Marker, MarkedNode, outgoing};
 ghost use Rattle.node_serving.specs.Markers.{saving};
 ghost use Rattle.conn_marks.specs.MarkSends.{AreOut};
 ghost use Rattle.server_node.specs.MarkedApart.{MarkedTurnsApart};
-ghost use Rattle.server_node.specs.MarkedTurns.{heard_of, MarkedTurns, MarkedStands, BytesTurnMarked, FetchesOnMarked, Notes, SendsQuestion, IsPartBytes, input_of_any};
+ghost use Rattle.server_node.specs.MarkedTurns.{heard_of, MarkedTurns, MarkedStands, BytesTurnMarked, FetchesOnMarked, Notes, SendsQuestion};
+ghost use Rattle.server_node.specs.MarkedTurns.{IsPartBytes, input_of_any};
 ghost use Rattle.server_node.specs.StageTurns.{IsUnfenced};
 
 use crate::marked_reviving::restore_all_marked;
@@ -33,8 +35,8 @@ use conn_marks::Marks;
 use ft_io::{Key, NoMemory};
 use logger_wire::{Body, MarkBody, MarkMsg, Msg, read_mark};
 use node_serving::{
-    Identity, Serving, Turn, apart, ask_mark, conn_at, fit, serve_mark, serve_message_marked,
-    serve_packet_marked, serve_tick_marked, tell,
+    Identity, Serving, Turn, apart, ask_mark, conn_at, fit, send_message, serve_mark,
+    serve_message_marked, serve_packet_marked, serve_tick_marked,
 };
 use reincarnate::{AnyMsg, Asked, Fetching};
 use segment_codec::PacketRef;
@@ -70,7 +72,8 @@ pub(crate) fn tick<S: Saved>(
     requires boot { 1 ≤ who.boot }
     requires sound { IsSoundMarked who node }
     requires empty { turn.old.sent.items ≡ [] }
-    ensures turn { IfOk result (λ after. MarkedTurns S.Service (saving S.form S.state_of S.is_savable) who (Plain_comes Tick_comes) node after turn.new.sent.items) }
+    ensures turn { IfOk result (λ after. MarkedTurns S.Service (saving S.form S.state_of S.is_savable) who
+        (Plain_comes Tick_comes) node after turn.new.sent.items) }
     ensures apart { IfOk result (λ after. MarkedTurnsApart S.Service who (Plain_comes Tick_comes) node after turn.new.sent.items) }
     ensures sound { IfOk result (λ after. IsSoundMarked who after) }
 {
@@ -81,7 +84,7 @@ pub(crate) fn tick<S: Saved>(
             Ok(asking(marks))
         }
         MarkedStage::Fetching(fetching) => {
-            ask(&fetching, turn)?;
+            ask(who, &fetching, turn)?;
             Ok(fetching_on(fetching, marks))
         }
         MarkedStage::Serving(mut serving) => {
@@ -119,7 +122,7 @@ fn serving_on<S: Service>(serving: Serving<S>, marks: Marks) -> Marked<S>
 }
 
 /// Takes the turn on a segment; `packet` has its bytes. Until the logger has said how many entries it has, clients get no answer.
-pub(crate) fn give<S: Saved>(
+pub(crate) fn serve_segment<S: Saved>(
     who: Identity,
     node: Marked<S>,
     segment: &PacketRef<'_>,
@@ -130,7 +133,8 @@ pub(crate) fn give<S: Saved>(
     requires read { reading packet.now ≡ Ok (segment_of segment.now) }
     requires sound { IsSoundMarked who node }
     requires empty { turn.old.sent.items ≡ [] }
-    ensures turn { IfOk result (λ after. MarkedTurns S.Service (saving S.form S.state_of S.is_savable) who (Plain_comes (Packet_comes (segment_of segment.now))) node after turn.new.sent.items) }
+    ensures turn { IfOk result (λ after. MarkedTurns S.Service (saving S.form S.state_of S.is_savable) who
+        (Plain_comes (Packet_comes (segment_of segment.now))) node after turn.new.sent.items) }
     ensures apart { IfOk result (λ after. MarkedTurnsApart S.Service who (Plain_comes (Packet_comes (segment_of segment.now))) node after turn.new.sent.items) }
     ensures sound { IfOk result (λ after. IsSoundMarked who after) }
 {
@@ -149,14 +153,14 @@ pub(crate) fn give<S: Saved>(
 }
 
 /// Takes the turn on a message of this boot that isn't about marks and doesn't fence the node.
-pub(crate) fn hear<S: Saved>(
+pub(crate) fn receive<S: Saved>(
     who: Identity,
     node: Marked<S>,
     m: &Msg<'_>,
     turn: &mut Turn,
 ) -> Result<Marked<S>, NoMemory>
     requires boot { 1 ≤ who.boot }
-    requires sendable { IsSendable m.now }
+    requires sendable { IsSendableBy (grammar_in who) m.now }
     requires sound { IsSoundMarked who node }
     requires empty { turn.old.sent.items ≡ [] }
     ensures turn { IfOk result (λ after. m.now.boot ≡ who.boot → IsUnfenced who (Message_comes (message_of m.now))
@@ -179,7 +183,7 @@ pub(crate) fn hear<S: Saved>(
 }
 
 /// Takes the turn on bytes that may be a message about marks. A message of another boot changes nothing.
-pub(crate) fn hear_bytes<S: Saved>(
+pub(crate) fn receive_bytes<S: Saved>(
     who: Identity,
     node: Marked<S>,
     bytes: &[u8],
@@ -188,7 +192,8 @@ pub(crate) fn hear_bytes<S: Saved>(
     requires boot { 1 ≤ who.boot }
     requires sound { IsSoundMarked who node }
     requires empty { turn.old.sent.items ≡ [] }
-    ensures turn { IfOk result (λ after. BytesTurnMarked S.Service (saving S.form S.state_of S.is_savable) who (mark_reading bytes.now) node after turn.new.sent.items) }
+    ensures turn { IfOk result (λ after. BytesTurnMarked S.Service (saving S.form S.state_of S.is_savable) who
+        (mark_reading bytes.now) node after turn.new.sent.items) }
     ensures apart { IfOk result (λ after. MarkedTurnsApart S.Service who (heard_of (mark_reading bytes.now)) node after turn.new.sent.items) }
     ensures sound { IfOk result (λ after. IsSoundMarked who after) }
 {
@@ -199,7 +204,7 @@ pub(crate) fn hear_bytes<S: Saved>(
     if m.boot != who.boot {
         return Ok(node);
     }
-    hear_mark(who, node, &m, turn)
+    receive_mark(who, node, &m, turn)
 }
 
 /// A fact for proofs: no key has two slots.
@@ -213,7 +218,7 @@ pub(crate) fn apart_in<S: Saved>(stage: &MarkedStage<S>)
 }
 
 /// Takes the turn on a message of this boot about marks.
-fn hear_mark<S: Saved>(
+fn receive_mark<S: Saved>(
     who: Identity,
     node: Marked<S>,
     m: &MarkMsg<'_>,
@@ -262,7 +267,7 @@ fn begin<S: Saved>(
     turn: &mut Turn,
 ) -> Result<Marked<S>, NoMemory>
     requires boot { 1 ≤ who.boot }
-    requires sendable { IsSendable m.now }
+    requires sendable { IsSendableBy (grammar_in who) m.now }
     requires empty { turn.old.sent.items ≡ [] }
     ensures turn { IfOk result (λ after. m.now.boot ≡ who.boot → IsUnfenced who (Message_comes (message_of m.now))
         → MarkedTurns S.Service (saving S.form S.state_of S.is_savable) who (Plain_comes (Message_comes (message_of m.now)))
@@ -276,7 +281,7 @@ fn begin<S: Saved>(
     let Ok(fetching) = asked.on_summary(turn.alloc, who.kind, count, marks.are_made()) else {
         return Err(NoMemory);
     };
-    go_on(who, fetching, marks, turn)
+    proceed(who, fetching, marks, turn)
 }
 
 /// Handles a message that may be an answer. If it fits the question, takes it and asks for what is missing then.
@@ -288,7 +293,7 @@ fn take_answer<S: Saved>(
     turn: &mut Turn,
 ) -> Result<Marked<S>, NoMemory>
     requires boot { 1 ≤ who.boot }
-    requires sendable { IsAnySendable m.now }
+    requires sendable { IsAnyRead m.now }
     requires own { IsOf who fetching }
     requires empty { turn.old.sent.items ≡ [] }
     ensures turn { IfOk result (λ after. MarkedTurns S.Service (saving S.form S.state_of S.is_savable) who (input_of_any (any_of m.now))
@@ -300,7 +305,7 @@ fn take_answer<S: Saved>(
         return Ok(fetching_on(fetching, marks));
     }
     note_last(turn.alloc, m, &mut marks)?;
-    go_on(who, fetching, marks, turn)
+    proceed(who, fetching, marks, turn)
 }
 
 /// A fact for proofs: the bytes that a Part has fit their type.
@@ -334,7 +339,7 @@ fn note_last(alloc: Global, m: &AnyMsg<'_>, marks: &mut Marks) -> Result<(), NoM
 }
 
 /// Asks for what is missing. Once nothing is, restores the whole log.
-fn go_on<S: Saved>(
+fn proceed<S: Saved>(
     who: Identity,
     fetching: Fetching<S>,
     mut marks: Marks,
@@ -346,7 +351,7 @@ fn go_on<S: Saved>(
     ensures turn { IfOk result (λ after. FetchesOnMarked S.Service (saving S.form S.state_of S.is_savable) who fetching marks after turn.new.sent.items) }
     ensures sound { IfOk result (λ after. IsSoundMarked who after) }
 {
-    if ask(&fetching, turn)? {
+    if ask(who, &fetching, turn)? {
         return Ok(fetching_on(fetching, marks));
     }
     let serving = restore_all_marked(who, fetching.finish(), &mut marks, turn)?;
@@ -354,27 +359,27 @@ fn go_on<S: Saved>(
 }
 
 /// Asks for what is missing, and returns whether anything is.
-fn ask<S: Saved>(fetching: &Fetching<S>, turn: &mut Turn) -> Result<bool, NoMemory>
-    ensures sent { IfOk result (λ asks. SendsQuestion (any_asked fetching.now) asks turn.old.sent.items turn.new.sent.items) }
+fn ask<S: Saved>(who: Identity, fetching: &Fetching<S>, turn: &mut Turn) -> Result<bool, NoMemory>
+    ensures sent { IfOk result (λ asks. SendsQuestion (grammar_in who) (any_asked fetching.now) asks turn.old.sent.items turn.new.sent.items) }
     ensures missing { IfOk result (λ asks. asks ≡ false → asked fetching.now ≡ None) }
-    ensures law { (so_far : FetchedSoFar) → StandsSoFar (machine (S.started fetching.now.kind) S.after) so_far fetching.now
+    ensures law { (so_far : FetchedSoFar) → StandsSoFar (machine (S.started fetching.now.kind) S.after S.greeting) so_far fetching.now
         → any_asked fetching.now ≡ next_question fetching.now.boot fetching.now.count so_far }
 {
     let Some(question) = fetching.question() else {
         return Ok(false);
     };
-    send_question(&question, turn)?;
+    send_question(who, &question, turn)?;
     Ok(true)
 }
 
 /// Sends the logger a question of either kind.
-fn send_question(question: &AnyMsg<'_>, turn: &mut Turn) -> Result<(), NoMemory>
+fn send_question(who: Identity, question: &AnyMsg<'_>, turn: &mut Turn) -> Result<(), NoMemory>
     requires sendable { IsAnySendable question.now }
     requires bare { IsBareQuestion (any_of question.now) }
-    ensures { OnOk result (AreOut (outgoing (any_of question.now) ∷ []) turn.old.sent.items turn.new.sent.items) }
+    ensures { OnOk result (AreOut (grammar_in who) (outgoing (any_of question.now) ∷ []) turn.old.sent.items turn.new.sent.items) }
 {
     match question {
-        AnyMsg::Log(m) => tell(m, turn),
+        AnyMsg::Log(m) => send_message(who, m, turn),
         AnyMsg::Mark(m) => ask_mark(m, turn),
     }
 }

@@ -25,7 +25,8 @@ pub(crate) fn restore_all_marked<S: Saved>(
     turn: &mut Turn,
 ) -> Result<Serving<S>, NoMemory>
     requires { 1 ≤ who.boot }
-    ensures turn { IfOk result (λ serving. LogRevivesMarked S.Service (saving S.form S.state_of S.is_savable) who entries serving marks.old marks.new turn.old turn.new) }
+    ensures turn { IfOk result (λ serving. LogRevivesMarked S.Service
+        (saving S.form S.state_of S.is_savable) who entries serving marks.old marks.new turn.old turn.new) }
     ensures sound { IfOk result (λ serving. AllSound who serving.slots.entries) }
     ensures counted { IfOk result (λ serving. IsCounted who.isn serving.next.0) }
 {
@@ -49,7 +50,8 @@ pub(crate) fn restore_marked<S: Saved>(
 ) -> Result<(), NoMemory>
     requires boot { 1 ≤ who.boot }
     requires sound { AllSound who serving.old.slots.entries }
-    ensures turn { OnOk result (EntryRevivesMarked S.Service (saving S.form S.state_of S.is_savable) who entry serving.old serving.new marks.old marks.new turn.old turn.new) }
+    ensures turn { OnOk result (EntryRevivesMarked S.Service
+        (saving S.form S.state_of S.is_savable) who entry serving.old serving.new marks.old marks.new turn.old turn.new) }
     ensures sound { OnOk result (AllSound who serving.new.slots.entries) }
     ensures counted { OnOk result (IsCounted who.isn serving.old.next.0 → IsCounted who.isn serving.new.next.0) }
 {
@@ -73,7 +75,8 @@ fn revive_marked<S: Saved>(
     turn: &mut Turn,
 ) -> Result<Slot<S>, NoMemory>
     requires { 1 ≤ who.boot }
-    ensures turn { IfOk result (λ slot. SlotRevivesMarked S.Service (saving S.form S.state_of S.is_savable) who replayed slot marks.old marks.new turn.old turn.new) }
+    ensures turn { IfOk result (λ slot. SlotRevivesMarked S.Service
+        (saving S.form S.state_of S.is_savable) who replayed slot marks.old marks.new turn.old turn.new) }
     ensures number { IfOk result (λ slot. IsNumberedFrom S.Service who replayed isn.0 slot) }
     ensures sound { IfOk result (λ slot. IsSoundSlot who replayed.head.key slot) }
 {

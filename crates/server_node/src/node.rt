@@ -26,13 +26,13 @@ pub struct Node<S: Service> {
 impl<S: Saved> Node<S> {
     ghost use Rattle.std.specs.Prelude.{◌≡◌, ◌≤◌, ℕ, map, IfOk, IfErr, IsErrOf, IfSome, OnOk, option_copied};
     ghost use Rattle.std.specs.Borrow.{sem};
-    ghost use Rattle.tcp_rules.specs.Profile.{plain};
+    ghost use Rattle.tcp_rules.specs.Profile.{grammar_of, plain};
     ghost use Rattle.tcp_rules.specs.Profiles.{profile_of};
     ghost use Rattle.ft_model.specs.Node.{Stage as Standing, booted};
     ghost use Rattle.ft_model.specs.Lawful.{hello};
-    ghost use Rattle.ft_model.specs.Wire.{wire_of};
+    ghost use Rattle.ft_model.specs.Wire.{wire_by, wire_of};
     ghost use Rattle.wrapped_conn.specs.Sound.{IsSound};
-    ghost use Rattle.node_serving.specs.Identity.{node_of, service_of};
+    ghost use Rattle.node_serving.specs.Identity.{node_of, service_of, grammar_in};
     ghost use Rattle.server_node.specs.Inputs.{input_of};
     ghost use Rattle.node_serving.specs.Loan.{IsConnAt, place_in};
     ghost use Rattle.server_node.specs.NodeTurns.{NodeTurns, Leaves};
@@ -53,7 +53,7 @@ impl<S: Saved> Node<S> {
         local: Addr,
     ) -> Result<Node<S>, NoMemory>
         requires { 1 ≤ boot }
-        ensures stands { IfOk result (λ n. StageStands (machine (S.started kind) S.after) (booted local plain boot isn) n.stage) }
+        ensures stands { IfOk result (λ n. StageStands (machine (S.started kind) S.after S.greeting) (booted local plain boot isn) n.stage) }
         ensures hello { IfOk result (λ n. n.turn.sent.items ≡ map wire_of (hello (booted local plain boot isn))) }
         ensures same { IfOk result (λ n. n.who ≡ record { boot = boot; isn = isn; kind = kind; local = local; profile = Profile.Plain }) }
     {
@@ -72,8 +72,9 @@ impl<S: Saved> Node<S> {
         every: u32,
     ) -> Result<Node<S>, NoMemory>
         requires { 1 ≤ boot }
-        ensures plain { IfOk result (λ n. every ≡ 0 → StageStands (machine (S.started kind) S.after) (booted local plain boot isn) n.stage) }
-        ensures marked { IfOk result (λ n. 1 ≤ every → MarkedNodeStands (marker_of S.Service (saving S.form S.state_of S.is_savable) n.who every) (booted_to_mark local plain boot isn) n) }
+        ensures plain { IfOk result (λ n. every ≡ 0 → StageStands (machine (S.started kind) S.after S.greeting) (booted local plain boot isn) n.stage) }
+        ensures marked { IfOk result (λ n. 1 ≤ every
+            → MarkedNodeStands (marker_of S.Service (saving S.form S.state_of S.is_savable) n.who every) (booted_to_mark local plain boot isn) n) }
         ensures hello { IfOk result (λ n. n.turn.sent.items ≡ map wire_of (hello (booted local plain boot isn))) }
         ensures same { IfOk result (λ n. n.who ≡ record { boot = boot; isn = isn; kind = kind; local = local; profile = Profile.Plain }) }
     {
@@ -92,10 +93,12 @@ impl<S: Saved> Node<S> {
         every: u32,
     ) -> Result<Node<S>, NoMemory>
         requires { 1 ≤ boot }
-        ensures plain { IfOk result (λ n. every ≡ 0 → StageStands (machine (S.started kind) S.after) (booted local (profile_of profile) boot isn) n.stage) }
+        ensures plain { IfOk result (λ n. every ≡ 0
+            → StageStands (machine (S.started kind) S.after S.greeting) (booted local (profile_of profile) boot isn) n.stage) }
         ensures marked { IfOk result (λ n. 1 ≤ every
-            → MarkedNodeStands (marker_of S.Service (saving S.form S.state_of S.is_savable) n.who every) (booted_to_mark local (profile_of profile) boot isn) n) }
-        ensures hello { IfOk result (λ n. n.turn.sent.items ≡ map wire_of (hello (booted local (profile_of profile) boot isn))) }
+            → MarkedNodeStands (marker_of S.Service (saving S.form S.state_of S.is_savable) n.who every)
+            (booted_to_mark local (profile_of profile) boot isn) n) }
+        ensures hello { IfOk result (λ n. n.turn.sent.items ≡ map (wire_by (grammar_of (profile_of profile))) (hello (booted local (profile_of profile) boot isn))) }
         ensures same { IfOk result (λ n. n.who ≡ record { boot = boot; isn = isn; kind = kind; local = local; profile = profile }) }
     {
         let who = Identity {
@@ -116,11 +119,19 @@ impl<S: Saved> Node<S> {
     pub fn conn(&self, key: Key) -> Option<&Conn<S>>
         ensures stands { (standing : Standing) → StageStands (service_of S.Service self.now.who) (node_of self.now.who standing) self.now.stage
             → IsConnAt (service_of S.Service self.now.who) (node_of self.now.who standing) (option_copied result) (place_in key standing) }
-        ensures marked { (every : ℕ) (node : MarkedNode) → MarkedNodeStands (marker_of S.Service (saving S.form S.state_of S.is_savable) self.now.who every) node self.now
+        ensures marked { (every : ℕ) (node : MarkedNode)
+            → MarkedNodeStands (marker_of S.Service (saving S.form S.state_of S.is_savable) self.now.who every) node self.now
             → IsConnAt (service_of S.Service self.now.who) node.plain (option_copied result) (place_in key node.plain.stage) }
         ensures sound { IfSome result (λ c. IsSound c.now) }
     {
         conn_in(&self.stage, key)
+    }
+
+    /// What never changes in this incarnation.
+    pub fn who(&self) -> Identity
+        ensures { result ≡ self.now.who }
+    {
+        self.who
     }
 
     /// What the boot or the last turn sent.
@@ -132,13 +143,14 @@ impl<S: Saved> Node<S> {
 
     /// Takes one turn. It is lawful if a packet to a live connection is near and a fetched entry is sound. With marks, `IsFairTo` has a further premise,
     /// about a fetched mark.
-    fn advance(&mut self, alloc: Global, input: Input<'_>) -> Result<(), TurnEnd>
-        ensures turn { OnOk result (NodeTurns (input_of input.entry) self.old self.new self.new.turn.sent.items) }
-        ensures marked { OnOk result (MarkedNodeTurns (saving S.form S.state_of S.is_savable) (marked_input_of input.entry) self.old self.new self.new.turn.sent.items) }
-        ensures beside { OnOk result (MarkedNodeApart (marked_input_of input.entry) self.old self.new self.new.turn.sent.items) }
-        ensures unfenced { OnOk result (IsUnfenced self.old.who (input_of input.entry)) }
-        ensures fenced { IfErr result (IsFenceOf self.old.who (input_of input.entry)) }
-        ensures memory { IsErrOf result TurnEnd.NoMemory → IsUnfenced self.old.who (input_of input.entry) }
+    pub fn advance(&mut self, alloc: Global, input: Input<'_>) -> Result<(), TurnEnd>
+        ensures turn { OnOk result (NodeTurns (input_of (grammar_in self.old.who) input.entry) self.old self.new self.new.turn.sent.items) }
+        ensures marked { OnOk result (MarkedNodeTurns (saving S.form S.state_of S.is_savable)
+            (marked_input_of (grammar_in self.old.who) input.entry) self.old self.new self.new.turn.sent.items) }
+        ensures beside { OnOk result (MarkedNodeApart (marked_input_of (grammar_in self.old.who) input.entry) self.old self.new self.new.turn.sent.items) }
+        ensures unfenced { OnOk result (IsUnfenced self.old.who (input_of (grammar_in self.old.who) input.entry)) }
+        ensures fenced { IfErr result (IsFenceOf self.old.who (input_of (grammar_in self.old.who) input.entry)) }
+        ensures memory { IsErrOf result TurnEnd.NoMemory → IsUnfenced self.old.who (input_of (grammar_in self.old.who) input.entry) }
         ensures same { self.new.who ≡ self.old.who }
     {
         self.turn.alloc = alloc;
@@ -155,12 +167,12 @@ impl<S: Saved> Node<S> {
     /// dropped. A Stale of the node's boot that names a larger boot number ends it by `Fenced`, even if no memory is left, and nothing else ends it so.
     pub fn turn(&mut self, alloc: Global, input: Input<'_>) -> Result<&[OutPacket], TurnEnd>
         ensures* after { sem 𝓛 (Leaves S.row S.Service self.entry
-            (λ node. IfOk result (λ sent. NodeTurns (input_of input.entry) self.old node sent.now
-            × MarkedNodeTurns (saving S.form S.state_of S.is_savable) (marked_input_of input.entry) self.old node sent.now
-            × MarkedNodeApart (marked_input_of input.entry) self.old node sent.now))) }
-        ensures unfenced { OnOk result (IsUnfenced self.old.who (input_of input.entry)) }
-        ensures fenced { IfErr result (IsFenceOf self.old.who (input_of input.entry)) }
-        ensures memory { IsErrOf result TurnEnd.NoMemory → IsUnfenced self.old.who (input_of input.entry) }
+            (λ node. IfOk result (λ sent. NodeTurns (input_of (grammar_in self.old.who) input.entry) self.old node sent.now
+            × MarkedNodeTurns (saving S.form S.state_of S.is_savable) (marked_input_of (grammar_in self.old.who) input.entry) self.old node sent.now
+            × MarkedNodeApart (marked_input_of (grammar_in self.old.who) input.entry) self.old node sent.now))) }
+        ensures unfenced { OnOk result (IsUnfenced self.old.who (input_of (grammar_in self.old.who) input.entry)) }
+        ensures fenced { IfErr result (IsFenceOf self.old.who (input_of (grammar_in self.old.who) input.entry)) }
+        ensures memory { IsErrOf result TurnEnd.NoMemory → IsUnfenced self.old.who (input_of (grammar_in self.old.who) input.entry) }
     {
         self.advance(alloc, input)?;
         Ok(self.turn.sent.as_slice())

@@ -2,20 +2,22 @@
 
 ghost use Rattle.std.specs.Prelude.{◌≡◌, ◌≤◌, ◌&&◌, not, ℕ, List, [], is_some, option_map, MatchOption, Some, true, false, IfOk, IfSome, OnOk};
 ghost use Rattle.server_trait.specs.Service.{machine};
+ghost use Rattle.seq_arith.specs.declared.kinds.Grammar.{Grammar};
 ghost use Rattle.seq_arith.specs.Packet.{has_rst};
 ghost use Rattle.seq_arith.specs.Value.{said};
 ghost use Rattle.segment_codec.specs.Value.{segment_of};
-ghost use Rattle.logger_wire.specs.Value.{message_of, IsSendable};
+ghost use Rattle.logger_wire.specs.Value.{message_of, IsSendableBy};
 ghost use Rattle.logger_wire.specs.Records.{head_said};
 ghost use Rattle.reincarnate.specs.Questions.{asked as asked_of, after_answer};
-ghost use Rattle.reincarnate.specs.Marking.{any_of, IsAnySendable};
+ghost use Rattle.reincarnate.specs.Marking.{any_of, IsAnySendable, IsRead};
 ghost use Rattle.reincarnate.specs.Refinement.{StandsFetching, AnswerLeads, fetched_then};
 ghost use Rattle.ft_model.specs.Restart.{Fetched, wanted, question, live_entry, holding_segment};
 ghost use Rattle.ft_model.specs.Network.{source_of};
 ghost use Rattle.ft_model.specs.Node.{is_for};
-ghost use Rattle.node_serving.specs.Identity.{service_of};
+ghost use Rattle.node_serving.specs.Identity.{service_of, grammar_in};
 ghost use Rattle.server_node.specs.FetchStage.{FetchingStands, IsOwn, UsesNone, of_log};
-ghost use Rattle.server_node.specs.RestartTurns.{FetchingBegins, FetchingBeginsAlone, FetchingTurns, FetchingTurnsAlone, AnswerTurns, AnswerTurnsAlone, SendsWanted, SendsHeld};
+ghost use Rattle.server_node.specs.RestartTurns.{FetchingBegins, FetchingBeginsAlone, FetchingTurns, FetchingTurnsAlone, AnswerTurns};
+ghost use Rattle.server_node.specs.RestartTurns.{AnswerTurnsAlone, SendsWanted, SendsHeld};
 ghost use Rattle.server_node.specs.Stages.{IsSoundStage};
 ghost use Rattle.node_serving.specs.Turns.{SendsFor};
 
@@ -23,7 +25,7 @@ use crate::reviving::restore_all;
 use crate::stage::Stage;
 use ft_io::{Key, NoMemory};
 use logger_wire::{EntryHead, Msg};
-use node_serving::{Identity, Turn, send_bare, tell};
+use node_serving::{Identity, Turn, send_bare, send_message};
 use reincarnate::{AnyMsg, Asked, Fetching};
 use segment_codec::{Head, PacketRef};
 use seq_arith::{ACK, RST, Seq, has};
@@ -45,7 +47,7 @@ pub(crate) fn begin_fetching<S: Saved>(
     let Ok(fetching) = Asked::new(who.boot).on_summary(turn.alloc, who.kind, count, false) else {
         return Err(NoMemory);
     };
-    go_on(who, fetching, turn)
+    proceed(who, fetching, turn)
 }
 
 /// Handles a message that may be an answer. If it fits the question, takes it and asks for what is missing then.
@@ -56,30 +58,30 @@ pub(crate) fn take_answer<S: Saved>(
     turn: &mut Turn,
 ) -> Result<Stage<S>, NoMemory>
     requires boot { 1 ≤ who.boot }
-    requires sendable { IsSendable m.now }
+    requires sendable { IsSendableBy (grammar_in who) m.now }
     requires own { IsOwn who fetching }
     ensures turn { IfOk result (λ after. AnswerTurns S.Service who (message_of m.now) fetching after turn.old turn.new) }
     ensures alone { IfOk result (λ after. AnswerTurnsAlone S.Service who (message_of m.now) fetching after turn.old turn.new) }
     ensures sound { IfOk result (λ after. IsSoundStage who after) }
 {
-    if !hear_answer(turn.alloc, &mut fetching, m)? {
+    if !receive_answer(turn.alloc, &mut fetching, m)? {
         return Ok(Stage::Fetching(fetching));
     }
-    go_on(who, fetching, turn)
+    proceed(who, fetching, turn)
 }
 
 /// Takes a message in a restart without marks, and returns whether it answers the question. A message that doesn't changes nothing.
-fn hear_answer<S: Saved>(
+fn receive_answer<S: Saved>(
     alloc: Global,
     fetching: &mut Fetching<S>,
     m: &Msg<'_>,
 ) -> Result<bool, NoMemory>
-    requires sendable { IsSendable m.now }
+    requires sendable { IsRead m.now }
     requires unmarked { UsesNone fetching.old.marks }
-    ensures value { IfOk result (λ fits. MatchOption (after_answer S.started S.after (message_of m.now) fetching.old)
+    ensures value { IfOk result (λ fits. MatchOption (after_answer S.started S.after S.greeting (message_of m.now) fetching.old)
         ((fits ≡ false) × (fetching.new ≡ fetching.old)) (λ s. (fits ≡ true) × (fetching.new ≡ s))) }
-    ensures law { IfOk result (λ fits. (fetched : List Fetched) → StandsFetching (machine (S.started fetching.old.kind) S.after) fetched fetching.old
-        → AnswerLeads (machine (S.started fetching.old.kind) S.after)
+    ensures law { IfOk result (λ fits. (fetched : List Fetched) → StandsFetching (machine (S.started fetching.old.kind) S.after S.greeting) fetched fetching.old
+        → AnswerLeads (machine (S.started fetching.old.kind) S.after S.greeting)
         (fetched_then fetching.old.boot fetching.old.count (message_of m.now) fetched) fits fetching.old fetching.new) }
 {
     fetching.on_answer(alloc, &AnyMsg::Log(*m))
@@ -89,10 +91,10 @@ fn hear_answer<S: Saved>(
 fn question_of<S: Service>(fetching: &Fetching<S>) -> Option<Msg<'_>>
     requires { UsesNone fetching.now.marks }
     ensures value { option_map message_of result ≡ option_map (λ body. record { boot = fetching.now.boot; body = body }) (asked_of fetching.now) }
-    ensures law { (fetched : List Fetched) → StandsFetching (machine (S.started fetching.now.kind) S.after) fetched fetching.now
+    ensures law { (fetched : List Fetched) → StandsFetching (machine (S.started fetching.now.kind) S.after S.greeting) fetched fetching.now
         → option_map message_of result
         ≡ option_map (λ body. record { boot = fetching.now.boot; body = body }) (option_map question (wanted fetching.now.count fetched)) }
-    ensures sendable { IfSome result (λ m. IsSendable m) }
+    ensures sendable { IfSome result (λ m. (grammar : Grammar) → IsSendableBy grammar m) }
 {
     match fetching.question() {
         Some(question) => log_message(question),
@@ -103,7 +105,7 @@ fn question_of<S: Service>(fetching: &Fetching<S>) -> Option<Msg<'_>>
 /// The message, if it isn't about marks.
 fn log_message(m: AnyMsg<'_>) -> Option<Msg<'_>>
     ensures value { option_map message_of result ≡ of_log (Some (any_of m.entry)) }
-    ensures sendable { IsAnySendable m.entry → IfSome result (λ m. IsSendable m) }
+    ensures sendable { IsAnySendable m.entry → IfSome result (λ m. (grammar : Grammar) → IsSendableBy grammar m) }
 {
     match m {
         AnyMsg::Log(m) => Some(m),
@@ -112,7 +114,7 @@ fn log_message(m: AnyMsg<'_>) -> Option<Msg<'_>>
 }
 
 /// Asks for what is missing. Once nothing is, restores the whole log.
-fn go_on<S: Service>(
+fn proceed<S: Service>(
     who: Identity,
     fetching: Fetching<S>,
     turn: &mut Turn,
@@ -146,7 +148,7 @@ pub(crate) fn ask<S: Service>(
     let Some(question) = question_of(fetching) else {
         return Ok(false);
     };
-    tell(&question, turn)?;
+    send_message(who, &question, turn)?;
     Ok(true)
 }
 
@@ -178,7 +180,7 @@ fn may_be_held(who: Identity, segment: &PacketRef<'_>) -> bool
 
 /// The head of a key's entry, unless its connection has ended.
 fn live_head<S: Service>(fetching: &Fetching<S>, key: Key) -> Option<EntryHead>
-    ensures law { (count : ℕ) (fetched : List Fetched) → FetchingStands (machine (S.started fetching.now.kind) S.after) count fetched fetching.now
+    ensures law { (count : ℕ) (fetched : List Fetched) → FetchingStands (machine (S.started fetching.now.kind) S.after S.greeting) count fetched fetching.now
         → option_map head_said result ≡ option_map (λ f. f.head) (live_entry key fetched) }
     ensures keyed { IfSome result (λ entry. entry.key ≡ key) }
 {
@@ -200,7 +202,7 @@ pub(crate) fn hold<S: Service>(
 ) -> Result<(), NoMemory>
     requires { fetching.now.kind ≡ who.kind }
     ensures held { OnOk result (SendsHeld S.Service who (segment_of segment.now) fetching.now turn.old turn.new) }
-    ensures alone { OnOk result (SendsFor (source_of (segment_of segment.now)) turn.old turn.new) }
+    ensures alone { OnOk result (SendsFor who (source_of (segment_of segment.now)) turn.old turn.new) }
     ensures silent { OnOk result (is_for who.local (segment_of segment.now) ≡ false → turn.new.sent.items ≡ turn.old.sent.items) }
 {
     if !may_be_held(who, segment) {

@@ -72,7 +72,7 @@ pub(crate) fn revive<S: Service>(
     requires boot { 1 ≤ who.boot }
     ensures turn { IfOk result (λ slot. SlotRevivesFrom S.Service who replayed slot turn.old turn.new) }
     ensures number { IfOk result (λ slot. IsNumberedFrom S.Service who replayed isn.0 slot) }
-    ensures alone { OnOk result (SendsFor replayed.head.key turn.old turn.new) }
+    ensures alone { OnOk result (SendsFor who replayed.head.key turn.old turn.new) }
     ensures known { IfOk result (λ slot. known_as slot ≡ Is_connected) }
     ensures sound { IfOk result (λ slot. IsSoundSlot who replayed.head.key slot) }
 {

@@ -3,9 +3,10 @@
 ghost use Rattle.std.specs.Prelude.{◌≡◌, ◌≤◌, ◌∷◌, [], Ok, None, Some, IfSome, OnOk, IfOk, IfErr, IsErrOf, option_copied, false};
 ghost use Rattle.seq_arith.specs.PacketGrammar.{reading};
 ghost use Rattle.seq_arith.specs.Message.Body.{HelloMsg};
+ghost use Rattle.seq_arith.specs.MessageGrammar.{reading_by};
 ghost use Rattle.segment_codec.specs.Value.{segment_of};
 ghost use Rattle.server_trait.specs.Service.{Machine};
-ghost use Rattle.logger_wire.specs.Value.{body_of, message_of, IsSendable};
+ghost use Rattle.logger_wire.specs.Value.{body_of, message_of, seen, IsSendableBy};
 ghost use Rattle.ft_model.specs.Connection.{told_by};
 ghost use Rattle.ft_model.specs.Node.{Node, Stage as Standing};
 ghost use Rattle.ft_model.specs.Node.Input.{Packet_comes, Message_comes, Tick_comes};
@@ -13,7 +14,7 @@ ghost use Rattle.ft_model.specs.Lawful.{fence, newer_than, summary_count};
 ghost use Rattle.server_node.specs.Apart.{TurnsApart};
 ghost use Rattle.node_serving.specs.Conn.{IsSound};
 ghost use Rattle.node_serving.specs.declared.identity.Identity.{Identity as Incarnation};
-ghost use Rattle.node_serving.specs.Identity.{node_of, service_of};
+ghost use Rattle.node_serving.specs.Identity.{node_of, service_of, grammar_in};
 ghost use Rattle.server_node.specs.Inputs.{input_of};
 ghost use Rattle.node_serving.specs.Loan.{IsConnAt, place_in};
 ghost use Rattle.server_node.specs.Stages.{StageStands, IsSoundStage, IsFence, is_marked};
@@ -32,9 +33,9 @@ use crate::marked::{self, Marked, MarkedStage, apart_in};
 use crate::restarting::{ask, begin_fetching, hold, take_answer};
 use conn_marks::Marks;
 use ft_io::{Key, NoMemory};
-use logger_wire::{Body, Msg, read_msg};
+use logger_wire::{BadMsg, Body, Msg, read_msg_by};
 use node_serving::{
-    Identity, Serving, Turn, conn_at, serve_bytes, serve_message, serve_tick, tell,
+    Identity, Serving, Turn, conn_at, send_message, serve_bytes, serve_message, serve_tick,
 };
 use reincarnate::Fetching;
 use segment_codec::{PacketRef, read_packet};
@@ -60,7 +61,10 @@ impl<S: Saved> Stage<S> {
     /// The stage at the boot. The node marks after every `every` reads, and makes no marks if that is 0.
     pub(crate) fn begun(alloc: Global, every: u32) -> Stage<S>
         ensures plain { every ≡ 0 → result ≡ Stage.Asking }
-        ensures marked { 1 ≤ every → result ≡ Stage.Marked (record { stage = MarkedStage.Asking; marks = record { every = every_for S.is_savable every; of = [] } }) }
+        ensures marked { 1 ≤ every → result ≡ Stage.Marked (record {
+          stage = MarkedStage.Asking;
+          marks = record { every = every_for S.is_savable every; of = [] };
+        }) }
         ensures sound { (who : Incarnation) → IsSoundStage who result }
     {
         if every == 0 {
@@ -76,13 +80,13 @@ impl<S: Saved> Stage<S> {
 /// Asks the logger how many entries it has.
 pub(crate) fn send_hello(who: Identity, turn: &mut Turn) -> Result<(), NoMemory>
     requires { 1 ≤ who.boot }
-    ensures { OnOk result (Sends (told_by who.boot HelloMsg ∷ []) turn.old turn.new) }
+    ensures { OnOk result (Sends (grammar_in who) (told_by who.boot HelloMsg ∷ []) turn.old turn.new) }
 {
     let message = Msg {
         boot: who.boot,
         body: Body::Hello,
     };
-    tell(&message, turn)
+    send_message(who, &message, turn)
 }
 
 fn on_tick<S: Saved>(who: Identity, stage: Stage<S>, turn: &mut Turn) -> Result<Stage<S>, NoMemory>
@@ -91,7 +95,8 @@ fn on_tick<S: Saved>(who: Identity, stage: Stage<S>, turn: &mut Turn) -> Result<
     requires empty { turn.old.sent.items ≡ [] }
     ensures turn { IfOk result (λ after. StageTurns S.Service who Tick_comes stage after turn.new.sent.items) }
     ensures apart { IfOk result (λ after. TurnsApart (service_of S.Service who) who Tick_comes stage after turn.new.sent.items) }
-    ensures marked { IfOk result (λ after. IsTurnMarked S.Service (saving S.form S.state_of S.is_savable) who (Plain_comes Tick_comes) stage after turn.new.sent.items) }
+    ensures marked { IfOk result (λ after. IsTurnMarked S.Service (saving S.form S.state_of S.is_savable) who
+        (Plain_comes Tick_comes) stage after turn.new.sent.items) }
     ensures sound { IfOk result (λ after. IsSoundStage who after) }
 {
     match stage {
@@ -120,7 +125,7 @@ fn on_message<S: Saved>(
     turn: &mut Turn,
 ) -> Result<Stage<S>, NoMemory>
     requires boot { 1 ≤ who.boot }
-    requires sendable { IsSendable m.now }
+    requires sendable { IsSendableBy (grammar_in who) m.now }
     requires sound { IsSoundStage who stage }
     requires empty { turn.old.sent.items ≡ [] }
     ensures turn { IfOk result (λ after. m.now.boot ≡ who.boot → IsUnfenced who (Message_comes (message_of m.now))
@@ -138,7 +143,7 @@ fn on_message<S: Saved>(
             serve_message(who, m, &mut serving, turn)?;
             Ok(Stage::Serving(serving))
         }
-        Stage::Marked(node) => Ok(Stage::Marked(marked::hear(who, node, m, turn)?)),
+        Stage::Marked(node) => Ok(Stage::Marked(marked::receive(who, node, m, turn)?)),
         Stage::Lost => Err(NoMemory),
     }
 }
@@ -156,7 +161,7 @@ pub(crate) fn count_in(body: &Body<'_>) -> Option<u16>
 /// Handles a message of this boot that doesn't fence the node, while the logger is asked how many entries it has.
 fn on_summary<S: Saved>(who: Identity, m: &Msg<'_>, turn: &mut Turn) -> Result<Stage<S>, NoMemory>
     requires boot { 1 ≤ who.boot }
-    requires sendable { IsSendable m.now }
+    requires sendable { IsSendableBy (grammar_in who) m.now }
     requires empty { turn.old.sent.items ≡ [] }
     ensures turn { IfOk result (λ after. m.now.boot ≡ who.boot → IsUnfenced who (Message_comes (message_of m.now))
         → StageTurns S.Service who (Message_comes (message_of m.now)) Stage.Asking after turn.new.sent.items) }
@@ -190,19 +195,20 @@ fn newer_in(who: Identity, m: &Msg<'_>) -> Option<u64>
 }
 
 /// Handles a message that the codec has read. A Stale of this boot that names a larger boot number ends the node.
-pub(crate) fn hear<S: Saved>(
+pub(crate) fn receive<S: Saved>(
     who: Identity,
     stage: Stage<S>,
     m: &Msg<'_>,
     turn: &mut Turn,
 ) -> Result<Stage<S>, TurnEnd>
     requires boot { 1 ≤ who.boot }
-    requires sendable { IsSendable m.now }
+    requires sendable { IsSendableBy (grammar_in who) m.now }
     requires sound { IsSoundStage who stage }
     requires empty { turn.old.sent.items ≡ [] }
     ensures turn { IfOk result (λ after. StageTurns S.Service who (Message_comes (message_of m.now)) stage after turn.new.sent.items) }
     ensures apart { IfOk result (λ after. TurnsApart (service_of S.Service who) who (Message_comes (message_of m.now)) stage after turn.new.sent.items) }
-    ensures marked { IfOk result (λ after. IsTurnMarked S.Service (saving S.form S.state_of S.is_savable) who (Plain_comes (Message_comes (message_of m.now))) stage after turn.new.sent.items) }
+    ensures marked { IfOk result (λ after. IsTurnMarked S.Service (saving S.form S.state_of S.is_savable) who
+        (Plain_comes (Message_comes (message_of m.now))) stage after turn.new.sent.items) }
     ensures unfenced { IfOk result (λ after. IsUnfenced who (Message_comes (message_of m.now))) }
     ensures fenced { IfErr result (IsFenceOf who (Message_comes (message_of m.now))) }
     ensures memory { IsErrOf result TurnEnd.NoMemory → IsUnfenced who (Message_comes (message_of m.now)) }
@@ -229,7 +235,7 @@ fn fit_slots<S: Saved>(stage: &Stage<S>)
 }
 
 /// Handles bytes that may be a message about marks. Only a node that marks reads them.
-fn hear_of_mark<S: Saved>(
+fn receive_about_mark<S: Saved>(
     who: Identity,
     stage: Stage<S>,
     bytes: &[u8],
@@ -239,11 +245,12 @@ fn hear_of_mark<S: Saved>(
     requires sound { IsSoundStage who stage }
     requires empty { turn.old.sent.items ≡ [] }
     ensures plain { IfOk result (λ after. is_marked stage ≡ false → (after ≡ stage) × (turn.new.sent.items ≡ turn.old.sent.items)) }
-    ensures marked { IfOk result (λ after. IsTurnMarked S.Service (saving S.form S.state_of S.is_savable) who (heard_of (mark_reading bytes.now)) stage after turn.new.sent.items) }
+    ensures marked { IfOk result (λ after. IsTurnMarked S.Service (saving S.form S.state_of S.is_savable) who
+        (heard_of (mark_reading bytes.now)) stage after turn.new.sent.items) }
     ensures sound { IfOk result (λ after. IsSoundStage who after) }
 {
     match stage {
-        Stage::Marked(node) => Ok(Stage::Marked(marked::hear_bytes(who, node, bytes, turn)?)),
+        Stage::Marked(node) => Ok(Stage::Marked(marked::receive_bytes(who, node, bytes, turn)?)),
         stage => Ok(stage),
     }
 }
@@ -262,7 +269,8 @@ pub(crate) fn on_packet<S: Saved>(
     requires empty { turn.old.sent.items ≡ [] }
     ensures turn { IfOk result (λ after. StageTurns S.Service who (Packet_comes (segment_of segment.now)) stage after turn.new.sent.items) }
     ensures apart { IfOk result (λ after. TurnsApart (service_of S.Service who) who (Packet_comes (segment_of segment.now)) stage after turn.new.sent.items) }
-    ensures marked { IfOk result (λ after. IsTurnMarked S.Service (saving S.form S.state_of S.is_savable) who (Plain_comes (Packet_comes (segment_of segment.now))) stage after turn.new.sent.items) }
+    ensures marked { IfOk result (λ after. IsTurnMarked S.Service (saving S.form S.state_of S.is_savable) who
+        (Plain_comes (Packet_comes (segment_of segment.now))) stage after turn.new.sent.items) }
     ensures sound { IfOk result (λ after. IsSoundStage who after) }
 {
     match stage {
@@ -275,7 +283,9 @@ pub(crate) fn on_packet<S: Saved>(
             serve_bytes(who, segment, packet, &mut serving, turn)?;
             Ok(Stage::Serving(serving))
         }
-        Stage::Marked(node) => Ok(Stage::Marked(marked::give(who, node, segment, packet, turn)?)),
+        Stage::Marked(node) => Ok(Stage::Marked(marked::serve_segment(
+            who, node, segment, packet, turn,
+        )?)),
         Stage::Lost => Err(NoMemory),
     }
 }
@@ -295,6 +305,14 @@ pub(crate) fn conn_in<S: Service>(stage: &Stage<S>, key: Key) -> Option<&Conn<S>
     }
 }
 
+/// Reads a message in the incarnation's grammar.
+pub(crate) fn read_message(who: Identity, bytes: &[u8]) -> Result<Msg<'_>, BadMsg>
+    ensures value { seen result ≡ reading_by (grammar_in who) bytes.now }
+    ensures sendable { IfOk result (λ m. IsSendableBy (grammar_in who) m) }
+{
+    read_msg_by(who.profile.grammar(), bytes)
+}
+
 /// Takes a node's turn on an input, and returns its next stage. After an error the node may only be dropped.
 pub(crate) fn go<S: Saved>(
     who: Identity,
@@ -305,12 +323,13 @@ pub(crate) fn go<S: Saved>(
     requires boot { 1 ≤ who.boot }
     requires sound { IsSoundStage who stage }
     requires empty { turn.old.sent.items ≡ [] }
-    ensures turn { IfOk result (λ after. StageTurns S.Service who (input_of input.entry) stage after turn.new.sent.items) }
-    ensures apart { IfOk result (λ after. TurnsApart (service_of S.Service who) who (input_of input.entry) stage after turn.new.sent.items) }
-    ensures marked { IfOk result (λ after. IsTurnMarked S.Service (saving S.form S.state_of S.is_savable) who (marked_input_of input.entry) stage after turn.new.sent.items) }
-    ensures unfenced { IfOk result (λ after. IsUnfenced who (input_of input.entry)) }
-    ensures fenced { IfErr result (IsFenceOf who (input_of input.entry)) }
-    ensures memory { IsErrOf result TurnEnd.NoMemory → IsUnfenced who (input_of input.entry) }
+    ensures turn { IfOk result (λ after. StageTurns S.Service who (input_of (grammar_in who) input.entry) stage after turn.new.sent.items) }
+    ensures apart { IfOk result (λ after. TurnsApart (service_of S.Service who) who (input_of (grammar_in who) input.entry) stage after turn.new.sent.items) }
+    ensures marked { IfOk result (λ after. IsTurnMarked S.Service (saving S.form S.state_of S.is_savable) who
+        (marked_input_of (grammar_in who) input.entry) stage after turn.new.sent.items) }
+    ensures unfenced { IfOk result (λ after. IsUnfenced who (input_of (grammar_in who) input.entry)) }
+    ensures fenced { IfErr result (IsFenceOf who (input_of (grammar_in who) input.entry)) }
+    ensures memory { IsErrOf result TurnEnd.NoMemory → IsUnfenced who (input_of (grammar_in who) input.entry) }
     ensures sound { IfOk result (λ after. IsSoundStage who after) }
 {
     match input {
@@ -322,9 +341,9 @@ pub(crate) fn go<S: Saved>(
                 Ok(stage)
             }
         },
-        Input::Message(bytes) => match read_msg(bytes) {
-            Ok(m) => hear(who, stage, &m, turn),
-            Err(_) => Ok(hear_of_mark(who, stage, bytes, turn)?),
+        Input::Message(bytes) => match read_message(who, bytes) {
+            Ok(m) => receive(who, stage, &m, turn),
+            Err(_) => Ok(receive_about_mark(who, stage, bytes, turn)?),
         },
     }
 }

@@ -8,7 +8,7 @@ use Rattle.node_serving.proofs.excluded.a_far_acknowledgement_moves_another_edge
 
 pub returns : goal.returns
 returns g c =
-    on_ok_weaker c.give_known.result
+    on_ok_weaker c.serve_known.result
     (λ alone. (alone c.requires.mine Asking).slots c.args.other
     (ap (λ mine. mine && key_eq (source_of (segment_of c.args.segment.now)) c.args.other) c.requires.mine ∙ c.requires.other))
-    c.give_known.ensures.alone
+    c.serve_known.ensures.alone

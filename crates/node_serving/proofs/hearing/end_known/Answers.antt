@@ -5,6 +5,7 @@ use Rattle.ft_io.specs.Key.{key_eq}
 use Rattle.seq_arith.specs.Message.{Message}
 use Rattle.seq_arith.specs.Message.Body.{EndedMsg}
 use Rattle.ft_model.specs.Node.Input.{Message_comes}
+use Rattle.tcp_rules.specs.Profile.{grammar_of}
 use Rattle.node_serving.specs.Slots.{SlotGoes, AllSlotsGo, IsSoundSlot, AllSound}
 use Rattle.ft_model.proofs.Lists.{none_is_some}
 use Rattle.node_serving.specs.Alone.{SlotsAlone}
@@ -55,7 +56,7 @@ returns-in-Some-clause-alone g c = λ service node message told is.
     subst (λ xs. SlotsAlone service node (Message_comes message) es xs told told) (sym (c.get_mut.follows.holds c.end_slot.new.slot).0)
     (subst (λ m. SlotsAlone service node (Message_comes m) es (set_value (key_eq c.args.key) es c.end_slot.new.slot) told told) (sym is)
     (set_alone service node (Message_comes ended) c.args.key (only_its_key node ended c.args.key (λ k. refl)) (its_key node ended c.args.key refl (λ k. refl) c.args.key refl)
-    es c.in-Some.slot.now c.end_slot.new.slot told told found (quiet_for c.args.key told)
+    es c.in-Some.slot.now c.end_slot.new.slot told told found (quiet_for (grammar_of node.profile) c.args.key told)
     (λ place near at. subst (λ s. SlotGoes service node (Message_comes ended) c.args.key place s told told) (sym c.end_slot.ensures)
     (ends service node ended refl c.args.key (λ k. refl) refl place c.in-Some.slot.now told at))))
 

@@ -9,7 +9,7 @@ use Rattle.seq_arith.specs.Message.Body.{OpenedMsg}
 use Rattle.ft_model.specs.Node.Input.{Message_comes}
 use Rattle.node_serving.specs.declared.slot.Slot.TheVariants as slot
 use Rattle.node_serving.specs.LogMessages.{opening_in}
-use Rattle.node_serving.specs.Identity.{node_of}
+use Rattle.node_serving.specs.Identity.{node_of, grammar_in}
 use Rattle.node_serving.specs.Slots.{numbers_of, AllSlotsGo, AllSound}
 use Rattle.node_serving.specs.Alone.{SlotsAlone}
 use Rattle.node_serving.proofs.AtPlace.{removed_at, put_at, opening_there, no_opening, place_there}
@@ -25,7 +25,7 @@ use Rattle.node_serving.proofs.hearing.open_known.Goals as goal
 
 pub returns-in_default-clause-turn : goal.returns-in_default-clause-turn
 returns-in_default-clause-turn g c = λ message is stage places near st.
-    let service = machine (g.S.Service.started c.args.who.kind) g.S.Service.after in
+    let service = machine (g.S.Service.started c.args.who.kind) g.S.Service.after g.S.Service.greeting in
     let node = node_of c.args.who stage in
     let opened : Message = record { boot = c.args.who.boot; body = OpenedMsg (numbers_of c.args.key c.args.numbers) } in
     let es = c.args.slots.now.entries in
@@ -36,7 +36,7 @@ returns-in_default-clause-turn g c = λ message is stage places near st.
 
 pub returns-then-opening-numbers-clause-turn : goal.returns-then-opening-numbers-clause-turn
 returns-then-opening-numbers-clause-turn g c = λ message is stage places near st.
-    let service = machine (g.S.Service.started c.args.who.kind) g.S.Service.after in
+    let service = machine (g.S.Service.started c.args.who.kind) g.S.Service.after g.S.Service.greeting in
     let node = node_of c.args.who stage in
     let opened : Message = record { boot = c.args.who.boot; body = OpenedMsg (numbers_of c.args.key c.args.numbers) } in
     let es = c.args.slots.now.entries in
@@ -50,7 +50,7 @@ returns-then-opening-numbers-clause-turn g c = λ message is stage places near s
 
 pub returns-clause-turn : goal.returns-clause-turn
 returns-clause-turn g c = λ message is stage places near st.
-    let service = machine (g.S.Service.started c.args.who.kind) g.S.Service.after in
+    let service = machine (g.S.Service.started c.args.who.kind) g.S.Service.after g.S.Service.greeting in
     let node = node_of c.args.who stage in
     let opened : Message = record { boot = c.args.who.boot; body = OpenedMsg (numbers_of c.args.key c.args.numbers) } in
     let es = c.args.slots.now.entries in
@@ -71,7 +71,7 @@ returns-then-opening-numbers-clause-sound g c = subst (AllSound c.args.who) (sym
 
 pub returns-in_default-clause-alone : goal.returns-in_default-clause-alone
 returns-in_default-clause-alone g c = λ message is stage.
-    let service = machine (g.S.Service.started c.args.who.kind) g.S.Service.after in
+    let service = machine (g.S.Service.started c.args.who.kind) g.S.Service.after g.S.Service.greeting in
     let node = node_of c.args.who stage in
     let opened : Message = record { boot = c.args.who.boot; body = OpenedMsg (numbers_of c.args.key c.args.numbers) } in
     let es = c.args.slots.now.entries in
@@ -81,7 +81,7 @@ returns-in_default-clause-alone g c = λ message is stage.
 
 pub returns-then-opening-numbers-clause-alone : goal.returns-then-opening-numbers-clause-alone
 returns-then-opening-numbers-clause-alone g c = λ message is stage.
-    let service = machine (g.S.Service.started c.args.who.kind) g.S.Service.after in
+    let service = machine (g.S.Service.started c.args.who.kind) g.S.Service.after g.S.Service.greeting in
     let node = node_of c.args.who stage in
     let opened : Message = record { boot = c.args.who.boot; body = OpenedMsg (numbers_of c.args.key c.args.numbers) } in
     let es = c.args.slots.now.entries in
@@ -90,12 +90,12 @@ returns-then-opening-numbers-clause-alone g c = λ message is stage.
     subst (λ m. SlotsAlone service node (Message_comes m) es c.drop_slot.new.slots.entries c.args.turn.now.sent.items c.args.turn.now.sent.items) (sym is)
     (subst (λ xs. SlotsAlone service node (Message_comes opened) es xs c.args.turn.now.sent.items c.args.turn.now.sent.items) (sym (c.drop_slot.ensures ∙ removed_at (key_eq c.args.key) c.args.slots.now.entries c.in-Some.pending.place (place_there (λ x. position (key_eq c.args.key) (keys_of c.args.slots.now.entries) ≡ Some x.place) c.pending_at.result c.in-Some.pending c.pending_at.ensures.place c.in-Some.is)))
     (drop_alone service node (Message_comes opened) c.args.key (only_its_key node opened c.args.key (λ k. refl)) (its_key node opened c.args.key refl (λ k. refl) c.args.key refl)
-    es (slot.Pending c.in-Some.pending.opening) c.args.turn.now.sent.items c.args.turn.now.sent.items c.pending_at.ensures.unique found (quiet_for c.args.key c.args.turn.now.sent.items)
+    es (slot.Pending c.in-Some.pending.opening) c.args.turn.now.sent.items c.args.turn.now.sent.items c.pending_at.ensures.unique found (quiet_for (grammar_in c.args.who) c.args.key c.args.turn.now.sent.items)
     (λ place at. opening_drops service node opened refl c.args.key (λ k. refl) c.args.numbers refl place c.in-Some.pending.opening c.args.turn.now.sent.items at differ)))
 
 pub returns-clause-alone : goal.returns-clause-alone
 returns-clause-alone g c = λ message is stage.
-    let service = machine (g.S.Service.started c.args.who.kind) g.S.Service.after in
+    let service = machine (g.S.Service.started c.args.who.kind) g.S.Service.after g.S.Service.greeting in
     let node = node_of c.args.who stage in
     let opened : Message = record { boot = c.args.who.boot; body = OpenedMsg (numbers_of c.args.key c.args.numbers) } in
     let es = c.args.slots.now.entries in

@@ -9,7 +9,7 @@ use Rattle.ft_model.specs.Node.Input.{Message_comes}
 use Rattle.ft_model.specs.Refusal.{full_rst}
 use Rattle.node_serving.specs.declared.slot.Slot.TheVariants as slot
 use Rattle.node_serving.specs.LogMessages.{opening_in}
-use Rattle.node_serving.specs.Identity.{node_of}
+use Rattle.node_serving.specs.Identity.{node_of, grammar_in}
 use Rattle.node_serving.specs.Slots.{numbers_of, AllSlotsGo, AllSound}
 use Rattle.node_serving.specs.Alone.{SlotsAlone}
 use Rattle.node_serving.proofs.AtPlace.{removed_at, opening_there, no_opening, place_there}
@@ -24,7 +24,7 @@ use Rattle.node_serving.proofs.hearing.refuse_known.Goals as goal
 
 pub returns-in_default-clause-turn : goal.returns-in_default-clause-turn
 returns-in_default-clause-turn g c = λ message is stage places near st.
-    let service = machine (g.S.Service.started c.args.who.kind) g.S.Service.after in
+    let service = machine (g.S.Service.started c.args.who.kind) g.S.Service.after g.S.Service.greeting in
     let node = node_of c.args.who stage in
     let full : Message = record { boot = c.args.who.boot; body = FullMsg c.args.key } in
     let es = c.args.slots.now.entries in
@@ -35,7 +35,7 @@ returns-in_default-clause-turn g c = λ message is stage places near st.
 
 pub returns-clause-turn : goal.returns-clause-turn
 returns-clause-turn g c = λ message is stage places near st.
-    let service = machine (g.S.Service.started c.args.who.kind) g.S.Service.after in
+    let service = machine (g.S.Service.started c.args.who.kind) g.S.Service.after g.S.Service.greeting in
     let node = node_of c.args.who stage in
     let full : Message = record { boot = c.args.who.boot; body = FullMsg c.args.key } in
     let es = c.args.slots.now.entries in
@@ -52,7 +52,7 @@ returns-clause-sound g c = subst (AllSound c.args.who) (sym (c.drop_slot.ensures
 
 pub returns-in_default-clause-alone : goal.returns-in_default-clause-alone
 returns-in_default-clause-alone g c = λ message is stage.
-    let service = machine (g.S.Service.started c.args.who.kind) g.S.Service.after in
+    let service = machine (g.S.Service.started c.args.who.kind) g.S.Service.after g.S.Service.greeting in
     let node = node_of c.args.who stage in
     let full : Message = record { boot = c.args.who.boot; body = FullMsg c.args.key } in
     let es = c.args.slots.now.entries in
@@ -62,7 +62,7 @@ returns-in_default-clause-alone g c = λ message is stage.
 
 pub returns-clause-alone : goal.returns-clause-alone
 returns-clause-alone g c = λ message is stage.
-    let service = machine (g.S.Service.started c.args.who.kind) g.S.Service.after in
+    let service = machine (g.S.Service.started c.args.who.kind) g.S.Service.after g.S.Service.greeting in
     let node = node_of c.args.who stage in
     let full : Message = record { boot = c.args.who.boot; body = FullMsg c.args.key } in
     let es = c.args.slots.now.entries in
@@ -72,7 +72,7 @@ returns-clause-alone g c = λ message is stage.
     (subst (λ xs. SlotsAlone service node (Message_comes full) es xs c.args.turn.now.sent.items c.refuse_full.new.turn.sent.items) (sym (c.drop_slot.ensures ∙ removed_at (key_eq c.args.key) c.args.slots.now.entries c.in-Some.pending.place (place_there (λ x. position (key_eq c.args.key) (keys_of c.args.slots.now.entries) ≡ Some x.place) c.pending_at.result c.in-Some.pending c.pending_at.ensures.place c.in-Some.is)))
     (drop_alone service node (Message_comes full) c.args.key (only_its_key node full c.args.key (λ k. refl)) (its_key node full c.args.key refl (λ k. refl) c.args.key refl)
     es (slot.Pending c.in-Some.pending.opening) c.args.turn.now.sent.items c.refuse_full.new.turn.sent.items c.pending_at.ensures.unique found
-    (refused_for c.args.key (full_rst c.args.who.local (numbers_of c.args.key c.in-Some.pending.opening) ∷ []) c.args.turn.now.sent.items c.refuse_full.new.turn.sent.items
+    (refused_for (grammar_in c.args.who) c.args.key (full_rst c.args.who.local (numbers_of c.args.key c.in-Some.pending.opening) ∷ []) c.args.turn.now.sent.items c.refuse_full.new.turn.sent.items
     (full_back c.args.who.local c.args.key c.in-Some.pending.opening) told)
     (λ place at. opening_refused service node full refl c.args.key (λ k. refl) refl place c.in-Some.pending.opening c.args.turn.now.sent.items c.refuse_full.new.turn.sent.items at told)))
 

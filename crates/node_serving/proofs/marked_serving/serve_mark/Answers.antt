@@ -19,12 +19,12 @@ use Rattle.node_serving.proofs.marked_serving.serve_mark.Goals as goal
 
 pub returns-in-Marked-clause-turn : goal.returns-in-Marked-clause-turn
 returns-in-Marked-clause-turn g c =
-    on_ok_weaker c.hear_marked.result
+    on_ok_weaker c.receive_marked.result
     (λ heard boot every standing awaits marking opened places keeps settled st.
     let by = marker_of g.S.Service (saving g.S.Saved.form g.S.Saved.state_of g.S.Saved.is_savable) c.args.who every in
-    subst (λ (m : MarkMessage). HeardOfMark by (node_at c.args.who standing awaits marking) places m c.hear_marked.new.marks c.args.turn.now.sent.items c.hear_marked.new.turn.sent.items)
+    subst (λ (m : MarkMessage). HeardOfMark by (node_at c.args.who standing awaits marking) places m c.receive_marked.new.marks c.args.turn.now.sent.items c.receive_marked.new.turn.sent.items)
     (λ j. record { boot = c.args.m.now.boot; body = body_of (sym c.in-Marked.is j) })
-    (heard c.args.m.now.boot every standing awaits marking opened places keeps settled st)) c.hear_marked.ensures.turn
+    (heard c.args.m.now.boot every standing awaits marking opened places keeps settled st)) c.receive_marked.ensures.turn
 
 pub returns-in-Mark-clause-turn : goal.returns-in-Mark-clause-turn
 returns-in-Mark-clause-turn g c = λ boot every standing awaits marking opened places keeps settled st.
@@ -46,7 +46,7 @@ returns-in-Held-clause-turn g c = λ boot every standing awaits marking opened p
 
 pub returns-in-Marked-clause-alone : goal.returns-in-Marked-clause-alone
 returns-in-Marked-clause-alone g c =
-    on_ok_weaker c.hear_marked.result
+    on_ok_weaker c.receive_marked.result
     (λ sends boot standing.
     let service = service_of g.S.Service c.args.who in
     let node = node_of c.args.who standing in
@@ -54,11 +54,11 @@ returns-in-Marked-clause-alone g c =
     let told : (message_of c.args.m.now).body ≡ MarkedMsg c.in-Marked.key c.in-Marked.reads = ap body_of c.in-Marked.is in
     let about : (c.args.m.now.boot == c.args.who.boot && answers_for (message_of c.args.m.now).body c.in-Marked.key) ≡ true =
     ap (λ b. b && answers_for (message_of c.args.m.now).body c.in-Marked.key) (eq-eqb c.args.m.now.boot c.args.who.boot boot) ∙ (ap (λ b. answers_for b c.in-Marked.key) told ∙ key_is c.in-Marked.key) in
-    subst (λ (l : List Wire). GoesBesideMarks service node (Mark_comes (message_of c.args.m.now)) c.args.serving.now c.args.serving.now c.args.marks.now c.hear_marked.new.marks l c.hear_marked.new.turn.sent.items)
+    subst (λ (l : List Wire). GoesBesideMarks service node (Mark_comes (message_of c.args.m.now)) c.args.serving.now c.args.serving.now c.args.marks.now c.receive_marked.new.marks l c.receive_marked.new.turn.sent.items)
     (sym c.requires.empty)
-    (goes_beside service node (Mark_comes (message_of c.args.m.now)) c.in-Marked.key c.args.serving.now c.args.serving.now c.args.marks.now c.hear_marked.new.marks [] [] c.hear_marked.new.turn.sent.items about
+    (goes_beside service node (Mark_comes (message_of c.args.m.now)) c.in-Marked.key c.args.serving.now c.args.serving.now c.args.marks.now c.receive_marked.new.marks [] [] c.receive_marked.new.turn.sent.items about
     (idle_alone service node Noise_comes c.args.serving.now count.0 count.1 (λ key. refl))
-    (subst (λ (l : List Wire). MarksOnly c.args.who.boot c.in-Marked.key c.args.marks.now c.hear_marked.new.marks l c.hear_marked.new.turn.sent.items) c.requires.empty sends))) c.hear_marked.ensures.alone
+    (subst (λ (l : List Wire). MarksOnly c.args.who.boot c.in-Marked.key c.args.marks.now c.receive_marked.new.marks l c.receive_marked.new.turn.sent.items) c.requires.empty sends))) c.receive_marked.ensures.alone
 
 pub returns-in-Mark-clause-alone : goal.returns-in-Mark-clause-alone
 returns-in-Mark-clause-alone g c = λ boot standing.

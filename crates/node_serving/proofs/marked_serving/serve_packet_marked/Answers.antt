@@ -6,7 +6,7 @@ use Rattle.ft_model.specs.Node.{is_for, place_at}
 use Rattle.ft_model.specs.Node.Input.{Packet_comes}
 use Rattle.ft_model.specs.Wire.{Wire}
 use Rattle.conn_marks.specs.Settled.{MarksPlace}
-use Rattle.node_serving.specs.Identity.{node_of, service_of}
+use Rattle.node_serving.specs.Identity.{node_of, service_of, grammar_in}
 use Rattle.node_serving.specs.Markers.{saving, marker_of, node_at}
 use Rattle.node_serving.specs.MarkedServing.{ServingGoesMarked}
 use Rattle.node_serving.specs.ServingStage.{ServingGoes}
@@ -30,7 +30,7 @@ returns-clause-turn g c =
     subst (λ (l : List Wire). ServingGoesMarked by (node_at c.args.who standing awaits marking) (Packet_comes segment) opened places c.serve_bytes.new.serving c.mark_key.new.marks l c.mark_key.new.turn.sent.items) (sym c.requires.empty)
     (served_marked by c.args.who standing awaits marking (Packet_comes segment) (source_of segment) opened places c.args.serving.now.slots.entries c.serve_bytes.new.serving c.args.marks.now c.mark_key.new.marks
     c.serve_bytes.new.turn.sent.items c.mark_key.new.turn.sent.items (only_its_client (node_of c.args.who standing) segment) refl (payload_bytes c.args.packet.now segment c.requires.read c.fit.ensures) st.slots c.apart.ensures keeps settled goes
-    (λ ps all. subst (λ k. MarksPlace by c.args.who.boot k 0 (place_at k ps) c.args.marks.now c.mark_key.new.marks c.serve_bytes.new.turn.sent.items c.mark_key.new.turn.sent.items) c.sender.ensures
+    (λ ps all. subst (λ k. MarksPlace by (grammar_in c.args.who) c.args.who.boot k 0 (place_at k ps) c.args.marks.now c.mark_key.new.marks c.serve_bytes.new.turn.sent.items c.mark_key.new.turn.sent.items) c.sender.ensures
     (marked every standing ps keeps.every all)))) c.mark_key.ensures.turn
 
 -- one for another server

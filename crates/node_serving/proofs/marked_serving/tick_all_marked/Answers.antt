@@ -1,7 +1,7 @@
 use Rattle.std.proofs.Common.{rules, ◌≡◌, ◌∙◌, ◌<◌, ◌≤◌, ◌++◌, append-nil, add-one, slice_get, Some, length, subst, sym, refl, []}
 use Rattle.indexmap.specs.Layout.{length-set_value_at}
 use Rattle.conn_marks.proofs.MarkWires.{out_none}
-use Rattle.node_serving.specs.Identity.{node_of, service_of}
+use Rattle.node_serving.specs.Identity.{node_of, service_of, grammar_in}
 use Rattle.node_serving.specs.Markers.{saving, marker_of}
 use Rattle.node_serving.specs.MarkedServing.{SlotTicks}
 use Rattle.node_serving.specs.Slots.{SlotStands}
@@ -66,7 +66,7 @@ loop-i-init g c = (
     go = (refl, refl);
     settled = tt;
     waiting = settled;
-    out = out_none c.args.turn.now.sent.items;
+    out = out_none (grammar_in c.args.who) c.args.turn.now.sent.items;
   },
   λ standing.
       let node = node_of c.args.who standing in (

@@ -17,7 +17,7 @@ pub returns-then-not-may_open-clause-turn : goal.returns-then-not-may_open-claus
 returns-then-not-may_open-clause-turn g c = λ mine stage opened places number st.
     let segment = segment_of c.args.segment.now in
     let es = c.args.slots.now.entries in
-    none_admitted (machine (g.S.Service.started c.args.who.kind) g.S.Service.after) (node_of c.args.who stage) segment opened places c.args.next.now.0 es c.args.turn.now.sent.items
+    none_admitted (machine (g.S.Service.started c.args.who.kind) g.S.Service.after g.S.Service.greeting) (node_of c.args.who stage) segment opened places c.args.next.now.0 es c.args.turn.now.sent.items
     c.requires.strange number st (sym (c.may_open.ensures segment refl) ∙ search rules)
 
 pub returns-clause-turn : goal.returns-clause-turn
@@ -25,7 +25,7 @@ returns-clause-turn g c = λ mine stage opened places number st.
     let segment = segment_of c.args.segment.now in
     let from : source_of segment ≡ c.sender-key.result = sym c.sender-key.ensures in
     let strange : lookup (key_eq c.sender-key.result) c.args.slots.now.entries ≡ None = subst (λ k. lookup (key_eq k) c.args.slots.now.entries ≡ None) from c.requires.strange in
-    let service = machine (g.S.Service.started c.args.who.kind) g.S.Service.after in
+    let service = machine (g.S.Service.started c.args.who.kind) g.S.Service.after g.S.Service.greeting in
     let node = node_of c.args.who stage in
     let es = c.args.slots.now.entries in
     let told = rw c.in_ok-ask.was at c.ask.ensures in

@@ -8,7 +8,7 @@ use Rattle.ft_model.specs.Network.{source_of}
 use Rattle.ft_model.specs.Node.Input.{Packet_comes}
 use Rattle.node_serving.specs.declared.slot.Slot.TheVariants as slot
 use Rattle.node_serving.specs.LogMessages.{opening_in}
-use Rattle.node_serving.specs.Identity.{node_of}
+use Rattle.node_serving.specs.Identity.{node_of, grammar_in}
 use Rattle.node_serving.specs.Openings.{ArePut, all_opens}
 use Rattle.node_serving.proofs.Asked.{opens_of, opens_one, asked_at_syn, unasked}
 use Rattle.node_serving.proofs.Opened.{pending_found}
@@ -37,7 +37,7 @@ returns-in_default-clause-asked g c = λ mine stage.
     let none : opening_in (lookup (key_eq c.sender-key.result) es) ≡ None = search rules in
     let quiet : all_opens node (Packet_comes segment) es ≡ [] =
     opens_one node segment es c.opening_at.ensures.unique ∙ (ap (λ k. opens_of node segment k (opening_in (lookup (key_eq k) es))) from ∙ ap (opens_of node segment c.sender-key.result) none) in
-    subst (λ ps. ArePut ps c.args.turn.now.sent.items c.args.turn.now.sent.items) (sym quiet) (put_none c.args.turn.now.sent.items)
+    subst (λ ps. ArePut (grammar_in c.args.who) ps c.args.turn.now.sent.items c.args.turn.now.sent.items) (sym quiet) (put_none (grammar_in c.args.who) c.args.turn.now.sent.items)
 
 pub returns-then-not-repeats-clause-asked : goal.returns-then-not-repeats-clause-asked
 returns-then-not-repeats-clause-asked g c = λ mine stage.
@@ -50,7 +50,7 @@ returns-then-not-repeats-clause-asked g c = λ mine stage.
     let quiet : all_opens node (Packet_comes segment) es ≡ [] =
     opens_one node segment es c.opening_at.ensures.unique ∙ (ap (λ k. opens_of node segment k (opening_in (lookup (key_eq k) es))) from
     ∙ (ap (opens_of node segment c.sender-key.result) found ∙ unasked node segment c.sender-key.result c.in-Some.opening (sym (c.repeats.ensures segment refl) ∙ other))) in
-    subst (λ ps. ArePut ps c.args.turn.now.sent.items c.args.turn.now.sent.items) (sym quiet) (put_none c.args.turn.now.sent.items)
+    subst (λ ps. ArePut (grammar_in c.args.who) ps c.args.turn.now.sent.items c.args.turn.now.sent.items) (sym quiet) (put_none (grammar_in c.args.who) c.args.turn.now.sent.items)
 
 pub returns-clause-asked : goal.returns-clause-asked
 returns-clause-asked g c = on_ok_weaker c.ask.result
@@ -62,7 +62,7 @@ returns-clause-asked g c = on_ok_weaker c.ask.result
     let found : opening_in (lookup (key_eq c.sender-key.result) es) ≡ Some c.in-Some.opening = sym c.opening_at.ensures.found ∙ c.in-Some.is in
     let its : c.repeats.result ≡ true = search rules in
     let syn = and_parts _ _ (sym (c.repeats.ensures segment refl) ∙ its) in
-    subst (λ ps. ArePut ps c.args.turn.now.sent.items c.ask.new.turn.sent.items)
+    subst (λ ps. ArePut (grammar_in c.args.who) ps c.args.turn.now.sent.items c.ask.new.turn.sent.items)
     (sym (opens_one node segment es c.opening_at.ensures.unique ∙ (ap (λ k. opens_of node segment k (opening_in (lookup (key_eq k) es))) from
     ∙ (ap (opens_of node segment c.sender-key.result) found ∙ asked_at_syn node segment c.sender-key.result c.in-Some.opening mine syn.0 from (eqb-true _ _ syn.1)))))
     asked) c.ask.ensures

@@ -27,6 +27,8 @@ returns c =
     ap (take c.write_packet-len.result) c.write_packet-len.ensures.bytes ∙ front_written segment (spelling segment) _ c.write_packet-len.result c.write_packet-len.ensures.length refl in
     on_ok_weaker c.send.result
     (λ kept. record {
-      wires = kept ∙ ap (λ bytes. c.args.turn.now.sent.items ++ record { from = The_server; to = A_client (destination_of segment); bytes = bytes } ∷ []) text;
-      spelled = ((spellable, tt), tt);
+      each = λ grammar. record {
+        wires = kept ∙ ap (λ bytes. c.args.turn.now.sent.items ++ record { from = The_server; to = A_client (destination_of segment); bytes = bytes } ∷ []) text;
+        spelled = ((spellable, tt), tt);
+      };
     }) c.send.ensures

@@ -15,24 +15,24 @@ pub returns-then-not-is_for-clause-turn : goal.returns-then-not-is_for-clause-tu
 returns-then-not-is_for-clause-turn g c = λ stage opened places near st.
     let segment = segment_of c.args.segment.now in
     let other : is_for c.args.who.local segment ≡ false = sym c.is_for.ensures ∙ search rules in
-    others_packet (machine (g.S.Service.started c.args.who.kind) g.S.Service.after) (node_of c.args.who stage) segment opened places _ c.args.turn.now.sent.items other st
+    others_packet (machine (g.S.Service.started c.args.who.kind) g.S.Service.after g.S.Service.greeting) (node_of c.args.who stage) segment opened places _ c.args.turn.now.sent.items other st
 
 pub returns-then-not-is_for-clause-alone : goal.returns-then-not-is_for-clause-alone
 returns-then-not-is_for-clause-alone g c = λ stage.
     let segment = segment_of c.args.segment.now in
     let other : is_for c.args.who.local segment ≡ false = sym c.is_for.ensures ∙ search rules in
     let count = counted_by c.args.who.isn c.args.serving.now.next.0 (search rules) c.requires.counted in
-    others_alone (machine (g.S.Service.started c.args.who.kind) g.S.Service.after) (node_of c.args.who stage) segment c.args.serving.now c.args.turn.now.sent.items count.0 count.1 other
+    others_alone (machine (g.S.Service.started c.args.who.kind) g.S.Service.after g.S.Service.greeting) (node_of c.args.who stage) segment c.args.serving.now c.args.turn.now.sent.items count.0 count.1 other
 
 pub returns-then-contains_key-clause-turn : goal.returns-then-contains_key-clause-turn
 returns-then-contains_key-clause-turn g c =
     let mine : is_for c.args.who.local (segment_of c.args.segment.now) ≡ true = sym c.is_for.ensures ∙ search rules in
-    on_ok_weaker c.serve_known.result (λ h. h mine) c.serve_known.ensures.turn
+    on_ok_weaker c.serve_known_client.result (λ h. h mine) c.serve_known_client.ensures.turn
 
 pub returns-then-contains_key-clause-alone : goal.returns-then-contains_key-clause-alone
 returns-then-contains_key-clause-alone g c =
     let mine : is_for c.args.who.local (segment_of c.args.segment.now) ≡ true = sym c.is_for.ensures ∙ search rules in
-    on_ok_weaker c.serve_known.result (λ h. h mine) c.serve_known.ensures.alone
+    on_ok_weaker c.serve_known_client.result (λ h. h mine) c.serve_known_client.ensures.alone
 
 pub returns-else-contains_key-clause-turn : goal.returns-else-contains_key-clause-turn
 returns-else-contains_key-clause-turn g c =
@@ -47,7 +47,7 @@ returns-else-contains_key-clause-alone g c =
 pub returns-then-contains_key-clause-untouched : goal.returns-then-contains_key-clause-untouched
 returns-then-contains_key-clause-untouched g c =
     let mine : is_for c.args.who.local (segment_of c.args.segment.now) ≡ true = sym c.is_for.ensures ∙ search rules in
-    on_ok_weaker c.serve_known.result (λ h other. absurd (false≢true (sym other ∙ mine))) c.serve_known.ensures.sound
+    on_ok_weaker c.serve_known_client.result (λ h other. absurd (false≢true (sym other ∙ mine))) c.serve_known_client.ensures.sound
 
 pub returns-else-contains_key-clause-untouched : goal.returns-else-contains_key-clause-untouched
 returns-else-contains_key-clause-untouched g c =
@@ -62,7 +62,7 @@ returns-then-not-is_for-clause-known g c = λ standing.
 pub returns-then-contains_key-clause-known : goal.returns-then-contains_key-clause-known
 returns-then-contains_key-clause-known g c =
     let mine : is_for c.args.who.local (segment_of c.args.segment.now) ≡ true = sym c.is_for.ensures ∙ search rules in
-    on_ok_weaker c.serve_known.result (λ h. h mine) c.serve_known.ensures.known
+    on_ok_weaker c.serve_known_client.result (λ h. h mine) c.serve_known_client.ensures.known
 
 pub returns-else-contains_key-clause-known : goal.returns-else-contains_key-clause-known
 returns-else-contains_key-clause-known g c =

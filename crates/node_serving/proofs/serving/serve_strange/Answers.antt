@@ -16,7 +16,7 @@ returns-clause-turn g c =
     let refused = rw c.in_ok-refuse_unknown.was at c.refuse_unknown.ensures in
     on_ok_weaker c.admit.result
     (λ admitted mine stage opened places near st.
-    strange_packet (machine (g.S.Service.started c.args.who.kind) g.S.Service.after) (node_of c.args.who stage) segment (source_of segment) opened places c.args.serving.now _
+    strange_packet (machine (g.S.Service.started c.args.who.kind) g.S.Service.after g.S.Service.greeting) (node_of c.args.who stage) segment (source_of segment) opened places c.args.serving.now _
     c.args.turn.now.sent.items c.refuse_unknown.new.turn.sent.items c.admit.new.turn.sent.items refl mine c.requires.strange st refused
     (admitted mine stage opened places st.number st.slots)) c.admit.ensures.turn
 
@@ -27,7 +27,7 @@ returns-clause-alone g c =
     let count = counted_by c.args.who.isn c.args.serving.now.next.0 (search rules) c.requires.counted in
     on_ok_weaker c.admit.result
     (λ knocks mine stage.
-    strange_alone (machine (g.S.Service.started c.args.who.kind) g.S.Service.after) (node_of c.args.who stage) segment (source_of segment) refl mine c.args.serving.now _
+    strange_alone (machine (g.S.Service.started c.args.who.kind) g.S.Service.after g.S.Service.greeting) (node_of c.args.who stage) segment (source_of segment) refl mine c.args.serving.now _
     c.args.turn.now.sent.items c.refuse_unknown.new.turn.sent.items c.admit.new.turn.sent.items count.0 count.1 c.requires.strange refused (knocks stage)) c.admit.ensures.alone
 
 pub returns-clause-counted : goal.returns-clause-counted

@@ -21,7 +21,7 @@ pub loop-i-preserved : goal.loop-i-preserved
 loop-i-preserved g c =
     let told = rw c.in_ok-tick_slot.was at c.tick_slot.ensures in
     let within : c.loop-i.i < length c.loop-i.slots.entries = search rules in
-    let service = machine (g.S.Service.started c.args.who.kind) g.S.Service.after in (
+    let service = machine (g.S.Service.started c.args.who.kind) g.S.Service.after g.S.Service.greeting in (
       length-set_value_at c.loop-i.slots.entries c.loop-i.i c.tick_slot.new.slot ∙ c.loop-i.invariant.0,
       sound_put c.args.who c.loop-i.slots.entries c.loop-i.i c.key_at-key.result c.tick_slot.new.slot c.loop-i.invariant.1 c.key_at-key.ensures told.sound,
       λ stage places st. first_more service (node_of c.args.who stage) Tick_comes places c.loop-i.i c.loop-i.slots.entries c.args.turn.now.sent.items
@@ -48,7 +48,7 @@ loop-i-preserved g c =
 
 pub returns-clause-turn : goal.returns-clause-turn
 returns-clause-turn g c =
-    let service = machine (g.S.Service.started c.args.who.kind) g.S.Service.after in
+    let service = machine (g.S.Service.started c.args.who.kind) g.S.Service.after g.S.Service.greeting in
     let past : length c.loop-i.slots.entries ≤ c.loop-i.i = search rules in
     let within : c.loop-i.i ≤ length c.loop-i.slots.entries = search rules in
     λ stage places near st. first_all service (node_of c.args.who stage) Tick_comes places c.loop-i.i c.loop-i.slots.entries c.args.turn.now.sent.items c.loop-i.turn.sent.items
@@ -76,7 +76,7 @@ loop-i-init g c = (
 
 pub returns-clause-alone : goal.returns-clause-alone
 returns-clause-alone g c =
-    let service = machine (g.S.Service.started c.args.who.kind) g.S.Service.after in
+    let service = machine (g.S.Service.started c.args.who.kind) g.S.Service.after g.S.Service.greeting in
     λ stage.
     let all = c.loop-i.invariant.3 stage in
     ticks_alone service (node_of c.args.who stage) c.loop-i.i c.args.slots.now.entries c.loop-i.slots.entries c.args.turn.now.sent.items c.loop-i.turn.sent.items all.0 (search rules) c.len-i-end.ensures.unique all.1 all.2

@@ -7,4 +7,4 @@ use Rattle.server_node.proofs.excluded.uses_a_message_of_another_boot.Goals as g
 pub returns : goal.returns
 returns g c =
     let other : (c.args.m.now.boot == c.args.who.boot) ≡ false = ne_eqb c.args.m.now.boot c.args.who.boot c.requires.other in
-    if_ok c.hear.result (λ after apart. rw other at (apart.restarts Asking)) c.hear.ensures.apart
+    if_ok c.receive.result (λ after apart. rw other at (apart.restarts Asking)) c.receive.ensures.apart

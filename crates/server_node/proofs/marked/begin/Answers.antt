@@ -17,8 +17,8 @@ use Rattle.server_node.proofs.marked.begin.Goals as goal
 pub on_summary-requires : goal.on_summary-requires
 on_summary-requires g c = count_in_range c.args.m.now c.in-Some.count c.requires.sendable (sym c.count_in.ensures ∙ c.in-Some.is)
 
-pub go_on-requires-clause-own : goal.go_on-requires-clause-own
-go_on-requires-clause-own g c = subst (IsOf c.args.who) (sym (same_ok c.on_summary.result c.in-Ok.fetching _ c.in-Ok.is c.on_summary.ensures.value)) (record { boot = c.new-asked.ensures; kind = refl })
+pub proceed-requires-clause-own : goal.proceed-requires-clause-own
+proceed-requires-clause-own g c = subst (IsOf c.args.who) (sym (same_ok c.on_summary.result c.in-Ok.fetching _ c.in-Ok.is c.on_summary.ensures.value)) (record { boot = c.new-asked.ensures; kind = refl })
 
 pub returns-in_default-clause-turn : goal.returns-in_default-clause-turn
 returns-in_default-clause-turn g c = λ boot calm every standing awaits marking bytes lengths unfenced fair st.
@@ -29,11 +29,11 @@ returns-in_default-clause-turn g c = λ boot calm every standing awaits marking 
     (told_no_count by c.args.who (message_of c.args.m.now) none) c.requires.empty st)
 
 pub returns-clause-turn : goal.returns-clause-turn
-returns-clause-turn g c = if_ok c.go_on.result
+returns-clause-turn g c = if_ok c.proceed.result
     (λ after told boot calm every standing awaits marking bytes lengths unfenced fair st.
     let by = marker_of g.S.Service (saving g.S.Saved.form g.S.Saved.state_of g.S.Saved.is_savable) c.args.who every in
     let is = same_ok c.on_summary.result c.in-Ok.fetching _ c.in-Ok.is c.on_summary.ensures.value in
-    begun_at by c.args.who (message_of c.args.m.now) c.in-Some.count standing awaits marking bytes lengths c.args.marks after c.go_on.new.turn.sent.items unfenced
+    begun_at by c.args.who (message_of c.args.m.now) c.in-Some.count standing awaits marking bytes lengths c.args.marks after c.proceed.new.turn.sent.items unfenced
     (told_count (node_of c.args.who Asking) (message_of c.args.m.now) c.in-Some.count boot (sym c.count_in.ensures ∙ c.in-Some.is)) st
     (λ keeps. told every Asking false marking marking c.in-Some.count nothing_yet keeps
-    (begun_stands by c.new-asked.result c.args.who.kind c.in-Some.count marking c.args.marks g.S.Saved.is_savable c.are_made.result every c.in-Ok.fetching refl is c.are_made.ensures keeps c.in-Ok.ensures.law) tt)) c.go_on.ensures.turn
+    (begun_stands by c.new-asked.result c.args.who.kind c.in-Some.count marking c.args.marks g.S.Saved.is_savable c.are_made.result every c.in-Ok.fetching refl is c.are_made.ensures keeps c.in-Ok.ensures.law) tt)) c.proceed.ensures.turn

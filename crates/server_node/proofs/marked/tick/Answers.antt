@@ -16,7 +16,7 @@ use Rattle.node_serving.specs.SentBytes.{ArePut}
 use Rattle.server_node.proofs.MarkedFetch.{hello_at, tick_asked_at}
 use Rattle.server_node.proofs.MarkedInputs.{served_at}
 use Rattle.server_node.specs.declared.marked.MarkedStage.TheVariants as marked
-use Rattle.node_serving.specs.Identity.{node_of, service_of}
+use Rattle.node_serving.specs.Identity.{node_of, service_of, grammar_in}
 use Rattle.server_node.specs.MarkedApart.{MarkedApart}
 use Rattle.server_node.proofs.MarkedApart.{asking_beside, fetching_beside, serving_beside}
 use Rattle.server_node.proofs.marked.tick.Goals as goal
@@ -28,7 +28,7 @@ returns-in_ok-send_hello-in-Asking-clause-turn g c = λ every standing awaits ma
     let told = rw c.in_ok-send_hello-in-Asking.was at c.send_hello.ensures in
     subst (λ n. TurnsOn by c.args.who bytes lengths (node_at c.args.who standing awaits marking) (Plain_comes Tick_comes) n c.send_hello.new.turn.sent.items) (sym c.asking.ensures)
     (hello_at by c.args.who standing awaits marking bytes lengths c.args.node.marks c.send_hello.new.turn.sent.items
-    (subst (λ xs. ArePut (told_by c.args.who.boot HelloMsg ∷ []) xs c.send_hello.new.turn.sent.items) c.requires.empty told) here)
+    (subst (λ xs. ArePut (grammar_in c.args.who) (told_by c.args.who.boot HelloMsg ∷ []) xs c.send_hello.new.turn.sent.items) c.requires.empty told) here)
 
 pub returns-in_ok-ask-in-Fetching-clause-turn : goal.returns-in_ok-ask-in-Fetching-clause-turn
 returns-in_ok-ask-in-Fetching-clause-turn g c = λ every standing awaits marking bytes lengths unfenced fair st.
@@ -37,9 +37,9 @@ returns-in_ok-ask-in-Fetching-clause-turn g c = λ every standing awaits marking
     let own = subst (IsSoundAt c.args.who) c.in-Fetching.is c.requires.sound in
     subst (λ n. TurnsOn by c.args.who bytes lengths (node_at c.args.who standing awaits marking) (Plain_comes Tick_comes) n c.ask.new.turn.sent.items) (sym c.fetching_on.ensures)
     (tick_asked_at by c.args.who standing awaits marking bytes lengths c.in-Fetching.fetching c.args.node.marks c.in_ok-ask-in-Fetching.field-0 (any_asked c.in-Fetching.fetching) c.ask.new.turn.sent.items
-    (λ now. subst (λ k. StandsSoFar (machine (g.S.Service.started k) g.S.Service.after) now c.in-Fetching.fetching → any_asked c.in-Fetching.fetching ≡ next_question c.in-Fetching.fetching.boot c.in-Fetching.fetching.count now) own.kind (c.ask.ensures.law now))
+    (λ now. subst (λ k. StandsSoFar (machine (g.S.Service.started k) g.S.Service.after g.S.Service.greeting) now c.in-Fetching.fetching → any_asked c.in-Fetching.fetching ≡ next_question c.in-Fetching.fetching.boot c.in-Fetching.fetching.count now) own.kind (c.ask.ensures.law now))
     own.boot
-    (subst (λ (l : List Wire). SendsQuestion (any_asked c.in-Fetching.fetching) c.in_ok-ask-in-Fetching.field-0 l c.ask.new.turn.sent.items) c.requires.empty c.in_ok-ask-in-Fetching.ensures.sent) here)
+    (subst (λ (l : List Wire). SendsQuestion (grammar_in c.args.who) (any_asked c.in-Fetching.fetching) c.in_ok-ask-in-Fetching.field-0 l c.ask.new.turn.sent.items) c.requires.empty c.in_ok-ask-in-Fetching.ensures.sent) here)
 
 pub returns-in_ok-serve_tick_marked-in-Serving-clause-turn : goal.returns-in_ok-serve_tick_marked-in-Serving-clause-turn
 returns-in_ok-serve_tick_marked-in-Serving-clause-turn g c = λ every standing awaits marking bytes lengths unfenced fair st.

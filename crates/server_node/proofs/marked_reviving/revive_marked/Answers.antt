@@ -1,5 +1,5 @@
 use Rattle.std.proofs.Common.{◌≡◌, ◌∙◌, ap, sym, subst, Some}
-use Rattle.node_serving.specs.Identity.{node_of}
+use Rattle.node_serving.specs.Identity.{node_of, grammar_in}
 use Rattle.node_serving.specs.Markers.{saving, marker_of}
 use Rattle.node_serving.specs.Slots.{SlotStands}
 use Rattle.conn_marks.specs.Settled.{MarksPlace}
@@ -15,5 +15,5 @@ returns-clause-turn g c = λ every standing e is sound bytes number.
     (c.in_ok-slot.ensures.turn standing e is sound)
     (λ place st.
     let marked = told every standing place number (subst (λ k. SlotStands by.service (node_of c.args.who standing) k c.in_ok-slot.slot place) (sym key) st) in
-    subst (λ n. MarksPlace by c.args.who.boot e.key n (Some place) c.args.marks.now c.mark_slot.new.marks c.revive.new.turn.sent.items c.mark_slot.new.turn.sent.items) c.len-from.ensures
-    (subst (λ k. MarksPlace by c.args.who.boot k c.len-from.result (Some place) c.args.marks.now c.mark_slot.new.marks c.revive.new.turn.sent.items c.mark_slot.new.turn.sent.items) key marked))
+    subst (λ n. MarksPlace by (grammar_in c.args.who) c.args.who.boot e.key n (Some place) c.args.marks.now c.mark_slot.new.marks c.revive.new.turn.sent.items c.mark_slot.new.turn.sent.items) c.len-from.ensures
+    (subst (λ k. MarksPlace by (grammar_in c.args.who) c.args.who.boot k c.len-from.result (Some place) c.args.marks.now c.mark_slot.new.marks c.revive.new.turn.sent.items c.mark_slot.new.turn.sent.items) key marked))

@@ -11,7 +11,7 @@ returns-in-Some-clause-value g c =
 
 pub returns-in-Some-clause-law : goal.returns-in-Some-clause-law
 returns-in-Some-clause-law g c = λ fetched st.
-    let service = machine (g.S.Service.started c.args.fetching.now.kind) g.S.Service.after in
+    let service = machine (g.S.Service.started c.args.fetching.now.kind) g.S.Service.after g.S.Service.greeting in
     c.log_message.ensures.value
     ∙ law_asked c.args.fetching.now.boot c.args.fetching.now.count fetched (Some (any_of c.in-Some.question))
     (ap (option_map any_of) (sym c.in-Some.is)
@@ -23,7 +23,7 @@ returns-in-None-clause-value g c =
 
 pub returns-in-None-clause-law : goal.returns-in-None-clause-law
 returns-in-None-clause-law g c = λ fetched st.
-    let service = machine (g.S.Service.started c.args.fetching.now.kind) g.S.Service.after in
+    let service = machine (g.S.Service.started c.args.fetching.now.kind) g.S.Service.after g.S.Service.greeting in
     law_asked c.args.fetching.now.boot c.args.fetching.now.count fetched None
     (ap (option_map any_of) (sym c.in-None.is)
     ∙ c.question.ensures.law (record { entries = fetched; awaits_mark = false }) (so_far_unmarked service c.args.fetching.now fetched c.requires st))

@@ -3,7 +3,7 @@ use Rattle.std.proofs.lemmas.Result.{on_ok_weaker}
 use Rattle.server_trait.specs.Service.{machine}
 use Rattle.reincarnate.specs.Refinement.{RestoredIs}
 use Rattle.ft_model.specs.Restart.{entry_in}
-use Rattle.node_serving.specs.Identity.{node_of}
+use Rattle.node_serving.specs.Identity.{node_of, grammar_in}
 use Rattle.node_serving.specs.Slots.{IsSoundSlot}
 use Rattle.node_serving.proofs.Knocking.{counted_on}
 use Rattle.node_serving.specs.Ownership.{IsOnlyFor}
@@ -14,7 +14,7 @@ use Rattle.server_node.proofs.reviving.restore.Goals as goal
 
 pub returns-in-Ended-clause-turn : goal.returns-in-Ended-clause-turn
 returns-in-Ended-clause-turn g c =
-    let service = machine (g.S.Service.started c.args.who.kind) g.S.Service.after in
+    let service = machine (g.S.Service.started c.args.who.kind) g.S.Service.after g.S.Service.greeting in
     on_ok_weaker c.add_slot.result
     (λ added standing f fetched first is sound fresh r.
     let here = subst (RestoredIs service f) c.in-Ended.is is in
@@ -23,7 +23,7 @@ returns-in-Ended-clause-turn g c =
 
 pub returns-in_ok-slot-in-Live-clause-turn : goal.returns-in_ok-slot-in-Live-clause-turn
 returns-in_ok-slot-in-Live-clause-turn g c =
-    let service = machine (g.S.Service.started c.args.who.kind) g.S.Service.after in
+    let service = machine (g.S.Service.started c.args.who.kind) g.S.Service.after g.S.Service.greeting in
     on_ok_weaker c.add_slot-in-Live.result
     (λ added standing f fetched first is sound fresh r.
     let here = subst (RestoredIs service f) c.in-Live.is is in
@@ -47,7 +47,7 @@ returns-in_ok-slot-in-Live-clause-counted g c =
 
 pub returns-in-Ended-clause-alone : goal.returns-in-Ended-clause-alone
 returns-in-Ended-clause-alone g c =
-    let service = machine (g.S.Service.started c.args.who.kind) g.S.Service.after in
+    let service = machine (g.S.Service.started c.args.who.kind) g.S.Service.after g.S.Service.greeting in
     on_ok_weaker c.add_slot.result
     (λ added standing f fetched first is fresh r.
     let here = subst (RestoredIs service f) c.in-Ended.is is in
@@ -56,13 +56,13 @@ returns-in-Ended-clause-alone g c =
 
 pub returns-in_ok-slot-in-Live-clause-alone : goal.returns-in_ok-slot-in-Live-clause-alone
 returns-in_ok-slot-in-Live-clause-alone g c =
-    let service = machine (g.S.Service.started c.args.who.kind) g.S.Service.after in
+    let service = machine (g.S.Service.started c.args.who.kind) g.S.Service.after g.S.Service.greeting in
     let alone = rw c.in_ok-slot-in-Live.was at c.revive.ensures.alone in
     on_ok_weaker c.add_slot-in-Live.result
     (λ added standing f fetched first is fresh r.
     let here = subst (RestoredIs service f) c.in-Live.is is in
     let key : c.head.result.key ≡ f.head.key = ap (λ h. h.key) c.head.ensures ∙ ap (λ h. h.key) here.1.head in
     live_alone service (node_of c.args.who standing) f fetched c.head.result.key c.args.serving.now (record { next = c.add-serving.result; slots = c.add_slot-in-Live.new.slots }) c.in_ok-slot-in-Live.slot
-    first c.args.turn.now.sent.items c.revive.new.turn.sent.items here.0 key fresh r (subst (λ h. IsOnlyFor h.key c.args.turn.now.sent.items c.revive.new.turn.sent.items) (sym c.head.ensures) alone)
+    first c.args.turn.now.sent.items c.revive.new.turn.sent.items here.0 key fresh r (subst (λ h. IsOnlyFor (grammar_in c.args.who) h.key c.args.turn.now.sent.items c.revive.new.turn.sent.items) (sym c.head.ensures) alone)
     (λ sound. c.in_ok-slot-in-Live.ensures.turn standing (entry_in f) here.1 sound) c.add-serving.ensures c.in_ok-slot-in-Live.ensures.known added)
     c.add_slot-in-Live.ensures.added

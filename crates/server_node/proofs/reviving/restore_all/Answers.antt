@@ -14,7 +14,7 @@ use Rattle.server_node.proofs.reviving.restore_all.Goals as goal
 
 pub loop-entry-init : goal.loop-entry-init
 loop-entry-init g c =
-    let service = machine (g.S.Service.started c.args.who.kind) g.S.Service.after in
+    let service = machine (g.S.Service.started c.args.who.kind) g.S.Service.after g.S.Service.greeting in
     let number : c.args.who.isn ≡ initial_number c.args.who.isn 0 = search rules in (
       subst (AllSound c.args.who) (sym c.new.ensures.empty) tt,
       (refl, search rules),
@@ -29,7 +29,7 @@ loop-entry-init g c =
 pub loop-entry-preserved : goal.loop-entry-preserved
 loop-entry-preserved g c =
     let fresh = g.S.Service.started c.args.who.kind in
-    let service = machine fresh g.S.Service.after in
+    let service = machine fresh g.S.Service.after g.S.Service.greeting in
     let told = rw c.in_ok-restore.was at c.restore.ensures in (
       told.sound,
       told.counted c.loop-entry.invariant.1,
@@ -47,7 +47,7 @@ loop-entry-preserved g c =
 pub returns-clause-turn : goal.returns-clause-turn
 returns-clause-turn g c = λ standing fetched st distinct sound.
     let fresh = g.S.Service.started c.args.who.kind in
-    let service = machine fresh g.S.Service.after in
+    let service = machine fresh g.S.Service.after g.S.Service.greeting in
     restores_all service (AreRestored service (node_of c.args.who standing)) fetched c.loop-entry.entries c.advance.new.self c.loop-entry.serving c.args.turn.now.sent.items c.loop-entry.turn.sent.items
     (c.loop-entry.invariant.2 standing fetched st distinct sound)
     (λ left waits. subst (λ o. FirstIs service left o c.advance.new.self) c.in_default.is (c.advance.ensures.law fresh left waits))
@@ -55,7 +55,7 @@ returns-clause-turn g c = λ standing fetched st distinct sound.
 pub returns-clause-alone : goal.returns-clause-alone
 returns-clause-alone g c = λ standing fetched st distinct.
     let fresh = g.S.Service.started c.args.who.kind in
-    let service = machine fresh g.S.Service.after in
+    let service = machine fresh g.S.Service.after g.S.Service.greeting in
     restores_all service (RestoredAlone service (node_of c.args.who standing)) fetched c.loop-entry.entries c.advance.new.self c.loop-entry.serving c.args.turn.now.sent.items c.loop-entry.turn.sent.items
     (c.loop-entry.invariant.3 standing fetched st distinct)
     (λ left waits. subst (λ o. FirstIs service left o c.advance.new.self) c.in_default.is (c.advance.ensures.law fresh left waits))

@@ -16,12 +16,12 @@ use Rattle.server_node.proofs.reviving.restore_all.Given as goal
 abbrev pub invariant-loop-entry : goal.invariant-loop-entry
 invariant-loop-entry g l = AllSound l.who l.serving.slots.entries
     × IsCounted l.who.isn l.serving.next.0
-    × ((standing : Stage) (fetched : List Fetched) → StandsWhole (machine (g.S.Service.started l.who.kind) g.S.Service.after) (reverse fetched) l.initial.entries → AreDistinct fetched
-    → AreSound (machine (g.S.Service.started l.who.kind) g.S.Service.after) fetched
-    → RestoresOn (machine (g.S.Service.started l.who.kind) g.S.Service.after) (AreRestored (machine (g.S.Service.started l.who.kind) g.S.Service.after) (node_of l.who standing))
+    × ((standing : Stage) (fetched : List Fetched) → StandsWhole (machine (g.S.Service.started l.who.kind) g.S.Service.after g.S.Service.greeting) (reverse fetched) l.initial.entries → AreDistinct fetched
+    → AreSound (machine (g.S.Service.started l.who.kind) g.S.Service.after g.S.Service.greeting) fetched
+    → RestoresOn (machine (g.S.Service.started l.who.kind) g.S.Service.after g.S.Service.greeting) (AreRestored (machine (g.S.Service.started l.who.kind) g.S.Service.after g.S.Service.greeting) (node_of l.who standing))
     fetched l.entries l.serving l.initial.turn.sent.items l.turn.sent.items)
-    × ((standing : Stage) (fetched : List Fetched) → StandsWhole (machine (g.S.Service.started l.who.kind) g.S.Service.after) (reverse fetched) l.initial.entries → AreDistinct fetched
-    → RestoresOn (machine (g.S.Service.started l.who.kind) g.S.Service.after) (RestoredAlone (machine (g.S.Service.started l.who.kind) g.S.Service.after) (node_of l.who standing))
+    × ((standing : Stage) (fetched : List Fetched) → StandsWhole (machine (g.S.Service.started l.who.kind) g.S.Service.after g.S.Service.greeting) (reverse fetched) l.initial.entries → AreDistinct fetched
+    → RestoresOn (machine (g.S.Service.started l.who.kind) g.S.Service.after g.S.Service.greeting) (RestoredAlone (machine (g.S.Service.started l.who.kind) g.S.Service.after g.S.Service.greeting) (node_of l.who standing))
     fetched l.entries l.serving l.initial.turn.sent.items l.turn.sent.items)
 
 abbrev pub decreases-loop-entry : goal.decreases-loop-entry

@@ -20,7 +20,7 @@ begin_fetching-requires-clause-few g c = count_in_range c.args.m.now c.in-Some.c
 
 pub returns-in_default-clause-turn : goal.returns-in_default-clause-turn
 returns-in_default-clause-turn g c = λ boot unfenced standing near sound is.
-    let service = machine (g.S.Service.started c.args.who.kind) g.S.Service.after in
+    let service = machine (g.S.Service.started c.args.who.kind) g.S.Service.after g.S.Service.greeting in
     let none : summary_count (body_of c.args.m.now.body) ≡ None = search rules in
     subst (λ xs. NodeGoes service (node_of c.args.who standing) (Message_comes (message_of c.args.m.now)) c.args.who stage.Asking xs) (sym c.requires.empty)
     (unanswered service c.args.who standing (message_of c.args.m.now) none is (unfenced standing))
@@ -28,7 +28,7 @@ returns-in_default-clause-turn g c = λ boot unfenced standing near sound is.
 pub returns-clause-turn : goal.returns-clause-turn
 returns-clause-turn g c = if_ok c.begin_fetching.result
     (λ after h boot unfenced standing near sound is.
-    let service = machine (g.S.Service.started c.args.who.kind) g.S.Service.after in
+    let service = machine (g.S.Service.started c.args.who.kind) g.S.Service.after g.S.Service.greeting in
     begins_on service c.args.who standing (message_of c.args.m.now) c.in-Some.count after c.begin_fetching.new.turn.sent.items boot (sym c.count_in.ensures ∙ c.in-Some.is) is (unfenced standing)
     (subst (λ xs. StageGoes service c.args.who [] (Fetches service (node_of c.args.who standing) c.in-Some.count []) after xs c.begin_fetching.new.turn.sent.items) c.requires.empty (h standing)))
     c.begin_fetching.ensures.turn
@@ -36,12 +36,12 @@ returns-clause-turn g c = if_ok c.begin_fetching.result
 pub returns-in_default-clause-restarts : goal.returns-in_default-clause-restarts
 returns-in_default-clause-restarts g c = λ boot standing.
     let none : summary_count (body_of c.args.m.now.body) ≡ None = search rules in
-    untold_restarts (machine (g.S.Service.started c.args.who.kind) g.S.Service.after) (node_of c.args.who standing) (message_of c.args.m.now) c.args.turn.now.sent.items boot none c.requires.empty
+    untold_restarts (machine (g.S.Service.started c.args.who.kind) g.S.Service.after g.S.Service.greeting) (node_of c.args.who standing) (message_of c.args.m.now) c.args.turn.now.sent.items boot none c.requires.empty
 
 pub returns-clause-restarts : goal.returns-clause-restarts
 returns-clause-restarts g c = if_ok c.begin_fetching.result
     (λ after h boot standing.
-    let service = machine (g.S.Service.started c.args.who.kind) g.S.Service.after in
+    let service = machine (g.S.Service.started c.args.who.kind) g.S.Service.after g.S.Service.greeting in
     begun_restarts service (node_of c.args.who standing) (message_of c.args.m.now) c.in-Some.count after c.begin_fetching.new.turn.sent.items boot (sym c.count_in.ensures ∙ c.in-Some.is)
     (subst (λ xs. RestartGoes service (node_of c.args.who standing) c.in-Some.count [] after xs c.begin_fetching.new.turn.sent.items) c.requires.empty (h standing)))
     c.begin_fetching.ensures.alone

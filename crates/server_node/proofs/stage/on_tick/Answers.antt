@@ -7,7 +7,7 @@ use Rattle.ft_model.specs.Restart.{wanted}
 use Rattle.ft_model.specs.Node.Input.{Tick_comes}
 use Rattle.server_node.specs.declared.stage.Stage.TheVariants as stage
 use Rattle.server_node.specs.Apart.{TurnsApart}
-use Rattle.node_serving.specs.Identity.{node_of}
+use Rattle.node_serving.specs.Identity.{node_of, grammar_in}
 use Rattle.node_serving.specs.Openings.{ArePut}
 use Rattle.node_serving.specs.ServingStage.{ServingGoes}
 use Rattle.server_node.specs.Stages.{StageStands, is_marked}
@@ -23,15 +23,15 @@ use Rattle.server_node.proofs.MarkedStage.{marked_apart}
 
 pub returns-in_ok-send_hello-in-Asking-clause-turn : goal.returns-in_ok-send_hello-in-Asking-clause-turn
 returns-in_ok-send_hello-in-Asking-clause-turn g c = λ standing near sound st.
-    let service = machine (g.S.Service.started c.args.who.kind) g.S.Service.after in
+    let service = machine (g.S.Service.started c.args.who.kind) g.S.Service.after g.S.Service.greeting in
     let told = rw c.in_ok-send_hello-in-Asking.was at c.send_hello.ensures in
     asks_on service c.args.who standing Tick_comes (told_by c.args.who.boot HelloMsg ∷ []) c.send_hello.new.turn.sent.items
     (subst (λ s. StageStands service (node_of c.args.who standing) s) c.in-Asking.is st) refl (refl, refl)
-    (subst (λ xs. ArePut (told_by c.args.who.boot HelloMsg ∷ []) xs c.send_hello.new.turn.sent.items) c.requires.empty told)
+    (subst (λ xs. ArePut (grammar_in c.args.who) (told_by c.args.who.boot HelloMsg ∷ []) xs c.send_hello.new.turn.sent.items) c.requires.empty told)
 
 pub returns-in_ok-serve_tick-in-Serving-clause-turn : goal.returns-in_ok-serve_tick-in-Serving-clause-turn
 returns-in_ok-serve_tick-in-Serving-clause-turn g c = λ standing near sound st.
-    let service = machine (g.S.Service.started c.args.who.kind) g.S.Service.after in
+    let service = machine (g.S.Service.started c.args.who.kind) g.S.Service.after g.S.Service.greeting in
     let told = rw c.in_ok-serve_tick-in-Serving.was at c.serve_tick.ensures.turn in
     serves_on service c.args.who standing Tick_comes c.in-Serving.serving c.serve_tick.new.serving c.serve_tick.new.turn.sent.items refl
     (subst (λ s. StageStands service (node_of c.args.who standing) s) c.in-Serving.is st)
@@ -40,24 +40,24 @@ returns-in_ok-serve_tick-in-Serving-clause-turn g c = λ standing near sound st.
 
 pub returns-in_ok-ask-in-Fetching-clause-turn : goal.returns-in_ok-ask-in-Fetching-clause-turn
 returns-in_ok-ask-in-Fetching-clause-turn g c = λ standing near sound st.
-    let service = machine (g.S.Service.started c.args.who.kind) g.S.Service.after in
+    let service = machine (g.S.Service.started c.args.who.kind) g.S.Service.after g.S.Service.greeting in
     let told = rw c.in_ok-ask-in-Fetching.was at c.ask.ensures.turn in
     ticks_on service c.args.who standing c.in-Fetching.fetching c.ask.new.turn.sent.items (subst (λ s. StageStands service (node_of c.args.who standing) s) c.in-Fetching.is st)
-    (λ count fetched stands. subst (λ xs. ArePut (asked (node_of c.args.who standing) (wanted count fetched)) xs c.ask.new.turn.sent.items) c.requires.empty (told standing count fetched stands))
+    (λ count fetched stands. subst (λ xs. ArePut (grammar_in c.args.who) (asked (node_of c.args.who standing) (wanted count fetched)) xs c.ask.new.turn.sent.items) c.requires.empty (told standing count fetched stands))
 
 pub returns-in_ok-send_hello-in-Asking-clause-apart : goal.returns-in_ok-send_hello-in-Asking-clause-apart
 returns-in_ok-send_hello-in-Asking-clause-apart g c =
-    subst (λ s. TurnsApart (machine (g.S.Service.started c.args.who.kind) g.S.Service.after) c.args.who Tick_comes s stage.Asking c.send_hello.new.turn.sent.items) (sym c.in-Asking.is)
+    subst (λ s. TurnsApart (machine (g.S.Service.started c.args.who.kind) g.S.Service.after g.S.Service.greeting) c.args.who Tick_comes s stage.Asking c.send_hello.new.turn.sent.items) (sym c.in-Asking.is)
     (record { others = λ standing. tt; untouched = λ standing nobody. absurd (true≢false (sym nobody)); alone = λ standing. tt; restarts = λ standing. tt; known = λ standing. tt })
 
 pub returns-in_ok-ask-in-Fetching-clause-apart : goal.returns-in_ok-ask-in-Fetching-clause-apart
 returns-in_ok-ask-in-Fetching-clause-apart g c =
-    subst (λ s. TurnsApart (machine (g.S.Service.started c.args.who.kind) g.S.Service.after) c.args.who Tick_comes s (stage.Fetching c.in-Fetching.fetching) c.ask.new.turn.sent.items) (sym c.in-Fetching.is)
+    subst (λ s. TurnsApart (machine (g.S.Service.started c.args.who.kind) g.S.Service.after g.S.Service.greeting) c.args.who Tick_comes s (stage.Fetching c.in-Fetching.fetching) c.ask.new.turn.sent.items) (sym c.in-Fetching.is)
     (record { others = λ standing. tt; untouched = λ standing nobody. absurd (true≢false (sym nobody)); alone = λ standing. tt; restarts = λ standing. tt; known = λ standing. tt })
 
 pub returns-in_ok-serve_tick-in-Serving-clause-apart : goal.returns-in_ok-serve_tick-in-Serving-clause-apart
 returns-in_ok-serve_tick-in-Serving-clause-apart g c =
-    let service = machine (g.S.Service.started c.args.who.kind) g.S.Service.after in
+    let service = machine (g.S.Service.started c.args.who.kind) g.S.Service.after g.S.Service.greeting in
     let told = rw c.in_ok-serve_tick-in-Serving.was at c.serve_tick.ensures.alone in
     let known = rw c.in_ok-serve_tick-in-Serving.was at c.serve_tick.ensures.known in
     subst (λ s. TurnsApart service c.args.who Tick_comes s (stage.Serving c.serve_tick.new.serving) c.serve_tick.new.turn.sent.items) (sym c.in-Serving.is)
@@ -66,10 +66,10 @@ returns-in_ok-serve_tick-in-Serving-clause-apart g c =
 
 pub returns-in_ok-tick-in-Marked-clause-turn : goal.returns-in_ok-tick-in-Marked-clause-turn
 returns-in_ok-tick-in-Marked-clause-turn g c = λ standing near sound st.
-    absurd (subst (λ s. StageStands (machine (g.S.Service.started c.args.who.kind) g.S.Service.after) (node_of c.args.who standing) s) c.in-Marked.is st)
+    absurd (subst (λ s. StageStands (machine (g.S.Service.started c.args.who.kind) g.S.Service.after g.S.Service.greeting) (node_of c.args.who standing) s) c.in-Marked.is st)
 
 pub returns-in_ok-tick-in-Marked-clause-apart : goal.returns-in_ok-tick-in-Marked-clause-apart
-returns-in_ok-tick-in-Marked-clause-apart g c = marked_apart (machine (g.S.Service.started c.args.who.kind) g.S.Service.after) c.args.who Tick_comes c.args.stage (stage.Marked c.in_ok-tick-in-Marked.field-0) c.tick.new.turn.sent.items
+returns-in_ok-tick-in-Marked-clause-apart g c = marked_apart (machine (g.S.Service.started c.args.who.kind) g.S.Service.after g.S.Service.greeting) c.args.who Tick_comes c.args.stage (stage.Marked c.in_ok-tick-in-Marked.field-0) c.tick.new.turn.sent.items
     (ap is_marked c.in-Marked.is)
 
 pub returns-in_ok-send_hello-in-Asking-clause-marked : goal.returns-in_ok-send_hello-in-Asking-clause-marked

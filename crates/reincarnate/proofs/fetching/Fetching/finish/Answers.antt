@@ -7,6 +7,6 @@ use Rattle.reincarnate.proofs.fetching.Fetching.finish.Goals as goal
 
 pub returns-clause-law : goal.returns-clause-law
 returns-clause-law g c fetched st =
-    subst (StandsWhole (machine (g.S.Service.started c.args.self.kind) g.S.Service.after) (reverse fetched))
+    subst (StandsWhole (machine (g.S.Service.started c.args.self.kind) g.S.Service.after g.S.Service.greeting) (reverse fetched))
     (sym (c.begin.ensures ∙ ap (λ s. reverse s.earlier ++ option_to_list s.newest) c.self.view_is))
-    (finished (machine (g.S.Service.started c.args.self.kind) g.S.Service.after) c.args.self fetched c.requires st)
+    (finished (machine (g.S.Service.started c.args.self.kind) g.S.Service.after g.S.Service.greeting) c.args.self fetched c.requires st)

@@ -13,10 +13,10 @@ returns-clause-sound g c = subst IsSound (sym c.joined_in.ensures) c.self.invari
 
 pub returns-clause-law : goal.returns-clause-law
 returns-clause-law g c fresh e i is =
-    subst (λ x. StandsBefore (machine fresh g.S.Service.after) x (point_of (machine fresh g.S.Service.after) plain e)) (sym c.joined_in.ensures)
-    (hands_on (machine fresh g.S.Service.after) plain e i _ (subst (IsSpliced (machine fresh g.S.Service.after) e i) (sym c.self.view_is) is))
+    subst (λ x. StandsBefore (machine fresh g.S.Service.after g.S.Service.greeting) x (point_of (machine fresh g.S.Service.after g.S.Service.greeting) plain e)) (sym c.joined_in.ensures)
+    (hands_on (machine fresh g.S.Service.after g.S.Service.greeting) plain e i _ (subst (IsSpliced (machine fresh g.S.Service.after g.S.Service.greeting) e i) (sym c.self.view_is) is))
 
 pub returns-clause-profile : goal.returns-clause-profile
 returns-clause-profile g c profile fresh e i is =
-    subst (λ x. StandsBefore (machine fresh g.S.Service.after) x (point_of (machine fresh g.S.Service.after) profile e)) (sym c.joined_in.ensures)
-    (hands_on (machine fresh g.S.Service.after) profile e i _ (subst (IsSplicedIn profile (machine fresh g.S.Service.after) e i) (sym c.self.view_is) is))
+    subst (λ x. StandsBefore (machine fresh g.S.Service.after g.S.Service.greeting) x (point_of (machine fresh g.S.Service.after g.S.Service.greeting) profile e)) (sym c.joined_in.ensures)
+    (hands_on (machine fresh g.S.Service.after g.S.Service.greeting) profile e i _ (subst (IsSplicedIn profile (machine fresh g.S.Service.after g.S.Service.greeting) e i) (sym c.self.view_is) is))
