@@ -4,7 +4,7 @@ use Rattle.std.specs.Prelude.{cond, nat_le, ◌&&◌}
 use Rattle.std.specs.Option.{ok_or, option_and_then}
 use Rattle.std.proofs.lemmas.Bool.{leb-true}
 use Rattle.ft_io.proofs.Booleans.{left_true, right_true}
-use Rattle.ft_model.specs.Grammar.{◌>>=◌, number, boot_number, packet_number, client_number, window, long_number, part_number, boot_line, bare_line, deliver_line, flip_line, client_and_window, send_line, client_alone, stop_line, profile_line, marks_line, event_line, client_line, service_line, server_line, line_from, line_of_words, line_behind, line_of, keyword_of, is_misnamed, may_stand, is_printable}
+use Rattle.ft_model.specs.Grammar.{◌>>=◌, number, boot_number, packet_number, client_number, window, long_number, part_number, boot_line, bare_line, deliver_line, flip_line, client_and_window, send_line, client_alone, stop_line, profile_line, marks_line, lasting_line, event_line, client_line, service_line, server_line, line_from, line_of_words, line_behind, line_of, keyword_of, is_misnamed, may_stand, is_printable}
 use Rattle.ft_model.specs.Spelling.{numeral, number_of, within}
 use Rattle.ft_model.specs.Words.{words_of}
 use Rattle.ft_model.specs.Readable.{FitsEvent}
@@ -142,6 +142,7 @@ says_event draft keyword.Server words e h = let b = bind_ok (server_line words) 
 says_event draft keyword.Profile words e h = let b = bind_ok (profile_line words) (λ profile. Ok (line.Profile profile)) (line.Event e) h in absurd (cc b.2)
 says_event draft keyword.Twin words e h = absurd (bare_says line.Twin words (line.Event e) (λ f. cc) h)
 says_event draft keyword.Marks words e h = let b = bind_ok (marks_line words) (λ every. Ok (line.Marks every)) (line.Event e) h in absurd (cc b.2)
+says_event draft keyword.Lasting words e h = let b = bind_ok (lasting_line words) (λ waits. Ok (line.Lasting waits)) (line.Event e) h in absurd (cc b.2)
 says_event draft keyword.Client words e h = let b = bind_ok (client_line draft words) (λ client. Ok (line.Client client)) (line.Event e) h in absurd (cc b.2)
 says_event draft (keyword.Event v) words e h =
     let b = bind_ok (event_line v words) (λ x. Ok (line.Event x)) (line.Event e) h in

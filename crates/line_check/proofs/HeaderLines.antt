@@ -12,7 +12,7 @@ use Rattle.tcp_rules.specs.declared.profile.Profile.{Profile}
 use Rattle.tcp_rules.specs.declared.profile.Profile.TheVariants.{Plain, Wan}
 use Rattle.ft_model.specs.Grammar.{◌>>=◌, Refusal, no_objection, unless_objected, keyword_of, is_misnamed, service_line, line_behind, line_of, with_line, is_full, is_passed_over, is_printable, is_too_much, after_line, at_line, read_lines, read_with, read_text}
 use Rattle.ft_model.specs.Grammar.Refusal.{TooLong}
-use Rattle.ft_model.specs.Report.{header, schedule_line, profile_line, twin_line, marks_line, schedule_lines}
+use Rattle.ft_model.specs.Report.{header, schedule_line, profile_line, twin_line, marks_line, lasting_line, schedule_lines}
 use Rattle.ft_model.specs.Spelling.{service_of}
 use Rattle.ft_model.specs.Texts.{service_text}
 use Rattle.ft_model.specs.Words.{lines_of, words_of}
@@ -69,15 +69,16 @@ not_full Empty h = absurd h
 not_full (Named kind) h = refl
 not_full (Begun schedule) h = ap (λ events. nat_le 100000 (length {A = Event} events)) h.1
 
-pub header_is : (schedule : Schedule) → schedule.twin ≡ false → schedule.marks ≡ None → schedule.events ≡ [] → header schedule ≡ codes "ftreplay 1\n" ++ schedule_bytes (Begun schedule)
+pub header_is : (schedule : Schedule) → schedule.twin ≡ false → schedule.marks ≡ None → schedule.lasting ≡ None → schedule.events ≡ [] → header schedule ≡ codes "ftreplay 1\n" ++ schedule_bytes (Begun schedule)
 unfolding header
-header_is schedule one unmarked none =
+header_is schedule one unmarked fleeting none =
     let a : List ℕ = canonical_line Empty (says.Service schedule.service) in
     let b : List ℕ = canonical_line (Named schedule.service) (says.Server schedule.server) in
     let p : List ℕ = profile_line schedule.profile in
     let c : List ℕ = schedule_lines 1 schedule.clients in
-    ap₂ (λ t m. codes "ftreplay 1\n" ++ (a ++ (b ++ (p ++ (twin_line t ++ (marks_line m ++ c)))))) one unmarked
-    ∙ ap (λ t. codes "ftreplay 1\n" ++ (a ++ (b ++ (p ++ t)))) (sym (append-nil c) ∙ ap (λ es. c ++ flat_map (λ e. asked_line e ++ 10 ∷ []) es) (sym none))
+    ap₂ (λ t m. codes "ftreplay 1\n" ++ (a ++ (b ++ (p ++ (twin_line t ++ (marks_line m ++ (lasting_line schedule.lasting ++ c))))))) one unmarked
+    ∙ (ap (λ l. codes "ftreplay 1\n" ++ (a ++ (b ++ (p ++ (lasting_line l ++ c))))) fleeting
+    ∙ ap (λ t. codes "ftreplay 1\n" ++ (a ++ (b ++ (p ++ t)))) (sym (append-nil c) ∙ ap (λ es. c ++ flat_map (λ e. asked_line e ++ 10 ∷ []) es) (sym none)))
 
 -- without its last byte, the text behind the first line is the lines so far and the front of the last one
 own_is : (bytes line : List ℕ) → own_text (codes "ftreplay 1\n" ++ (bytes ++ line)) ≡ take (length (bytes ++ line) - 1) (bytes ++ line)
@@ -131,6 +132,7 @@ record IsRead (draft : Draft) (line : List ℕ) (schedule : Schedule) : Type 0 w
   short : length (schedule_bytes draft ++ take (length line - 1) line) ≤ 8388608
   one_logger : schedule.twin ≡ false
   unmarked : schedule.marks ≡ None
+  fleeting : schedule.lasting ≡ None
   written : header schedule ≡ codes "ftreplay 1\n" ++ (schedule_bytes draft ++ line)
 
 text_read : (bytes front : List ℕ) (draft : Draft) (r : Reads bytes draft) (schedule : Schedule) → IsClean front → read_text (bytes ++ front) ≡ Ok schedule
@@ -146,9 +148,9 @@ text_read bytes front draft r schedule clean e = by_size (nat_le (length (bytes 
     )
     by_size false f g = absurd (cc)
 
-not_some : (marks : Option ℕ) → is_none marks ≡ true → marks ≡ None
+not_some : {A : Type 0} (o : Option A) → is_none o ≡ true → o ≡ None
 not_some None e = refl
-not_some (Some every) e = absurd (true≢false (sym e))
+not_some (Some x) e = absurd (true≢false (sym e))
 
 is_read : (draft : Draft) (line : List ℕ) (schedule : Schedule) → IsHeaderSoFar draft → IsClean (take (length line - 1) line) → 0 < length line
     → header_in (codes "ftreplay 1\n" ++ (schedule_bytes draft ++ line)) ≡ Some schedule → IsRead draft line schedule
@@ -162,7 +164,8 @@ is_read draft line schedule h clean some e = by_result (read_text (own_text text
     by_result (Ok other) f g =
         let c : (is_header_of other text ≡ true) × (other ≡ schedule) = chosen_is (is_header_of other text) other schedule g in
         let t : is_header_of schedule text ≡ true = subst (λ s. is_header_of s text ≡ true) c.1 c.0 in
-        let plain : (not schedule.twin && is_none schedule.marks) ≡ true = left_true (not schedule.twin && is_none schedule.marks) _ t in
+        let all : (not schedule.twin && is_none schedule.marks && is_none schedule.lasting) ≡ true = left_true (not schedule.twin && is_none schedule.marks && is_none schedule.lasting) _ t in
+        let plain : (not schedule.twin && is_none schedule.marks) ≡ true = left_true (not schedule.twin && is_none schedule.marks) (is_none schedule.lasting) all in
         let own : own_text text ≡ schedule_bytes draft ++ take (length line - 1) line = own_is (schedule_bytes draft) line ∙ front_is (schedule_bytes draft) line some in
         let read : read_text (schedule_bytes draft ++ take (length line - 1) line) ≡ Ok schedule = ap read_text (sym own) ∙ (f ∙ ap Ok c.1) in
         let r : Reads (schedule_bytes draft) draft = so_far_read draft h in
@@ -173,7 +176,8 @@ is_read draft line schedule h clean some e = by_result (read_text (own_text text
           short = after.0;
           one_logger = not_true schedule.twin (left_true (not schedule.twin) (is_none schedule.marks) plain);
           unmarked = not_some schedule.marks (right_true (not schedule.twin) (is_none schedule.marks) plain);
-          written = same_bytes (header schedule) text (right_true (not schedule.twin && is_none schedule.marks) _ t);
+          fleeting = not_some schedule.lasting (right_true (not schedule.twin && is_none schedule.marks) (is_none schedule.lasting) all);
+          written = same_bytes (header schedule) text (right_true (not schedule.twin && is_none schedule.marks && is_none schedule.lasting) _ t);
         }
 
 -- the limit, without the last byte
@@ -196,10 +200,11 @@ named_told kind line schedule some r = by_line (after_told r.number (Named kind)
     by_line (inr (says.Profile profile, f, e)) = absurd (cc)
     by_line (inr (says.Twin, f, e)) = absurd (cc)
     by_line (inr (says.Marks every, f, e)) = absurd (cc)
+    by_line (inr (says.Lasting waits, f, e)) = absurd (cc)
     by_line (inr (says.Client c, f, e)) = absurd (cc)
     by_line (inr (says.Event x, f, e)) = absurd (cc)
     by_line (inr (says.Server at, f, e)) =
-        let own : Schedule = record { service = kind; server = at; profile = Plain; twin = false; marks = None; clients = []; events = [] } in
+        let own : Schedule = record { service = kind; server = at; profile = Plain; twin = false; marks = None; lasting = None; clients = []; events = [] } in
         let same : schedule ≡ own = cc in
         let a : List ℕ = canonical_line Empty (says.Service kind) in
         let b : List ℕ = canonical_line (Named kind) (says.Server at) in
@@ -226,7 +231,7 @@ begun_told before line schedule h none some r = by_line (after_told r.number (Be
     -- no line leaves the header as it was
     no_more : header schedule ≡ header before → ⊥
     no_more e =
-        let whole : codes "ftreplay 1\n" ++ (bytes ++ line) ≡ codes "ftreplay 1\n" ++ bytes = sym r.written ∙ (e ∙ header_is before h.one_logger h.unmarked none) in
+        let whole : codes "ftreplay 1\n" ++ (bytes ++ line) ≡ codes "ftreplay 1\n" ++ bytes = sym r.written ∙ (e ∙ header_is before h.one_logger h.unmarked h.fleeting none) in
         let same : length (bytes ++ line) ≡ length bytes = ap length (append_cancel_left (codes "ftreplay 1\n") (bytes ++ line) bytes whole) in
         let more : length (bytes ++ line) ≡ length bytes + length line = length-append bytes line in
         omega (arith, same, more, some)
@@ -242,6 +247,9 @@ begun_told before line schedule h none some r = by_line (after_told r.number (Be
     by_line (inr (says.Marks every, f, e)) =
         let same : schedule ≡ record before { marks = Some every } = cc in
         absurd (true≢false (sym (ap is_none r.unmarked) ∙ ap (λ s. is_none s.marks) same))
+    by_line (inr (says.Lasting waits, f, e)) =
+        let same : schedule ≡ record before { lasting = Some waits } = cc in
+        absurd (true≢false (sym (ap is_none r.fleeting) ∙ ap (λ s. is_none s.lasting) same))
     by_line (inr (says.Event x, f, e)) =
         let same : schedule ≡ record before { events = before.events ++ x ∷ [] } = cc in absurd (no_more (ap header same ∙ no_events before x))
     by_line (inr (says.Client c, f, e)) =
@@ -249,9 +257,9 @@ begun_told before line schedule h none some r = by_line (after_told r.number (Be
         let same : schedule ≡ later = cc in
         let b : List ℕ = schedule_line (length before.clients + 1) c in
         let written : codes "ftreplay 1\n" ++ (bytes ++ line) ≡ codes "ftreplay 1\n" ++ (bytes ++ b) =
-        sym r.written ∙ (ap header same ∙ (sym (client_text before c (codes "ftreplay 1\n" ++ bytes) b (sym (header_is before h.one_logger h.unmarked none)) refl) ∙ append_assoc (codes "ftreplay 1\n") bytes b)) in
+        sym r.written ∙ (ap header same ∙ (sym (client_text before c (codes "ftreplay 1\n" ++ bytes) b (sym (header_is before h.one_logger h.unmarked h.fleeting none)) refl) ∙ append_assoc (codes "ftreplay 1\n") bytes b)) in
         let spelled : line ≡ b = append_cancel_left bytes line b (append_cancel_left (codes "ftreplay 1\n") (bytes ++ line) (bytes ++ b) written) in
-        let own : codes "ftreplay 1\n" ++ schedule_bytes (Begun later) ≡ codes "ftreplay 1\n" ++ (bytes ++ line) = sym (header_is later h.one_logger h.unmarked none) ∙ (ap header (sym same) ∙ r.written) in
+        let own : codes "ftreplay 1\n" ++ schedule_bytes (Begun later) ≡ codes "ftreplay 1\n" ++ (bytes ++ line) = sym (header_is later h.one_logger h.unmarked h.fleeting none) ∙ (ap header (sym same) ∙ r.written) in
         let size : length (schedule_bytes (Begun later)) ≡ length (bytes ++ line) = ap length (append_cancel_left (codes "ftreplay 1\n") (schedule_bytes (Begun later)) (bytes ++ line) own) in
         let canonical : IsCanonical (Begun before) (says.Client c) line = record { spelled = spelled; accepted = f; short = fits bytes line (schedule_bytes (Begun later)) some size r.short } in
         inl (says.Client c, (tt, canonical), ap (λ d. Continues (InHeader d)) e)
@@ -263,10 +271,10 @@ begun_told before line schedule h none some r = by_line (after_told r.number (Be
         let same : schedule ≡ later = said ∙ ap (λ p. let s : Schedule = record before { profile = p } in s) naming.named in
         let b : List ℕ = profile_line Wan in
         let written : codes "ftreplay 1\n" ++ (bytes ++ line) ≡ codes "ftreplay 1\n" ++ (bytes ++ b) =
-        sym r.written ∙ (ap header same ∙ (sym (profile_text before (codes "ftreplay 1\n" ++ bytes) b wide h.one_logger h.unmarked (sym (header_is before h.one_logger h.unmarked none)) refl)
+        sym r.written ∙ (ap header same ∙ (sym (profile_text before (codes "ftreplay 1\n" ++ bytes) b wide h.one_logger h.unmarked h.fleeting (sym (header_is before h.one_logger h.unmarked h.fleeting none)) refl)
         ∙ append_assoc (codes "ftreplay 1\n") bytes b)) in
         let spelled : line ≡ b = append_cancel_left bytes line b (append_cancel_left (codes "ftreplay 1\n") (bytes ++ line) (bytes ++ b) written) in
-        let own : codes "ftreplay 1\n" ++ schedule_bytes (Begun later) ≡ codes "ftreplay 1\n" ++ (bytes ++ line) = sym (header_is later h.one_logger h.unmarked none) ∙ (ap header (sym same) ∙ r.written) in
+        let own : codes "ftreplay 1\n" ++ schedule_bytes (Begun later) ≡ codes "ftreplay 1\n" ++ (bytes ++ line) = sym (header_is later h.one_logger h.unmarked h.fleeting none) ∙ (ap header (sym same) ∙ r.written) in
         let size : length (schedule_bytes (Begun later)) ≡ length (bytes ++ line) = ap length (append_cancel_left (codes "ftreplay 1\n") (schedule_bytes (Begun later)) (bytes ++ line) own) in
         let accepted : line_of (Begun before) (take (length line - 1) line) ≡ Ok (says.Profile Wan) = f ∙ ap (λ p. Ok (says.Profile p)) naming.named in
         let canonical : IsCanonical (Begun before) (says.Profile Wan) line = record { spelled = spelled; accepted = accepted; short = fits bytes line (schedule_bytes (Begun later)) some size r.short } in
@@ -291,16 +299,16 @@ no_line (Begun schedule) line h never = inr ((λ l c. never l c.0 c.1), refl)
 
 -- a line that may follow is read with the header before it
 whole_read : (bytes line : List ℕ) (draft : Draft) (l : Line) (schedule : Schedule) → Reads bytes draft → is_full draft ≡ false → IsCanonical draft l line
-    → with_line draft l ≡ Begun schedule → schedule.twin ≡ false → schedule.marks ≡ None → schedule.events ≡ [] → header schedule ≡ codes "ftreplay 1\n" ++ (bytes ++ line)
+    → with_line draft l ≡ Begun schedule → schedule.twin ≡ false → schedule.marks ≡ None → schedule.lasting ≡ None → schedule.events ≡ [] → header schedule ≡ codes "ftreplay 1\n" ++ (bytes ++ line)
     → header_in (codes "ftreplay 1\n" ++ (bytes ++ line)) ≡ Some schedule
-whole_read bytes line draft l schedule r full c e one unmarked none written =
+whole_read bytes line draft l schedule r full c e one unmarked fleeting none written =
     let text : List ℕ = codes "ftreplay 1\n" ++ (bytes ++ line) in
     let reads : Reads (bytes ++ line) (Begun schedule) = subst (Reads (bytes ++ line)) e (more_read bytes line draft l r c full) in
-    let same : schedule_bytes (Begun schedule) ≡ bytes ++ line = append_cancel_left (codes "ftreplay 1\n") (schedule_bytes (Begun schedule)) (bytes ++ line) (sym (header_is schedule one unmarked none) ∙ written) in
+    let same : schedule_bytes (Begun schedule) ≡ bytes ++ line = append_cancel_left (codes "ftreplay 1\n") (schedule_bytes (Begun schedule)) (bytes ++ line) (sym (header_is schedule one unmarked fleeting none) ∙ written) in
     let short : length (schedule_bytes (Begun schedule)) - 1 ≤ 8388608 = subst FitsLimit e c.short in
     let few : length (bytes ++ line) - 1 ≤ 8388608 = subst (λ t. length t - 1 ≤ 8388608) same short in
     let read : read_text (own_text text) ≡ Ok schedule = ap read_text (own_is bytes line) ∙ spelled_by (bytes ++ line) schedule reads few in
-    let test : is_header_of schedule text ≡ true = both_true (both_true (ap not one) (ap is_none unmarked)) (ap (λ t. bytes_eq t text) written ∙ bytes_same text) in
+    let test : is_header_of schedule text ≡ true = both_true (both_true (both_true (ap not one) (ap is_none unmarked)) (ap is_none fleeting)) (ap (λ t. bytes_eq t text) written ∙ bytes_same text) in
     ap (λ r. if_header r text) read ∙ ap (λ b. if b then Some schedule else None) test
 
 some_schedule : (draft : Draft) (line : List ℕ) (l : Line) → IsHeaderSoFar draft → IsNext draft l → IsCanonical draft l line
@@ -310,24 +318,26 @@ some_schedule (Named kind) line (says.Service other) h n c = absurd n
 some_schedule (Named kind) line (says.Profile profile) h n c = absurd n
 some_schedule (Named kind) line says.Twin h n c = absurd n
 some_schedule (Named kind) line (says.Marks every) h n c = absurd n
+some_schedule (Named kind) line (says.Lasting waits) h n c = absurd n
 some_schedule (Named kind) line (says.Client client) h n c = absurd n
 some_schedule (Named kind) line (says.Event x) h n c = absurd n
 some_schedule (Named kind) line (says.Server at) h n c =
-    let own : Schedule = record { service = kind; server = at; profile = Plain; twin = false; marks = None; clients = []; events = [] } in
+    let own : Schedule = record { service = kind; server = at; profile = Plain; twin = false; marks = None; lasting = None; clients = []; events = [] } in
     let a : List ℕ = canonical_line Empty (says.Service kind) in
     let written : header own ≡ codes "ftreplay 1\n" ++ (a ++ line) = sym (server_text kind at (codes "ftreplay 1\n" ++ a) line refl c.spelled) ∙ append_assoc (codes "ftreplay 1\n") a line in
-    ap is_some (whole_read a line (Named kind) (says.Server at) own (named_read kind) refl c refl refl refl refl written)
+    ap is_some (whole_read a line (Named kind) (says.Server at) own (named_read kind) refl c refl refl refl refl refl written)
 some_schedule (Begun before) line (says.Service other) h n c = absurd n
 some_schedule (Begun before) line (says.Server at) h n c = absurd n
 some_schedule (Begun before) line says.Twin h n c = absurd n
 some_schedule (Begun before) line (says.Marks every) h n c = absurd n
+some_schedule (Begun before) line (says.Lasting waits) h n c = absurd n
 some_schedule (Begun before) line (says.Event x) h n c = absurd n
 some_schedule (Begun before) line (says.Client client) h n c =
     let later : Schedule = record before { clients = before.clients ++ client ∷ [] } in
     let bytes : List ℕ = schedule_bytes (Begun before) in
     let written : header later ≡ codes "ftreplay 1\n" ++ (bytes ++ line) =
-    sym (client_text before client (codes "ftreplay 1\n" ++ bytes) line (sym (header_is before h.0.one_logger h.0.unmarked h.1)) c.spelled) ∙ append_assoc (codes "ftreplay 1\n") bytes line in
-    ap is_some (whole_read bytes line (Begun before) (says.Client client) later (begun_read before h.0 h.1) (not_full (Begun before) h) c refl h.0.one_logger h.0.unmarked h.1 written)
+    sym (client_text before client (codes "ftreplay 1\n" ++ bytes) line (sym (header_is before h.0.one_logger h.0.unmarked h.0.fleeting h.1)) c.spelled) ∙ append_assoc (codes "ftreplay 1\n") bytes line in
+    ap is_some (whole_read bytes line (Begun before) (says.Client client) later (begun_read before h.0 h.1) (not_full (Begun before) h) c refl h.0.one_logger h.0.unmarked h.0.fleeting h.1 written)
 some_schedule (Begun before) line (says.Profile profile) h n c =
     let naming : IsNaming before profile = profile_stands before (take (length line - 1) line) profile c.accepted in
     let wide : IsNaming before Wan = record { named = refl; unnamed = naming.unnamed; alone = naming.alone } in
@@ -335,9 +345,9 @@ some_schedule (Begun before) line (says.Profile profile) h n c =
     let later : Schedule = record before { profile = Wan } in
     let bytes : List ℕ = schedule_bytes (Begun before) in
     let written : header later ≡ codes "ftreplay 1\n" ++ (bytes ++ line) =
-    sym (profile_text before (codes "ftreplay 1\n" ++ bytes) line wide h.0.one_logger h.0.unmarked (sym (header_is before h.0.one_logger h.0.unmarked h.1)) named.spelled)
+    sym (profile_text before (codes "ftreplay 1\n" ++ bytes) line wide h.0.one_logger h.0.unmarked h.0.fleeting (sym (header_is before h.0.one_logger h.0.unmarked h.0.fleeting h.1)) named.spelled)
     ∙ append_assoc (codes "ftreplay 1\n") bytes line in
-    ap is_some (whole_read bytes line (Begun before) (says.Profile Wan) later (begun_read before h.0 h.1) (not_full (Begun before) h) named refl h.0.one_logger h.0.unmarked h.1 written)
+    ap is_some (whole_read bytes line (Begun before) (says.Profile Wan) later (begun_read before h.0 h.1) (not_full (Begun before) h) named refl h.0.one_logger h.0.unmarked h.0.fleeting h.1 written)
 
 -- the text, cut where the line begins
 text_is : (text : List ℕ) (start : ℕ) (draft : Draft) → take start text ≡ header_so_far draft → text ≡ codes "ftreplay 1\n" ++ (schedule_bytes draft ++ drop start text)

@@ -10,15 +10,17 @@ use Rattle.ft_io.proofs.Booleans.{left_true, right_true}
 use Rattle.server_trait.specs.Service.{AreBytes}
 use Rattle.seq_arith.specs.Message.{Body, Message}
 use Rattle.seq_arith.specs.Message.{Body as bodies}
-use Rattle.seq_arith.specs.MessageGrammar.{all_kinds, fields_of, is_in_range, all_in_range, has_length, behind_at, kind_of, numbers_of, behind_of, lens_of, lens_in, lens_bytes, flag, body_in, is_sound, message_length, AllFit}
+use Rattle.seq_arith.specs.MessageGrammar.{all_kinds, fields_of, is_in_range_by, all_in_range_by, most_ending, has_length, behind_at, kind_of, numbers_of, behind_of, lens_of, lens_in, lens_bytes, flag, body_in, message_length, AllFit, is_sound_by}
+use Rattle.seq_arith.specs.declared.kinds.Grammar.{Grammar}
+use Rattle.seq_arith.specs.declared.kinds.Grammar.TheVariants as grammars
 use Rattle.seq_arith.specs.declared.kinds.Field.{Field}
 use Rattle.seq_arith.specs.declared.kinds.Field.TheVariants as fields
 use Rattle.seq_arith.specs.declared.kinds.Kind.{Kind}
 use Rattle.seq_arith.specs.declared.kinds.Kind.TheVariants as kinds
 use Rattle.seq_arith.proofs.MessageSpelling.{lens_back}
 use Rattle.ft_model.specs.Report.{name_of, field_words, message_words}
-use Rattle.ft_model.specs.Texts.{hex_text, list_text, bit_text}
-use Rattle.ft_model.specs.Wire.{CanBeTold}
+use Rattle.ft_model.specs.Texts.{hex_text, list_text, bit_text, ending_text}
+use Rattle.ft_model.specs.Wire.{CanBeToldBy}
 use Rattle.ft_model.proofs.Wires.{bytes_of_lens, length_of_lens, lengths_low}
 use Rattle.line_check.specs.Words.{number_word, byte_count, lens_count, kind_name, kind_among, kind_named, columns_of, last_named, counted, nothing_more, behind_in, columns_fit, rest_fits, body_fits, is_message}
 use Rattle.line_check.proofs.Spelled.{same_bytes, bytes_same, number_told, number_shown, byte_count_told, byte_count_shown, lens_told, lens_shown, AreLengths}
@@ -133,6 +135,20 @@ flag_is zero h = refl
 flag_is (suc zero) h = refl
 flag_is (suc (suc n)) h = absurd (omega (arith, h))
 
+-- how a Data ends, as a number
+ending_told : (fin more : Bool) → ending_text fin more ≡ decimal (flag fin + (if more then 2 else 0))
+unfolding ending_text bit_text
+ending_told true true = sym (decimal_digit 3 (omega arith))
+ending_told true false = sym (decimal_digit 1 (omega arith))
+ending_told false true = sym (decimal_digit 2 (omega arith))
+ending_told false false = sym (decimal_digit 0 (omega arith))
+
+ending_is : (n : ℕ) → n ≤ 2 → flag (nat_eq n 1) + (if nat_eq n 2 then 2 else 0) ≡ n
+ending_is zero h = refl
+ending_is (suc zero) h = refl
+ending_is (suc (suc zero)) h = refl
+ending_is (suc (suc (suc n))) h = absurd (omega (arith, h))
+
 -- the words after a message's fields
 abbrev tail_words : Body → List (List ℕ)
 tail_words bodies.HelloMsg = []
@@ -165,7 +181,7 @@ words_are (bodies.CutsMsg key first) = refl
 words_are (bodies.LensMsg key first lens) = refl
 words_are (bodies.OpenMsg numbers) = refl
 words_are (bodies.OpenedMsg numbers) = refl
-words_are (bodies.DataMsg part) = rw (flag_text part.fin) refl
+words_are (bodies.DataMsg part) = rw (ending_told part.fin part.more) refl
 words_are (bodies.StableMsg kept) = rw (flag_text kept.fin) refl
 words_are (bodies.ReadMsg key index len) = refl
 words_are (bodies.ReadsMsg kept) = rw (flag_text kept.fin) refl
@@ -207,37 +223,48 @@ abbrev field_or : Option Field → Field
 field_or (Some f) = f
 field_or None = fields.Flag
 
-some_flag : (field : Field) → Some field ≡ Some fields.Flag → field ≡ fields.Flag
-some_flag field e = ap field_or e
+-- the number of a field is in the field's range
+range_at : (grammar : Grammar) (boot behind : ℕ) (field : Field) (all : List Field) (numbers : List ℕ) (at : ℕ) → all_in_range_by grammar boot behind all numbers ≡ true
+    → field_at all at ≡ Some field → is_in_range_by grammar boot behind field (slice_index numbers at) ≡ true
+range_at grammar boot behind field [] numbers at ranged is = absurd (true≢false (sym (ap is_some is)))
+range_at grammar boot behind field (other ∷ rest) [] at ranged is = absurd (true≢false (sym ranged))
+range_at grammar boot behind field (other ∷ rest) (n ∷ numbers) zero ranged is =
+    ap (λ f. is_in_range_by grammar boot behind f n) (sym (ap field_or is)) ∙ left_true (is_in_range_by grammar boot behind other n) _ ranged
+range_at grammar boot behind field (other ∷ rest) (n ∷ numbers) (suc at) ranged is =
+    range_at grammar boot behind field rest numbers at (right_true (is_in_range_by grammar boot behind other n) _ ranged) is
 
-flag_range : (boot behind : ℕ) (all : List Field) (numbers : List ℕ) (at : ℕ) → all_in_range boot behind all numbers ≡ true → field_at all at ≡ Some fields.Flag → slice_index numbers at ≤ 1
-flag_range boot behind [] numbers at ranged is = absurd (true≢false (sym (ap is_some is)))
-flag_range boot behind (field ∷ rest) [] at ranged is = absurd (true≢false (sym ranged))
-flag_range boot behind (field ∷ rest) (n ∷ numbers) zero ranged is =
-    let e : is_in_range boot behind fields.Flag n ≡ true = ap (λ f. is_in_range boot behind f n) (sym (some_flag field is)) ∙ left_true (is_in_range boot behind field n) _ ranged in
-    leb-true n 1 e
-flag_range boot behind (field ∷ rest) (n ∷ numbers) (suc at) ranged is = flag_range boot behind rest numbers at (right_true (is_in_range boot behind field n) _ ranged) is
+flag_range : (grammar : Grammar) (boot behind : ℕ) (all : List Field) (numbers : List ℕ) (at : ℕ) → all_in_range_by grammar boot behind all numbers ≡ true
+    → field_at all at ≡ Some fields.Flag → slice_index numbers at ≤ 1
+flag_range grammar boot behind all numbers at ranged is = leb-true (slice_index numbers at) 1 (range_at grammar boot behind fields.Flag all numbers at ranged is)
 
-numbers_in_body : (kind : Kind) (boot behind : ℕ) (numbers bytes : List ℕ) → AllFit (fields_of kind) numbers → all_in_range boot behind (fields_of kind) numbers ≡ true → numbers_of (body_in kind numbers bytes) ≡ numbers
+ending_low : (grammar : Grammar) (n : ℕ) → nat_le n (most_ending grammar) ≡ true → n ≤ 2
+ending_low grammars.Plain n h = omega (arith, leb-true n 1 h)
+ending_low grammars.Wide n h = leb-true n 2 h
+
+ending_range : (grammar : Grammar) (boot behind : ℕ) (numbers : List ℕ) → all_in_range_by grammar boot behind (fields_of kinds.Data) numbers ≡ true → slice_index numbers 4 ≤ 2
+ending_range grammar boot behind numbers ranged =
+    ending_low grammar (slice_index numbers 4) (range_at grammar boot behind fields.Ending (fields_of kinds.Data) numbers 4 ranged refl)
+
+numbers_in_body : (grammar : Grammar) (kind : Kind) (boot behind : ℕ) (numbers bytes : List ℕ) → AllFit (fields_of kind) numbers → all_in_range_by grammar boot behind (fields_of kind) numbers ≡ true → numbers_of (body_in kind numbers bytes) ≡ numbers
 unfolding elements
-numbers_in_body kinds.Hello boot behind numbers bytes fit ranged = listed (fields_of kinds.Hello) numbers fit
-numbers_in_body kinds.Summary boot behind numbers bytes fit ranged = listed (fields_of kinds.Summary) numbers fit
-numbers_in_body kinds.List boot behind numbers bytes fit ranged = listed (fields_of kinds.List) numbers fit
-numbers_in_body kinds.Entry boot behind numbers bytes fit ranged = rw (flag_is (slice_index numbers 7) (flag_range boot behind (fields_of kinds.Entry) numbers 7 ranged refl), flag_is (slice_index numbers 8) (flag_range boot behind (fields_of kinds.Entry) numbers 8 ranged refl)) (listed (fields_of kinds.Entry) numbers fit)
-numbers_in_body kinds.Bytes boot behind numbers bytes fit ranged = listed (fields_of kinds.Bytes) numbers fit
-numbers_in_body kinds.Part boot behind numbers bytes fit ranged = listed (fields_of kinds.Part) numbers fit
-numbers_in_body kinds.Cuts boot behind numbers bytes fit ranged = listed (fields_of kinds.Cuts) numbers fit
-numbers_in_body kinds.Lens boot behind numbers bytes fit ranged = listed (fields_of kinds.Lens) numbers fit
-numbers_in_body kinds.Open boot behind numbers bytes fit ranged = listed (fields_of kinds.Open) numbers fit
-numbers_in_body kinds.Opened boot behind numbers bytes fit ranged = listed (fields_of kinds.Opened) numbers fit
-numbers_in_body kinds.Data boot behind numbers bytes fit ranged = rw (flag_is (slice_index numbers 4) (flag_range boot behind (fields_of kinds.Data) numbers 4 ranged refl)) (listed (fields_of kinds.Data) numbers fit)
-numbers_in_body kinds.Stable boot behind numbers bytes fit ranged = rw (flag_is (slice_index numbers 3) (flag_range boot behind (fields_of kinds.Stable) numbers 3 ranged refl)) (listed (fields_of kinds.Stable) numbers fit)
-numbers_in_body kinds.Read boot behind numbers bytes fit ranged = listed (fields_of kinds.Read) numbers fit
-numbers_in_body kinds.Reads boot behind numbers bytes fit ranged = rw (flag_is (slice_index numbers 3) (flag_range boot behind (fields_of kinds.Reads) numbers 3 ranged refl)) (listed (fields_of kinds.Reads) numbers fit)
-numbers_in_body kinds.Done boot behind numbers bytes fit ranged = listed (fields_of kinds.Done) numbers fit
-numbers_in_body kinds.Ended boot behind numbers bytes fit ranged = listed (fields_of kinds.Ended) numbers fit
-numbers_in_body kinds.Stale boot behind numbers bytes fit ranged = listed (fields_of kinds.Stale) numbers fit
-numbers_in_body kinds.Full boot behind numbers bytes fit ranged = listed (fields_of kinds.Full) numbers fit
+numbers_in_body grammar kinds.Hello boot behind numbers bytes fit ranged = listed (fields_of kinds.Hello) numbers fit
+numbers_in_body grammar kinds.Summary boot behind numbers bytes fit ranged = listed (fields_of kinds.Summary) numbers fit
+numbers_in_body grammar kinds.List boot behind numbers bytes fit ranged = listed (fields_of kinds.List) numbers fit
+numbers_in_body grammar kinds.Entry boot behind numbers bytes fit ranged = rw (flag_is (slice_index numbers 7) (flag_range grammar boot behind (fields_of kinds.Entry) numbers 7 ranged refl), flag_is (slice_index numbers 8) (flag_range grammar boot behind (fields_of kinds.Entry) numbers 8 ranged refl)) (listed (fields_of kinds.Entry) numbers fit)
+numbers_in_body grammar kinds.Bytes boot behind numbers bytes fit ranged = listed (fields_of kinds.Bytes) numbers fit
+numbers_in_body grammar kinds.Part boot behind numbers bytes fit ranged = listed (fields_of kinds.Part) numbers fit
+numbers_in_body grammar kinds.Cuts boot behind numbers bytes fit ranged = listed (fields_of kinds.Cuts) numbers fit
+numbers_in_body grammar kinds.Lens boot behind numbers bytes fit ranged = listed (fields_of kinds.Lens) numbers fit
+numbers_in_body grammar kinds.Open boot behind numbers bytes fit ranged = listed (fields_of kinds.Open) numbers fit
+numbers_in_body grammar kinds.Opened boot behind numbers bytes fit ranged = listed (fields_of kinds.Opened) numbers fit
+numbers_in_body grammar kinds.Data boot behind numbers bytes fit ranged = rw (ending_is (slice_index numbers 4) (ending_range grammar boot behind numbers ranged)) (listed (fields_of kinds.Data) numbers fit)
+numbers_in_body grammar kinds.Stable boot behind numbers bytes fit ranged = rw (flag_is (slice_index numbers 3) (flag_range grammar boot behind (fields_of kinds.Stable) numbers 3 ranged refl)) (listed (fields_of kinds.Stable) numbers fit)
+numbers_in_body grammar kinds.Read boot behind numbers bytes fit ranged = listed (fields_of kinds.Read) numbers fit
+numbers_in_body grammar kinds.Reads boot behind numbers bytes fit ranged = rw (flag_is (slice_index numbers 3) (flag_range grammar boot behind (fields_of kinds.Reads) numbers 3 ranged refl)) (listed (fields_of kinds.Reads) numbers fit)
+numbers_in_body grammar kinds.Done boot behind numbers bytes fit ranged = listed (fields_of kinds.Done) numbers fit
+numbers_in_body grammar kinds.Ended boot behind numbers bytes fit ranged = listed (fields_of kinds.Ended) numbers fit
+numbers_in_body grammar kinds.Stale boot behind numbers bytes fit ranged = listed (fields_of kinds.Stale) numbers fit
+numbers_in_body grammar kinds.Full boot behind numbers bytes fit ranged = listed (fields_of kinds.Full) numbers fit
 
 -- the bytes after a kind's fields
 abbrev Follows : Kind → List ℕ → Type 0
@@ -399,18 +426,18 @@ behind_told kinds.Stale words n e = let t = none_told n words e in record { byte
 behind_told kinds.Full words n e = let t = none_told n words e in record { bytes = []; follows = refl; count = t.1; told = λ numbers. t.0 }
 
 -- a message by its kind, its boot and what follows
-sound_message : (kind : Kind) (boot : ℕ) (words : List (List ℕ)) (n : ℕ) → boot < 256 ^ 8 → nat_le 1 boot ≡ true → Behind kind (drop (2 * length (columns_of kind)) words) n
-    → has_length kind (behind_at kind + n) ≡ true → columns_fit boot n (columns_of kind) words ≡ true
-    → (m : Message) × CanBeTold m × (kind_of m.body ≡ kind) × (m.boot ≡ boot) × (words ≡ field_words m.body)
-unfolding is_sound
-sound_message kind boot words n small least b size fit =
-    let read : (numbers : List ℕ) × IsRead boot n (columns_of kind) words numbers = columns_told boot n (columns_of kind) words fit in
+sound_message : (grammar : Grammar) (kind : Kind) (boot : ℕ) (words : List (List ℕ)) (n : ℕ) → boot < 256 ^ 8 → nat_le 1 boot ≡ true → Behind kind (drop (2 * length (columns_of kind)) words) n
+    → has_length kind (behind_at kind + n) ≡ true → columns_fit grammar boot n (columns_of kind) words ≡ true
+    → (m : Message) × CanBeToldBy grammar m × (kind_of m.body ≡ kind) × (m.boot ≡ boot) × (words ≡ field_words m.body)
+unfolding is_sound_by
+sound_message grammar kind boot words n small least b size fit =
+    let read : (numbers : List ℕ) × IsRead grammar boot n (columns_of kind) words numbers = columns_told grammar boot n (columns_of kind) words fit in
     let numbers : List ℕ = read.0 in
     let fits : AllFit (fields_of kind) numbers = subst (λ fs. AllFit fs numbers) (fields_are kind) read.1.fit in
-    let ranged : all_in_range boot n (fields_of kind) numbers ≡ true = ap (λ fs. all_in_range boot n fs numbers) (sym (fields_are kind)) ∙ read.1.ranged in
+    let ranged : all_in_range_by grammar boot n (fields_of kind) numbers ≡ true = ap (λ fs. all_in_range_by grammar boot n fs numbers) (sym (fields_are kind)) ∙ read.1.ranged in
     let body : Body = body_in kind numbers b.bytes in
     let same_kind : kind_of body ≡ kind = kind_in kind numbers b.bytes in
-    let same_numbers : numbers_of body ≡ numbers = numbers_in_body kind boot n numbers b.bytes fits ranged in
+    let same_numbers : numbers_of body ≡ numbers = numbers_in_body grammar kind boot n numbers b.bytes fits ranged in
     let same_behind : behind_of body ≡ b.bytes = behind_again kind numbers b.bytes b.follows in
     let len : length (behind_of body) ≡ n = ap length same_behind ∙ b.count in
     let told : field_words body ≡ column_words (columns_of kind) numbers ++ tail_words body =
@@ -418,8 +445,8 @@ sound_message kind boot words n small least b size fit =
     let words_told : words ≡ field_words body = read.1.words_are ∙ (ap (λ t. column_words (columns_of kind) numbers ++ t) (b.told numbers) ∙ sym told) in
     let fit_body : AllFit (fields_of (kind_of body)) (numbers_of body) =
     subst (λ k. AllFit (fields_of k) (numbers_of body)) (sym same_kind) (subst (λ ns. AllFit (fields_of kind) ns) (sym same_numbers) fits) in
-    let range_body : all_in_range boot (length (behind_of body)) (fields_of (kind_of body)) (numbers_of body) ≡ true =
-    ap₂ (λ k ns. all_in_range boot (length (behind_of body)) (fields_of k) ns) same_kind same_numbers ∙ (ap (λ l. all_in_range boot l (fields_of kind) numbers) len ∙ ranged) in
+    let range_body : all_in_range_by grammar boot (length (behind_of body)) (fields_of (kind_of body)) (numbers_of body) ≡ true =
+    ap₂ (λ k ns. all_in_range_by grammar boot (length (behind_of body)) (fields_of k) ns) same_kind same_numbers ∙ (ap (λ l. all_in_range_by grammar boot l (fields_of kind) numbers) len ∙ ranged) in
     let sized : has_length (kind_of body) (message_length body) ≡ true =
     ap₂ (λ k l. has_length k (behind_at k + l)) same_kind len ∙ size in (
       record { boot = boot; body = body },
@@ -432,30 +459,30 @@ sound_message kind boot words n small least b size fit =
       words_told,
     )
 
-pub message_told : (words : List (List ℕ)) → is_message words ≡ true → (m : Message) × CanBeTold m × (words ≡ message_words m)
+pub message_told : (grammar : Grammar) (words : List (List ℕ)) → is_message grammar words ≡ true → (m : Message) × CanBeToldBy grammar m × (words ≡ message_words m)
 unfolding is_message message_words
-message_told [] e = absurd (true≢false (sym e))
-message_told (name ∷ []) e = absurd (true≢false (sym e))
-message_told (name ∷ label ∷ []) e = absurd (true≢false (sym e))
-message_told (name ∷ label ∷ number ∷ words) e =
+message_told grammar [] e = absurd (true≢false (sym e))
+message_told grammar (name ∷ []) e = absurd (true≢false (sym e))
+message_told grammar (name ∷ label ∷ []) e = absurd (true≢false (sym e))
+message_told grammar (name ∷ label ∷ number ∷ words) e =
     by_kind (kind_named name) (number_word (2 ^ 64 - 1) number) refl refl (right_true (bytes_eq label (codes "boot")) _ e)
   where
     by_count : (kind : Kind) (boot : ℕ) (o : Option ℕ) → kind_named name ≡ Some kind → number_word (2 ^ 64 - 1) number ≡ Some boot → nat_le 1 boot ≡ true
-        → behind_in kind (drop (2 * length (columns_of kind)) words) ≡ o → rest_fits kind boot o words ≡ true
-        → (m : Message) × CanBeTold m × (name ∷ label ∷ number ∷ words ≡ name_of m.body ∷ codes "boot" ∷ decimal m.boot ∷ field_words m.body)
+        → behind_in kind (drop (2 * length (columns_of kind)) words) ≡ o → rest_fits grammar kind boot o words ≡ true
+        → (m : Message) × CanBeToldBy grammar m × (name ∷ label ∷ number ∷ words ≡ name_of m.body ∷ codes "boot" ∷ decimal m.boot ∷ field_words m.body)
     by_count kind boot None k b least h f = absurd (true≢false (sym f))
     by_count kind boot (Some n) k b least h f =
         let t : (boot ≤ 2 ^ 64 - 1) × (number ≡ decimal boot) = number_told (2 ^ 64 - 1) boot number b in
         let small : boot < 256 ^ 8 = omega (arith, t.0) in
         let size : has_length kind (behind_at kind + n) ≡ true = left_true (has_length kind (behind_at kind + n)) _ f in
-        let m = sound_message kind boot words n small least (behind_told kind (drop (2 * length (columns_of kind)) words) n h) size (right_true (has_length kind (behind_at kind + n)) _ f) in
+        let m = sound_message grammar kind boot words n small least (behind_told kind (drop (2 * length (columns_of kind)) words) n h) size (right_true (has_length kind (behind_at kind + n)) _ f) in
         let first : name ≡ name_of m.0.body = kind_told name kind k ∙ (ap kind_name (sym m.2) ∙ sym (name_is m.0.body)) in
         let second : label ≡ codes "boot" = same_bytes label (codes "boot") (left_true (bytes_eq label (codes "boot")) _ e) in
         let third : number ≡ decimal m.0.boot = t.1 ∙ ap decimal (sym m.3) in
         (m.0, m.1, ap₂ (λ x y. x ∷ y) first (ap₂ (λ x y. x ∷ y) second (ap₂ (λ x y. x ∷ y) third m.4)))
 
-    by_kind : (k : Option Kind) (b : Option ℕ) → kind_named name ≡ k → number_word (2 ^ 64 - 1) number ≡ b → body_fits k b words ≡ true
-        → (m : Message) × CanBeTold m × (name ∷ label ∷ number ∷ words ≡ name_of m.body ∷ codes "boot" ∷ decimal m.boot ∷ field_words m.body)
+    by_kind : (k : Option Kind) (b : Option ℕ) → kind_named name ≡ k → number_word (2 ^ 64 - 1) number ≡ b → body_fits grammar k b words ≡ true
+        → (m : Message) × CanBeToldBy grammar m × (name ∷ label ∷ number ∷ words ≡ name_of m.body ∷ codes "boot" ∷ decimal m.boot ∷ field_words m.body)
     by_kind None b ek eb f = absurd (true≢false (sym f))
     by_kind (Some kind) None ek eb f = absurd (true≢false (sym f))
     by_kind (Some kind) (Some boot) ek eb f =
@@ -498,19 +525,19 @@ behind_shown (bodies.EndedMsg key) ls bs size = refl
 behind_shown (bodies.StaleMsg newer) ls bs size = refl
 behind_shown (bodies.FullMsg key) ls bs size = refl
 
-pub message_shown : (m : Message) → CanBeTold m → is_message (message_words m) ≡ true
-unfolding is_message message_words is_sound
-message_shown m h =
+pub message_shown : (grammar : Grammar) (m : Message) → CanBeToldBy grammar m → is_message grammar (message_words m) ≡ true
+unfolding is_message message_words is_sound_by
+message_shown grammar m h =
     let kind : Kind = kind_of m.body in
     let numbers : List ℕ = numbers_of m.body in
     let tail : List (List ℕ) = tail_words m.body in
     let behind : ℕ = length (behind_of m.body) in
-    let front : nat_le 1 m.boot && all_in_range m.boot behind (fields_of kind) numbers ≡ true = left_true (nat_le 1 m.boot && all_in_range m.boot behind (fields_of kind) numbers) _ h.0.sound in
-    let lens : list_all (λ len. nat_le len 2048) (lens_of m.body) ≡ true = right_true (nat_le 1 m.boot && all_in_range m.boot behind (fields_of kind) numbers) _ h.0.sound in
+    let front : nat_le 1 m.boot && all_in_range_by grammar m.boot behind (fields_of kind) numbers ≡ true = left_true (nat_le 1 m.boot && all_in_range_by grammar m.boot behind (fields_of kind) numbers) _ h.0.sound in
+    let lens : list_all (λ len. nat_le len 2048) (lens_of m.body) ≡ true = right_true (nat_le 1 m.boot && all_in_range_by grammar m.boot behind (fields_of kind) numbers) _ h.0.sound in
     let least : nat_le 1 m.boot ≡ true = left_true (nat_le 1 m.boot) _ front in
     let fit : AllFit (column_fields (columns_of kind)) numbers = subst (λ fs. AllFit fs numbers) (sym (fields_are kind)) h.0.numbers in
-    let ranged : all_in_range m.boot behind (column_fields (columns_of kind)) numbers ≡ true =
-    ap (λ fs. all_in_range m.boot behind fs numbers) (fields_are kind) ∙ right_true (nat_le 1 m.boot) _ front in
+    let ranged : all_in_range_by grammar m.boot behind (column_fields (columns_of kind)) numbers ≡ true =
+    ap (λ fs. all_in_range_by grammar m.boot behind fs numbers) (fields_are kind) ∙ right_true (nat_le 1 m.boot) _ front in
     let words : field_words m.body ≡ column_words (columns_of kind) numbers ++ tail = words_are m.body in
     let named_kind : kind_named (name_of m.body) ≡ Some kind = ap kind_named (name_is m.body) ∙ kind_shown kind in
     let boot_below : m.boot ≤ 2 ^ 64 - 1 = omega (arith, h.0.boot) in
@@ -519,9 +546,9 @@ message_shown m h =
     let rest : behind_in kind (drop (2 * length (columns_of kind)) (field_words m.body)) ≡ Some behind =
     ap (λ ws. behind_in kind (drop (2 * length (columns_of kind)) ws)) words
     ∙ (ap (behind_in kind) (behind_columns (columns_of kind) numbers tail fit) ∙ behind_shown m.body lens h.1 h.0.size) in
-    let columns : columns_fit m.boot behind (columns_of kind) (field_words m.body) ≡ true =
-    ap (columns_fit m.boot behind (columns_of kind)) words ∙ columns_shown m.boot behind (columns_of kind) numbers tail fit ranged in
+    let columns : columns_fit grammar m.boot behind (columns_of kind) (field_words m.body) ≡ true =
+    ap (columns_fit grammar m.boot behind (columns_of kind)) words ∙ columns_shown grammar m.boot behind (columns_of kind) numbers tail fit ranged in
     let size : has_length kind (behind_at kind + behind) ≡ true = h.0.size in
     both_true (bytes_same (codes "boot"))
-    (ap₂ (λ k b. body_fits k b (field_words m.body)) named_kind number
-    ∙ both_true least (ap (λ o. rest_fits kind m.boot o (field_words m.body)) rest ∙ both_true size columns))
+    (ap₂ (λ k b. body_fits grammar k b (field_words m.body)) named_kind number
+    ∙ both_true least (ap (λ o. rest_fits grammar kind m.boot o (field_words m.body)) rest ∙ both_true size columns))

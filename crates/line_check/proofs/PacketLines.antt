@@ -21,13 +21,15 @@ use Rattle.seq_arith.specs.Message.{Message}
 use Rattle.seq_arith.specs.Packet.{Segment}
 use Rattle.seq_arith.specs.PacketGrammar.{mss_option}
 use Rattle.seq_arith.specs.MessageGrammar.{AllFit}
+use Rattle.seq_arith.specs.declared.kinds.Grammar.{Grammar}
+use Rattle.seq_arith.specs.declared.kinds.Grammar.TheVariants.{Plain}
 use Rattle.ft_model.specs.Network.{Packet, source_of, destination_of}
 use Rattle.ft_model.specs.Network.Packet.{To_server, To_client, To_logger, From_logger}
 use Rattle.ft_model.specs.Readable.{IsWord, FitsU64, FitsKey, FitsClient, FitsSchedule, IsReadable}
 use Rattle.ft_model.specs.Report.{segment_words, message_words, content_words, packet_line, number_of_client, way_of}
 use Rattle.ft_model.specs.Schedule.{clients_of}
 use Rattle.ft_model.specs.Texts.{way_text, flags_text, mss_text, hex_text}
-use Rattle.ft_model.specs.Wire.{CanBeSent, CanBeTold}
+use Rattle.ft_model.specs.Wire.{CanBeSent, CanBeToldBy, HasWireBy}
 use Rattle.ft_model.specs.Words.{is}
 use Rattle.ft_model.specs.World.{is_apart, are_apart}
 use Rattle.ft_model.specs.declared.schedule.ClientLine.{ClientLine}
@@ -40,7 +42,7 @@ use Rattle.ft_model.proofs.ReportPackets.{way_fits}
 use Rattle.ft_model.proofs.ReportParts.{decimal_begin}
 use Rattle.ft_model.proofs.ReportWords.{IsDigit, digits_decimal, word_decimal}
 use Rattle.ft_model.proofs.Lists.{key_is}
-use Rattle.report_laws.specs.Transitions.{clients_in, IsPacketLine}
+use Rattle.report_laws.specs.Transitions.{clients_in, grammar_in, IsPacketLine}
 use Rattle.line_check.specs.declared.direction.Direction.{Direction}
 use Rattle.line_check.specs.declared.direction.Direction.TheVariants.{FromClient, ToClient, WithLogger}
 use Rattle.line_check.specs.Words.{number_word, byte_count, option_size, are_flags, columns_fit, segment_columns, sizes_fit, last_fits, text_fits, is_segment, ends_with, direction_of, is_client, content_fits, is_numbered, packet_words_fit, ends_with_feed, is_packet_text}
@@ -111,11 +113,11 @@ segment_told : (words : List (List ℕ)) → is_segment words ≡ true → Said 
 unfolding is_segment
 segment_told [] e = absurd (true≢false (sym e))
 segment_told (first ∷ words) e =
-    let rest : columns_fit 0 0 segment_columns words && text_fits (drop 6 words) ≡ true = right_true (are_flags first) _ e in
-    by_numbers (flags_told first (left_true (are_flags first) _ e)) (columns_told 0 0 segment_columns words (left_true (columns_fit 0 0 segment_columns words) _ rest))
-    (tail_told (drop 6 words) (right_true (columns_fit 0 0 segment_columns words) _ rest))
+    let rest : columns_fit Plain 0 0 segment_columns words && text_fits (drop 6 words) ≡ true = right_true (are_flags first) _ e in
+    by_numbers (flags_told first (left_true (are_flags first) _ e)) (columns_told Plain 0 0 segment_columns words (left_true (columns_fit Plain 0 0 segment_columns words) _ rest))
+    (tail_told (drop 6 words) (right_true (columns_fit Plain 0 0 segment_columns words) _ rest))
   where
-    by_numbers : (flags : ℕ) × (flags < 256) × (first ≡ flags_text flags) → (numbers : List ℕ) × IsRead 0 0 segment_columns words numbers → Tail (drop 6 words) → Said (first ∷ words)
+    by_numbers : (flags : ℕ) × (flags < 256) × (first ≡ flags_text flags) → (numbers : List ℕ) × IsRead Plain 0 0 segment_columns words numbers → Tail (drop 6 words) → Said (first ∷ words)
     by_numbers f ([], read) t = absurd read.fit
     by_numbers f (seq ∷ [], read) t = absurd read.fit.1
     by_numbers f (seq ∷ ack ∷ [], read) t = absurd read.fit.1.1
@@ -176,8 +178,8 @@ segment_shown s h =
     let fit : AllFit (column_fields segment_columns) (s.head.seq ∷ s.head.ack ∷ s.head.window ∷ []) =
     (omega (arith, h.0.seq), (omega (arith, h.0.ack), (omega (arith, h.0.window), tt))) in
     let tail : List (List ℕ) = codes "mss" ∷ mss_text s.head.mss ∷ codes "data" ∷ hex_text s.payload ∷ [] in
-    let columns : columns_fit 0 0 segment_columns (column_words segment_columns (s.head.seq ∷ s.head.ack ∷ s.head.window ∷ []) ++ tail) ≡ true =
-    columns_shown 0 0 segment_columns (s.head.seq ∷ s.head.ack ∷ s.head.window ∷ []) tail fit refl in
+    let columns : columns_fit Plain 0 0 segment_columns (column_words segment_columns (s.head.seq ∷ s.head.ack ∷ s.head.window ∷ []) ++ tail) ≡ true =
+    columns_shown Plain 0 0 segment_columns (s.head.seq ∷ s.head.ack ∷ s.head.window ∷ []) tail fit refl in
     let len : length (mss_option s.head.mss) ≡ size_of s.head.mss = option_length s.head.mss in
     let size : nat_le (40 + size_of s.head.mss + length s.payload) 1500 ≡ true = le-leb (40 + size_of s.head.mss + length s.payload) 1500 (omega (arith, len, h.0.size)) in
     let sizes : sizes_fit (option_size (mss_text s.head.mss)) (byte_count (hex_text s.payload)) ≡ true =
@@ -362,6 +364,7 @@ plain_way schedule (From_logger m) r = tt
 record Packeted (schedule : Schedule) (direction : List ℕ) (words : List (List ℕ)) : Type 0 where
   packet : Packet
   readable : IsReadable schedule.server (clients_in schedule) packet
+  written : HasWireBy (grammar_in schedule) packet
   way : direction ≡ way_text (way_of (clients_in schedule) packet)
   content : words ≡ content_words packet
 
@@ -369,7 +372,7 @@ server_key : Schedule → Key
 server_key schedule = record { ip = schedule.server.ip; port = schedule.server.port }
 
 content_told : (schedule : Schedule) (direction : List ℕ) (words : List (List ℕ)) → FitsSchedule schedule → are_apart schedule.server (clients_in schedule) ≡ true
-    → content_fits (length schedule.clients) (direction_of direction) words ≡ true → Packeted schedule direction words
+    → content_fits (grammar_in schedule) (length schedule.clients) (direction_of direction) words ≡ true → Packeted schedule direction words
 unfolding content_words way_text server_key
 content_told schedule direction words fits apart e = by_direction (direction_of direction) refl e
   where
@@ -379,13 +382,13 @@ content_told schedule direction words fits apart e = by_direction (direction_of 
     server_fits : FitsKey (server_key schedule)
     server_fits = (fits.ip, fits.port)
 
-    by_direction : (o : Option Direction) → direction_of direction ≡ o → content_fits (length schedule.clients) o words ≡ true → Packeted schedule direction words
+    by_direction : (o : Option Direction) → direction_of direction ≡ o → content_fits (grammar_in schedule) (length schedule.clients) o words ≡ true → Packeted schedule direction words
     by_direction None f g = absurd (true≢false (sym g))
-    by_direction (Some WithLogger) f g = by_logger (direction_told direction WithLogger f) (message_told words g)
+    by_direction (Some WithLogger) f g = by_logger (direction_told direction WithLogger f) (message_told (grammar_in schedule) words g)
       where
-        by_logger : (direction ≡ codes "S>L") ⊎ (direction ≡ codes "L>S") → (m : Message) × CanBeTold m × (words ≡ message_words m) → Packeted schedule direction words
-        by_logger (inl s) m = record { packet = To_logger m.0; readable = (tt, m.1); way = s; content = m.2 }
-        by_logger (inr s) m = record { packet = From_logger m.0; readable = (tt, m.1); way = s; content = m.2 }
+        by_logger : (direction ≡ codes "S>L") ⊎ (direction ≡ codes "L>S") → (m : Message) × CanBeToldBy (grammar_in schedule) m × (words ≡ message_words m) → Packeted schedule direction words
+        by_logger (inl s) m = record { packet = To_logger m.0; readable = (tt, grammar_in schedule, m.1); written = m.1; way = s; content = m.2 }
+        by_logger (inr s) m = record { packet = From_logger m.0; readable = (tt, grammar_in schedule, m.1); written = m.1; way = s; content = m.2 }
     by_direction (Some (FromClient n)) f g =
         let t : (n < 2 ^ 64) × (direction ≡ decimal n ++ codes ">S") = direction_told direction (FromClient n) f in
         let c : is_client (length schedule.clients) n ≡ true = left_true (is_client (length schedule.clients) n) _ g in
@@ -395,7 +398,8 @@ content_told schedule direction words fits apart e = by_direction (direction_of 
         let small : FitsU64 (number_of_client (clients_in schedule) k.key) = subst FitsU64 (sym k.number) t.0 in
         record {
           packet = To_server (sent said k.key (server_key schedule));
-          readable = (((known, small), (refl, refl)), sendable said k.key (server_key schedule) k.fits server_fits);
+          readable = (((known, small), (refl, refl)), Plain, sendable said k.key (server_key schedule) k.fits server_fits);
+          written = sendable said k.key (server_key schedule) k.fits server_fits;
           way = t.1 ∙ ap (λ m. decimal m ++ codes ">S") (sym k.number);
           content = said.told;
         }
@@ -408,52 +412,54 @@ content_told schedule direction words fits apart e = by_direction (direction_of 
         let small : FitsU64 (number_of_client (clients_in schedule) k.key) = subst FitsU64 (sym k.number) t.0 in
         record {
           packet = To_client (sent said (server_key schedule) k.key);
-          readable = (((known, small), (refl, refl)), sendable said (server_key schedule) k.key server_fits k.fits);
+          readable = (((known, small), (refl, refl)), Plain, sendable said (server_key schedule) k.key server_fits k.fits);
+          written = sendable said (server_key schedule) k.key server_fits k.fits;
           way = t.1 ∙ ap (λ m. codes "S>" ++ decimal m) (sym k.number);
           content = said.told;
         }
 
 words_told : (schedule : Schedule) (n : ℕ) (words : List (List ℕ)) → FitsSchedule schedule → are_apart schedule.server (clients_in schedule) ≡ true
-    → packet_words_fit (length schedule.clients) n words ≡ true
-    → (packet : Packet) × IsReadable schedule.server (clients_in schedule) packet
+    → packet_words_fit (grammar_in schedule) (length schedule.clients) n words ≡ true
+    → (packet : Packet) × IsReadable schedule.server (clients_in schedule) packet × HasWireBy (grammar_in schedule) packet
     × (words ≡ codes "packet" ∷ decimal n ∷ way_text (way_of (clients_in schedule) packet) ∷ content_words packet)
 unfolding packet_words_fit
 words_told schedule n [] fits apart e = absurd (true≢false (sym e))
 words_told schedule n (a ∷ []) fits apart e = absurd (true≢false (sym e))
 words_told schedule n (a ∷ b ∷ []) fits apart e = absurd (true≢false (sym e))
 words_told schedule n (a ∷ b ∷ c ∷ words) fits apart e =
-    let rest : is_numbered n (number_word (2 ^ 32 - 1) b) && content_fits (length schedule.clients) (direction_of c) words ≡ true = right_true (bytes_eq a (codes "packet")) _ e in
+    let rest : is_numbered n (number_word (2 ^ 32 - 1) b) && content_fits (grammar_in schedule) (length schedule.clients) (direction_of c) words ≡ true = right_true (bytes_eq a (codes "packet")) _ e in
     let p : Packeted schedule c words = content_told schedule c words fits apart (right_true (is_numbered n (number_word (2 ^ 32 - 1) b)) _ rest) in
     let first : a ≡ codes "packet" = same_bytes a (codes "packet") (left_true (bytes_eq a (codes "packet")) _ e) in
     let second : b ≡ decimal n = numbered_told n b (left_true (is_numbered n (number_word (2 ^ 32 - 1) b)) _ rest) in
-    (p.packet, p.readable, ap₂ (λ x y. x ∷ y) first (ap₂ (λ x y. x ∷ y) second (ap₂ (λ x y. x ∷ y) p.way p.content)))
+    (p.packet, p.readable, p.written, ap₂ (λ x y. x ∷ y) first (ap₂ (λ x y. x ∷ y) second (ap₂ (λ x y. x ∷ y) p.way p.content)))
 
 pub line_told : (schedule : Schedule) (n : ℕ) (line : List ℕ) → FitsSchedule schedule → are_apart schedule.server (clients_in schedule) ≡ true → n ≤ 200000
-    → is_packet_text (length schedule.clients) n line ≡ true → (packet : Packet) × IsPacketLine schedule n packet line
+    → is_packet_text (grammar_in schedule) (length schedule.clients) n line ≡ true → (packet : Packet) × IsPacketLine schedule n packet line
 unfolding is_packet_text packet_line
 line_told schedule n line fits apart few e =
     let front : List ℕ = take (length line - 1) line in
     let p = words_told schedule n (slice_split (is 32) front) fits apart (right_true (ends_with_feed line) _ e) in
     let whole : line ≡ front ++ 10 ∷ [] = feed_told line (left_true (ends_with_feed line) _ e) in
     let joined : front ≡ join_with_byte 32 (codes "packet" ∷ decimal n ∷ way_text (way_of (clients_in schedule) p.0) ∷ content_words p.0) =
-    sym (join_with_byte-slice_split 32 front) ∙ ap (join_with_byte 32) p.2 in (
+    sym (join_with_byte-slice_split 32 front) ∙ ap (join_with_byte 32) p.3 in (
       p.0,
       record {
         readable = p.1;
+        written = p.2;
         number = few;
         spelled = whole ∙ (ap (λ t. t ++ 10 ∷ []) joined ∙ sym (line_joined (codes "packet") (decimal n) (way_text (way_of (clients_in schedule) p.0) ∷ content_words p.0)));
       },
     )
 
-content_shown : (schedule : Schedule) (packet : Packet) → IsReadable schedule.server (clients_in schedule) packet
-    → content_fits (length schedule.clients) (Some (direction_for (way_of (clients_in schedule) packet))) (content_words packet) ≡ true
+content_shown : (schedule : Schedule) (packet : Packet) → IsReadable schedule.server (clients_in schedule) packet → HasWireBy (grammar_in schedule) packet
+    → content_fits (grammar_in schedule) (length schedule.clients) (Some (direction_for (way_of (clients_in schedule) packet))) (content_words packet) ≡ true
 unfolding content_words
-content_shown schedule (To_server s) r = both_true (client_shown schedule (source_of s) r.0.0.0) (segment_shown s r.1)
-content_shown schedule (To_client s) r = both_true (client_shown schedule (destination_of s) r.0.0.0) (segment_shown s r.1)
-content_shown schedule (To_logger m) r = message_shown m r.1
-content_shown schedule (From_logger m) r = message_shown m r.1
+content_shown schedule (To_server s) r w = both_true (client_shown schedule (source_of s) r.0.0.0) (segment_shown s w)
+content_shown schedule (To_client s) r w = both_true (client_shown schedule (destination_of s) r.0.0.0) (segment_shown s w)
+content_shown schedule (To_logger m) r w = message_shown (grammar_in schedule) m w
+content_shown schedule (From_logger m) r w = message_shown (grammar_in schedule) m w
 
-pub line_shown : (schedule : Schedule) (n : ℕ) (line : List ℕ) (packet : Packet) → IsPacketLine schedule n packet line → is_packet_text (length schedule.clients) n line ≡ true
+pub line_shown : (schedule : Schedule) (n : ℕ) (line : List ℕ) (packet : Packet) → IsPacketLine schedule n packet line → is_packet_text (grammar_in schedule) (length schedule.clients) n line ≡ true
 unfolding is_packet_text packet_line packet_words_fit
 line_shown schedule n line packet p =
     let way : Way = way_of (clients_in schedule) packet in
@@ -465,18 +471,18 @@ line_shown schedule n line packet p =
     let plain : AllByRecursion IsWord words =
     (lit (codes "packet") refl, (word_decimal n small, (word_way way (way_fits schedule.server (clients_in schedule) packet p.readable), words_content schedule.server (clients_in schedule) packet p.readable))) in
     let cut : slice_split (is 32) front ≡ words = joined_cut (codes "packet") (decimal n ∷ way_text way ∷ content_words packet) plain in
-    let fits : packet_words_fit (length schedule.clients) n words ≡ true =
+    let fits : packet_words_fit (grammar_in schedule) (length schedule.clients) n words ≡ true =
     both_true (bytes_same (codes "packet")) (both_true (numbered_shown n below)
-    (ap (λ d. content_fits (length schedule.clients) d (content_words packet)) (direction_shown way (plain_way schedule packet p.readable)) ∙ content_shown schedule packet p.readable)) in
-    ap (is_packet_text (length schedule.clients) n) whole
-    ∙ both_true (feed_shown front) (ap (λ t. packet_words_fit (length schedule.clients) n (slice_split (is 32) t)) (cut_last front) ∙ (ap (packet_words_fit (length schedule.clients) n) cut ∙ fits))
+    (ap (λ d. content_fits (grammar_in schedule) (length schedule.clients) d (content_words packet)) (direction_shown way (plain_way schedule packet p.readable)) ∙ content_shown schedule packet p.readable p.written)) in
+    ap (is_packet_text (grammar_in schedule) (length schedule.clients) n) whole
+    ∙ both_true (feed_shown front) (ap (λ t. packet_words_fit (grammar_in schedule) (length schedule.clients) n (slice_split (is 32) t)) (cut_last front) ∙ (ap (packet_words_fit (grammar_in schedule) (length schedule.clients) n) cut ∙ fits))
 
 -- the tests with the limit on a packet's number
-pub line_iff : (schedule : Schedule) (clients n : ℕ) (line : List ℕ) (result : Bool) → FitsSchedule schedule → are_apart schedule.server (clients_in schedule) ≡ true
-    → clients ≡ length schedule.clients → result ≡ (nat_le n 200000 && is_packet_text clients n line) → IsTrue result ↔ ((packet : Packet) × IsPacketLine schedule n packet line)
-line_iff schedule clients n line result fits apart count is = (
-  λ e. let passed : nat_le n 200000 && is_packet_text clients n line ≡ true = sym is ∙ e in
+pub line_iff : (schedule : Schedule) (grammar : Grammar) (clients n : ℕ) (line : List ℕ) (result : Bool) → FitsSchedule schedule → are_apart schedule.server (clients_in schedule) ≡ true
+    → grammar ≡ grammar_in schedule → clients ≡ length schedule.clients → result ≡ (nat_le n 200000 && is_packet_text grammar clients n line) → IsTrue result ↔ ((packet : Packet) × IsPacketLine schedule n packet line)
+line_iff schedule grammar clients n line result fits apart written count is = (
+  λ e. let passed : nat_le n 200000 && is_packet_text grammar clients n line ≡ true = sym is ∙ e in
       let few : n ≤ 200000 = leb-true n 200000 (left_true (nat_le n 200000) _ passed) in
-      line_told schedule n line fits apart few (ap (λ k. is_packet_text k n line) (sym count) ∙ right_true (nat_le n 200000) _ passed),
-  λ p. is ∙ both_true (le-leb n 200000 p.1.number) (ap (λ k. is_packet_text k n line) count ∙ line_shown schedule n line p.0 p.1),
+      line_told schedule n line fits apart few (ap₂ (λ g k. is_packet_text g k n line) (sym written) (sym count) ∙ right_true (nat_le n 200000) _ passed),
+  λ p. is ∙ both_true (le-leb n 200000 p.1.number) (ap₂ (λ g k. is_packet_text g k n line) written count ∙ line_shown schedule n line p.0 p.1),
 )

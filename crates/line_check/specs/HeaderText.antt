@@ -1,5 +1,6 @@
 -- A report's header up to one of its lines. A text is one if the grammar reads a schedule in it, and the header of that schedule is this text.
-use Rattle.std.specs.Prelude.{◌≡◌, ℕ, Bool, ◌-◌, ◌&&◌, not, is_none, Option, Some, None, Result, Ok, Err, codes, List, [], ◌∷◌, ◌++◌, length, take, drop, if◌then◌else◌}
+use Rattle.std.specs.Prelude.{◌≡◌, ℕ, Bool, ◌-◌, ◌&&◌, not, is_none, Option, Some, None, Result, Ok, Err, codes, List, [], ◌∷◌, ◌++◌, length, take}
+use Rattle.std.specs.Prelude.{drop, if◌then◌else◌}
 use Rattle.std.specs.Str.{bytes_eq}
 use Rattle.ft_model.specs.Grammar.{Refusal, read_text}
 use Rattle.ft_model.specs.Report.{header}
@@ -25,7 +26,7 @@ abbrev pub own_text : List ℕ → List ℕ
 own_text text = take (length text - 1 - 11) (drop 11 text)
 
 abbrev pub is_header_of : Schedule → List ℕ → Bool
-is_header_of schedule text = not schedule.twin && is_none schedule.marks && bytes_eq (header schedule) text
+is_header_of schedule text = not schedule.twin && is_none schedule.marks && is_none schedule.lasting && bytes_eq (header schedule) text
 
 abbrev pub if_header : Result Schedule Refusal → List ℕ → Option Schedule
 if_header (Ok schedule) text = if is_header_of schedule text then Some schedule else None

@@ -1,11 +1,14 @@
 -- Tests of a packet line's words. Each word is accepted only in its one spelling, and each value only in its range. The report's own spellings define what
--- the tests mean: a line passes if and only if it is the line of a packet.
+-- the tests mean: a line passes if and only if it is the line of a packet. What a message may say depends on the grammar that server and log use.
 use Rattle.limits.specs.Limits.{longest_packet}
-use Rattle.std.specs.Prelude.{ℕ, Bool, true, false, ◌+◌, ◌-◌, ◌*◌, ◌/◌, ◌%◌, ◌^◌, ◌==◌, ◌&&◌, ◌||◌, nat_lt, nat_le, codes, decimal, Option, Some, None, is_some, option_map, List, [], ◌∷◌, length, take, drop, if◌then◌else◌}
+use Rattle.std.specs.Prelude.{ℕ, Bool, true, false, ◌+◌, ◌-◌, ◌*◌, ◌/◌, ◌%◌, ◌^◌, ◌==◌, ◌&&◌, ◌||◌, nat_lt, nat_le, codes, decimal, Option, Some}
+use Rattle.std.specs.Prelude.{None, is_some, option_map, List, [], ◌∷◌, length, take, drop, if◌then◌else◌}
 use Rattle.std.specs.List.{list_all, slice_split, starts_with}
 use Rattle.std.specs.Prelude.{nat_eq}
 use Rattle.std.specs.Str.{bytes_eq}
-use Rattle.seq_arith.specs.MessageGrammar.{all_kinds, is_in_range, width, behind_at, has_length}
+use Rattle.seq_arith.specs.MessageGrammar.{all_kinds, is_in_range_by, width, behind_at, has_length}
+use Rattle.seq_arith.specs.declared.kinds.Grammar.{Grammar}
+use Rattle.seq_arith.specs.declared.kinds.Grammar.TheVariants.{Plain}
 use Rattle.seq_arith.specs.declared.kinds.Field.{Field}
 use Rattle.seq_arith.specs.declared.kinds.Field.TheVariants as fields
 use Rattle.seq_arith.specs.declared.kinds.Kind.{Kind}
@@ -39,7 +42,8 @@ byte_count word = if bytes_eq word (codes "-") then Some 0 else (if is_hex_word 
 -- The number of lengths of reads, joined by commas: at most 512
 unfoldable pub lens_count : List ℕ → Option ℕ
 lens_count word =
-    if list_all (is_number 2048) (slice_split (is 44) word) && nat_le (length (slice_split (is 44) word)) 512 then Some (length (slice_split (is 44) word)) else None
+    if list_all (is_number 2048) (slice_split (is 44) word) && nat_le (length (slice_split (is 44) word)) 512 then Some (length (slice_split (is 44) word))
+    else None
 
 -- An address with a port. In a message both may be 0
 abbrev pub are_octets : List (List ℕ) → Bool
@@ -83,31 +87,32 @@ named name (label ∷ word ∷ more) = if bytes_eq label name then Some word els
 named name _ = None
 
 -- a number that fits its field's bytes and is in its range
-abbrev pub in_field : (boot behind : ℕ) → Field → Option ℕ → Bool
-in_field boot behind field (Some n) = is_in_range boot behind field n
-in_field boot behind field None = false
+abbrev pub in_field : Grammar → (boot behind : ℕ) → Field → Option ℕ → Bool
+in_field grammar boot behind field (Some n) = is_in_range_by grammar boot behind field n
+in_field grammar boot behind field None = false
 
 abbrev pub most_of : Field → ℕ
 most_of field = 256 ^ width field - 1
 
-abbrev pub number_fits : (boot behind : ℕ) → Field → Option (List ℕ) → Bool
-number_fits boot behind field (Some word) = in_field boot behind field (number_word (most_of field) word)
-number_fits boot behind field None = false
+abbrev pub number_fits : Grammar → (boot behind : ℕ) → Field → Option (List ℕ) → Bool
+number_fits grammar boot behind field (Some word) = in_field grammar boot behind field (number_word (most_of field) word)
+number_fits grammar boot behind field None = false
 
 abbrev pub key_fits : Option (List ℕ) → Bool
 key_fits (Some word) = is_address word
 key_fits None = false
 
-abbrev pub column_fits : (boot behind : ℕ) → Column → List (List ℕ) → Bool
-column_fits boot behind KeyColumn words = key_fits (named (codes "key") words)
-column_fits boot behind (NumberColumn name field) words = number_fits boot behind field (named name words)
+abbrev pub column_fits : Grammar → (boot behind : ℕ) → Column → List (List ℕ) → Bool
+column_fits grammar boot behind KeyColumn words = key_fits (named (codes "key") words)
+column_fits grammar boot behind (NumberColumn name field) words = number_fits grammar boot behind field (named name words)
 
 -- these fields, one after another
-abbrev pub columns_fit : (boot behind : ℕ) → List Column → List (List ℕ) → Bool
-columns_fit boot behind [] words = true
-columns_fit boot behind (column ∷ columns) words = column_fits boot behind column words && columns_fit boot behind columns (drop 2 words)
+abbrev pub columns_fit : Grammar → (boot behind : ℕ) → List Column → List (List ℕ) → Bool
+columns_fit grammar boot behind [] words = true
+columns_fit grammar boot behind (column ∷ columns) words =
+    column_fits grammar boot behind column words && columns_fit grammar boot behind columns (drop 2 words)
 
--- the fields of a segment between its flags and its option
+-- the fields of a segment between its flags and its option. Their ranges are the same in both grammars
 abbrev pub segment_columns : List Column
 segment_columns =
     NumberColumn (codes "seq") fields.Initial ∷ NumberColumn (codes "ack") fields.Initial ∷ NumberColumn (codes "window") fields.Port ∷ []
@@ -132,7 +137,7 @@ text_fits words = last_fits (last_named (codes "data") (drop 2 words)) (named (c
 
 unfoldable pub is_segment : List (List ℕ) → Bool
 is_segment [] = false
-is_segment (flags ∷ words) = are_flags flags && (columns_fit 0 0 segment_columns words && text_fits (drop 6 words))
+is_segment (flags ∷ words) = are_flags flags && (columns_fit Plain 0 0 segment_columns words && text_fits (drop 6 words))
 
 -- the name of a message's kind
 abbrev pub kind_name : Kind → List ℕ
@@ -191,7 +196,7 @@ columns_of kinds.Lens = KeyColumn ∷ NumberColumn (codes "first") fields.Units 
 columns_of kinds.Open = opening_columns []
 columns_of kinds.Opened = opening_columns []
 columns_of kinds.Data =
-    KeyColumn ∷ NumberColumn (codes "offset") fields.Offset ∷ NumberColumn (codes "acked") fields.Units ∷ NumberColumn (codes "fin") fields.Flag ∷ []
+    KeyColumn ∷ NumberColumn (codes "offset") fields.Offset ∷ NumberColumn (codes "acked") fields.Units ∷ NumberColumn (codes "fin") fields.Ending ∷ []
 columns_of kinds.Stable = kept_columns
 columns_of kinds.Read = KeyColumn ∷ NumberColumn (codes "index") fields.Units ∷ NumberColumn (codes "length") fields.ReadLength ∷ []
 columns_of kinds.Reads = kept_columns
@@ -215,17 +220,19 @@ behind_in kinds.Data words = counted byte_count (last_named (codes "bytes") word
 behind_in kinds.Lens words = option_map (λ n. 2 * n) (counted lens_count (last_named (codes "lens") words))
 behind_in _ words = nothing_more words
 
-abbrev pub rest_fits : Kind → (boot : ℕ) → Option ℕ → List (List ℕ) → Bool
-rest_fits kind boot (Some behind) words = has_length kind (behind_at kind + behind) && columns_fit boot behind (columns_of kind) words
-rest_fits kind boot None words = false
+abbrev pub rest_fits : Grammar → Kind → (boot : ℕ) → Option ℕ → List (List ℕ) → Bool
+rest_fits grammar kind boot (Some behind) words = has_length kind (behind_at kind + behind) && columns_fit grammar boot behind (columns_of kind) words
+rest_fits grammar kind boot None words = false
 
-abbrev pub body_fits : Option Kind → Option ℕ → List (List ℕ) → Bool
-body_fits (Some kind) (Some boot) words = nat_le 1 boot && rest_fits kind boot (behind_in kind (drop (2 * length (columns_of kind)) words)) words
-body_fits _ _ words = false
+abbrev pub body_fits : Grammar → Option Kind → Option ℕ → List (List ℕ) → Bool
+body_fits grammar (Some kind) (Some boot) words =
+    nat_le 1 boot && rest_fits grammar kind boot (behind_in kind (drop (2 * length (columns_of kind)) words)) words
+body_fits grammar _ _ words = false
 
-unfoldable pub is_message : List (List ℕ) → Bool
-is_message (name ∷ label ∷ number ∷ words) = bytes_eq label (codes "boot") && body_fits (kind_named name) (number_word (2 ^ 64 - 1) number) words
-is_message _ = false
+unfoldable pub is_message : Grammar → List (List ℕ) → Bool
+is_message grammar (name ∷ label ∷ number ∷ words) =
+    bytes_eq label (codes "boot") && body_fits grammar (kind_named name) (number_word (2 ^ 64 - 1) number) words
+is_message grammar _ = false
 
 -- the direction of a packet
 abbrev pub ends_with : List ℕ → List ℕ → Bool
@@ -242,25 +249,25 @@ direction_of word =
 abbrev pub is_client : (clients n : ℕ) → Bool
 is_client clients n = nat_le 1 n && nat_le n clients
 
-abbrev pub content_fits : (clients : ℕ) → Option Direction → List (List ℕ) → Bool
-content_fits clients (Some (FromClient n)) words = is_client clients n && is_segment words
-content_fits clients (Some (ToClient n)) words = is_client clients n && is_segment words
-content_fits clients (Some WithLogger) words = is_message words
-content_fits clients None words = false
+abbrev pub content_fits : Grammar → (clients : ℕ) → Option Direction → List (List ℕ) → Bool
+content_fits grammar clients (Some (FromClient n)) words = is_client clients n && is_segment words
+content_fits grammar clients (Some (ToClient n)) words = is_client clients n && is_segment words
+content_fits grammar clients (Some WithLogger) words = is_message grammar words
+content_fits grammar clients None words = false
 
 -- the words of a packet line
 abbrev pub is_numbered : (n : ℕ) → Option ℕ → Bool
 is_numbered n (Some m) = m == n
 is_numbered n None = false
 
-unfoldable pub packet_words_fit : (clients n : ℕ) → List (List ℕ) → Bool
-packet_words_fit clients n (packet ∷ number ∷ direction ∷ words) =
-    bytes_eq packet (codes "packet") && (is_numbered n (number_word (2 ^ 32 - 1) number) && content_fits clients (direction_of direction) words)
-packet_words_fit clients n _ = false
+unfoldable pub packet_words_fit : Grammar → (clients n : ℕ) → List (List ℕ) → Bool
+packet_words_fit grammar clients n (packet ∷ number ∷ direction ∷ words) =
+    bytes_eq packet (codes "packet") && (is_numbered n (number_word (2 ^ 32 - 1) number) && content_fits grammar clients (direction_of direction) words)
+packet_words_fit grammar clients n _ = false
 
 -- a line of words, each followed by one space and the last by the line feed
 abbrev pub ends_with_feed : List ℕ → Bool
 ends_with_feed line = nat_lt 0 (length line) && ends_with (10 ∷ []) line
 
-unfoldable pub is_packet_text : (clients n : ℕ) → List ℕ → Bool
-is_packet_text clients n line = ends_with_feed line && packet_words_fit clients n (slice_split (is 32) (take (length line - 1) line))
+unfoldable pub is_packet_text : Grammar → (clients n : ℕ) → List ℕ → Bool
+is_packet_text grammar clients n line = ends_with_feed line && packet_words_fit grammar clients n (slice_split (is 32) (take (length line - 1) line))

@@ -60,7 +60,8 @@ fn one_of<'a>(words: Words<'a>) -> Option<&'a [u8]>
 
 /// Returns the words, if there are exactly two.
 fn two_of<'a>(words: Words<'a>) -> Option<(&'a [u8], &'a [u8])>
-    ensures { MatchOption result (spelled.two_of (words_left words.entry.rest) ≡ None) (λ pair. spelled.two_of (words_left words.entry.rest) ≡ Some (pair.0.now, pair.1.now)) }
+    ensures { MatchOption result (spelled.two_of (words_left words.entry.rest) ≡ None) (λ pair. spelled.two_of (words_left words.entry.rest)
+        ≡ Some (pair.0.now, pair.1.now)) }
 {
     let mut words = words;
     let first = next_word(&mut words)?;

@@ -46,7 +46,7 @@ fn service_in(line: &[u8]) -> Option<ServiceKind>
     }
 }
 
-/// Returns whether a text is the header of a schedule with one logger and without marks.
+/// Returns whether a text is the header of a schedule with one logger, without marks, whose server doesn't last.
 pub(crate) fn is_header_of(
     alloc: Global,
     schedule: &Schedule,
@@ -54,7 +54,7 @@ pub(crate) fn is_header_of(
 ) -> Result<bool, NoMemory>
     ensures { IfOk result (λ same. same ≡ spelled.is_header_of schedule.now text.now) }
 {
-    if schedule.twin || schedule.marks.is_some() {
+    if schedule.twin || schedule.marks.is_some() || schedule.lasting.is_some() {
         return Ok(false);
     }
     let mut header = Vec::new(alloc);
@@ -103,7 +103,8 @@ pub fn read_header_line(
 ) -> Result<Option<Schedule>, NoMemory>
     requires within { (12 ≤ start) × (start ≤ length text.now) }
     ensures { IfOk result (λ read. (draft : Draft) → spelled.IsHeaderSoFar draft → take start text.now ≡ spelled.header_so_far draft
-        → MatchOption read (HeaderLine draft (drop start text.now) (Rejects law.Text)) (λ schedule. HeaderLine draft (drop start text.now) (Continues (InHeader (Begun schedule))))) }
+        → MatchOption read (HeaderLine draft (drop start text.now) (Rejects law.Text))
+        (λ schedule. HeaderLine draft (drop start text.now) (Continues (InHeader (Begun schedule))))) }
 {
     if text.len() < start + 2 {
         return Ok(None);

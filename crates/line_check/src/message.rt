@@ -12,7 +12,7 @@ use crate::columns::{Limits, key_fits, number_fits};
 use crate::values::{byte_count, lens_count, number_word};
 use crate::words::{Words, is_text, last_named, next_word, skip};
 use limits::TEXT;
-use seq_arith::{Field, Kind};
+use seq_arith::{Field, Grammar, Kind};
 
 /// Returns the kind that a word names.
 #[tactic(auto, unfolding(crate::specs::Words::kind_named))]
@@ -160,7 +160,7 @@ fn nothing_more(words: Words<'_>) -> Option<usize>
 /// Returns whether the words begin with this name and a number that fits its field.
 #[tactic(auto, using(ft_io::proofs::Booleans::and_true))]
 fn one_fits(limits: Limits, field: Field, name: &str, words: Words<'_>) -> bool
-    ensures { result ≡ spelled.columns_fit limits.boot limits.behind (NumberColumn name.now field ∷ []) (words_left words.entry.rest) }
+    ensures { result ≡ spelled.columns_fit limits.grammar limits.boot limits.behind (NumberColumn name.now field ∷ []) (words_left words.entry.rest) }
 {
     let mut words = words;
     number_fits(limits, field, name, &mut words)
@@ -169,7 +169,7 @@ fn one_fits(limits: Limits, field: Field, name: &str, words: Words<'_>) -> bool
 /// Returns whether the words begin with a key.
 #[tactic(auto, using(ft_io::proofs::Booleans::and_true))]
 fn key_alone_fits(limits: Limits, words: Words<'_>) -> bool
-    ensures { result ≡ spelled.columns_fit limits.boot limits.behind (KeyColumn ∷ []) (words_left words.entry.rest) }
+    ensures { result ≡ spelled.columns_fit limits.grammar limits.boot limits.behind (KeyColumn ∷ []) (words_left words.entry.rest) }
 {
     let mut words = words;
     key_fits(&mut words)
@@ -178,7 +178,7 @@ fn key_alone_fits(limits: Limits, words: Words<'_>) -> bool
 /// Returns whether the words begin with a key, and then this name and a number that fits its field.
 #[tactic(auto, using(ft_io::proofs::Booleans::and_true))]
 fn key_and_one_fit(limits: Limits, field: Field, name: &str, words: Words<'_>) -> bool
-    ensures { result ≡ spelled.columns_fit limits.boot limits.behind (KeyColumn ∷ NumberColumn name.now field ∷ []) (words_left words.entry.rest) }
+    ensures { result ≡ spelled.columns_fit limits.grammar limits.boot limits.behind (KeyColumn ∷ NumberColumn name.now field ∷ []) (words_left words.entry.rest) }
 {
     let mut words = words;
     key_fits(&mut words) && number_fits(limits, field, name, &mut words)
@@ -187,7 +187,7 @@ fn key_and_one_fit(limits: Limits, field: Field, name: &str, words: Words<'_>) -
 /// Returns whether the words begin with the numbers of a connection.
 #[tactic(auto, using(ft_io::proofs::Booleans::and_true))]
 fn opening_fits(limits: Limits, words: Words<'_>) -> bool
-    ensures { result ≡ spelled.columns_fit limits.boot limits.behind (spelled.opening_columns []) (words_left words.entry.rest) }
+    ensures { result ≡ spelled.columns_fit limits.grammar limits.boot limits.behind (spelled.opening_columns []) (words_left words.entry.rest) }
 {
     let mut words = words;
     key_fits(&mut words)
@@ -199,7 +199,7 @@ fn opening_fits(limits: Limits, words: Words<'_>) -> bool
 /// Returns whether the words begin with how much of a connection is logged.
 #[tactic(auto, using(ft_io::proofs::Booleans::and_true))]
 fn kept_fits(limits: Limits, words: Words<'_>) -> bool
-    ensures { result ≡ spelled.columns_fit limits.boot limits.behind spelled.kept_columns (words_left words.entry.rest) }
+    ensures { result ≡ spelled.columns_fit limits.grammar limits.boot limits.behind spelled.kept_columns (words_left words.entry.rest) }
 {
     let mut words = words;
     key_fits(&mut words)
@@ -211,7 +211,7 @@ fn kept_fits(limits: Limits, words: Words<'_>) -> bool
 /// Returns whether the words begin with the fields of a read.
 #[tactic(auto, using(ft_io::proofs::Booleans::and_true))]
 fn read_fits(limits: Limits, words: Words<'_>) -> bool
-    ensures { result ≡ spelled.columns_fit limits.boot limits.behind (spelled.columns_of kinds.Read) (words_left words.entry.rest) }
+    ensures { result ≡ spelled.columns_fit limits.grammar limits.boot limits.behind (spelled.columns_of kinds.Read) (words_left words.entry.rest) }
 {
     let mut words = words;
     key_fits(&mut words)
@@ -222,19 +222,19 @@ fn read_fits(limits: Limits, words: Words<'_>) -> bool
 /// Returns whether the words begin with the fields of a Data.
 #[tactic(auto, using(ft_io::proofs::Booleans::and_true))]
 fn data_fits(limits: Limits, words: Words<'_>) -> bool
-    ensures { result ≡ spelled.columns_fit limits.boot limits.behind (spelled.columns_of kinds.Data) (words_left words.entry.rest) }
+    ensures { result ≡ spelled.columns_fit limits.grammar limits.boot limits.behind (spelled.columns_of kinds.Data) (words_left words.entry.rest) }
 {
     let mut words = words;
     key_fits(&mut words)
         && number_fits(limits, Field::Offset, "offset", &mut words)
         && number_fits(limits, Field::Units, "acked", &mut words)
-        && number_fits(limits, Field::Flag, "fin", &mut words)
+        && number_fits(limits, Field::Ending, "fin", &mut words)
 }
 
 /// Returns whether the words begin with the fields of an entry after the numbers of its connection.
 #[tactic(auto, using(ft_io::proofs::Booleans::and_true))]
 fn state_fits(limits: Limits, words: Words<'_>) -> bool
-    ensures { result ≡ spelled.columns_fit limits.boot limits.behind spelled.state_columns (words_left words.entry.rest) }
+    ensures { result ≡ spelled.columns_fit limits.grammar limits.boot limits.behind spelled.state_columns (words_left words.entry.rest) }
 {
     let mut words = words;
     number_fits(limits, Field::Length, "length", &mut words)
@@ -246,7 +246,7 @@ fn state_fits(limits: Limits, words: Words<'_>) -> bool
 
 /// Returns whether the words begin with the fields of an entry of the log.
 fn entry_fits(limits: Limits, words: Words<'_>) -> bool
-    ensures { result ≡ spelled.columns_fit limits.boot limits.behind (spelled.columns_of kinds.Entry) (words_left words.entry.rest) }
+    ensures { result ≡ spelled.columns_fit limits.grammar limits.boot limits.behind (spelled.columns_of kinds.Entry) (words_left words.entry.rest) }
 {
     let mut words = words;
     number_fits(limits, Field::Place, "index", &mut words)
@@ -259,7 +259,7 @@ fn entry_fits(limits: Limits, words: Words<'_>) -> bool
 
 /// Returns whether these words begin with the fields of a kind.
 fn columns_fit(kind: Kind, limits: Limits, words: Words<'_>) -> bool
-    ensures { result ≡ spelled.columns_fit limits.boot limits.behind (spelled.columns_of kind) (words_left words.entry.rest) }
+    ensures { result ≡ spelled.columns_fit limits.grammar limits.boot limits.behind (spelled.columns_of kind) (words_left words.entry.rest) }
 {
     match kind {
         Kind::Hello => true,
@@ -278,8 +278,9 @@ fn columns_fit(kind: Kind, limits: Limits, words: Words<'_>) -> bool
 }
 
 /// Returns whether these are the fields of a kind and what follows them, for this boot number.
-fn rest_fits(kind: Kind, boot: u64, words: Words<'_>) -> bool
-    ensures { result ≡ spelled.rest_fits kind boot (spelled.behind_in kind (drop (2 * length (spelled.columns_of kind)) (words_left words.entry.rest))) (words_left words.entry.rest) }
+fn rest_fits(grammar: Grammar, kind: Kind, boot: u64, words: Words<'_>) -> bool
+    ensures { result ≡ spelled.rest_fits grammar kind boot (spelled.behind_in kind (drop (2 * length (spelled.columns_of kind)) (words_left words.entry.rest)))
+        (words_left words.entry.rest) }
 {
     let Some(behind) = behind_in(kind, skip(2 * column_count(kind), words)) else {
         return false;
@@ -288,6 +289,7 @@ fn rest_fits(kind: Kind, boot: u64, words: Words<'_>) -> bool
         return false;
     }
     let limits = Limits {
+        grammar,
         boot,
         behind: behind as u64,
     };
@@ -295,16 +297,16 @@ fn rest_fits(kind: Kind, boot: u64, words: Words<'_>) -> bool
 }
 
 /// Returns whether these are a boot number and the rest of a message of this kind.
-fn body_fits(kind: Kind, boot: u64, words: Words<'_>) -> bool
-    ensures { result ≡ spelled.body_fits (Some kind) (Some boot) (words_left words.entry.rest) }
+fn body_fits(grammar: Grammar, kind: Kind, boot: u64, words: Words<'_>) -> bool
+    ensures { result ≡ spelled.body_fits grammar (Some kind) (Some boot) (words_left words.entry.rest) }
 {
-    1 <= boot && rest_fits(kind, boot, words)
+    1 <= boot && rest_fits(grammar, kind, boot, words)
 }
 
-/// Returns whether these are the words of a message.
+/// Returns whether these are the words of a message of a grammar.
 #[tactic(auto, unfolding(crate::specs::Words::is_message))]
-pub(crate) fn is_message(words: Words<'_>) -> bool
-    ensures { result ≡ spelled.is_message (words_left words.entry.rest) }
+pub(crate) fn is_message(grammar: Grammar, words: Words<'_>) -> bool
+    ensures { result ≡ spelled.is_message grammar (words_left words.entry.rest) }
 {
     let mut words = words;
     let Some(name) = next_word(&mut words) else {
@@ -323,7 +325,7 @@ pub(crate) fn is_message(words: Words<'_>) -> bool
         return false;
     };
     match number_word(u64::MAX, number) {
-        Some(boot) => body_fits(kind, boot, words),
+        Some(boot) => body_fits(grammar, kind, boot, words),
         None => false,
     }
 }

@@ -8,7 +8,7 @@ use crate::columns::{Limits, number_fits};
 use crate::values::{are_flags, byte_count, option_size};
 use crate::words::{Words, last_named, named, next_word};
 use limits::PACKET;
-use seq_arith::Field;
+use seq_arith::{Field, Grammar};
 
 /// The size of a packet's two headers, in bytes.
 const HEADER_BYTES: usize = 40;
@@ -55,7 +55,11 @@ pub(crate) fn is_segment(words: Words<'_>) -> bool
     if !are_flags(flags) {
         return false;
     }
-    let free = Limits { boot: 0, behind: 0 };
+    let free = Limits {
+        grammar: Grammar::Plain,
+        boot: 0,
+        behind: 0,
+    };
     number_fits(free, Field::Initial, "seq", &mut words)
         && number_fits(free, Field::Initial, "ack", &mut words)
         && number_fits(free, Field::Port, "window", &mut words)

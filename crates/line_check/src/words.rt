@@ -59,7 +59,8 @@ pub(crate) fn last_piece(bytes: &[u8], mark: u8) -> Option<&[u8]>
 /// Returns what follows the first `count` words of a text, or `None` if it has no more words.
 #[tactic(auto, using(crate::proofs::Taken::one_less, crate::proofs::Taken::none_after_one))]
 fn skip_words(count: usize, text: &[u8]) -> Option<&[u8]>
-    ensures { MatchOption result (drop count (slice_split (is 32) text.now) ≡ []) (λ rest. drop count (slice_split (is 32) text.now) ≡ slice_split (is 32) rest.now) }
+    ensures { MatchOption result (drop count (slice_split (is 32) text.now) ≡ []) (λ rest. drop count (slice_split (is 32) text.now)
+        ≡ slice_split (is 32) rest.now) }
 {
     let mut rest = text;
     let mut left = count;
@@ -85,7 +86,8 @@ pub(crate) fn skip<'a>(count: usize, words: Words<'a>) -> Words<'a>
 
 /// Returns a line without its line feed, or `None` if it doesn't end with one.
 pub(crate) fn before_feed(line: &[u8]) -> Option<&[u8]>
-    ensures { MatchOption result (ends_with_feed line.now ≡ false) (λ front. (ends_with_feed line.now ≡ true) × (front.now ≡ take (length line.now - 1) line.now)) }
+    ensures { MatchOption result (ends_with_feed line.now ≡ false) (λ front. (ends_with_feed line.now ≡ true)
+        × (front.now ≡ take (length line.now - 1) line.now)) }
 {
     if line.is_empty() {
         return None;
@@ -126,7 +128,8 @@ pub(crate) fn next_word<'a>(words: &mut Words<'a>) -> Option<&'a [u8]>
 /// Takes a name and the word after it. Returns the word if the name is this one.
 #[tactic(auto, using(crate::proofs::Taken::dropped))]
 pub(crate) fn named<'a>(name: &str, words: &mut Words<'a>) -> Option<&'a [u8]>
-    ensures word { MatchOption result (named_in name.now (words_left words.old.rest) ≡ None) (λ word. named_in name.now (words_left words.old.rest) ≡ Some word.now) }
+    ensures word { MatchOption result (named_in name.now (words_left words.old.rest) ≡ None) (λ word. named_in name.now (words_left words.old.rest)
+        ≡ Some word.now) }
     ensures rest { words_left words.new.rest ≡ drop 2 (words_left words.old.rest) }
 {
     let label = next_word(words)?;
@@ -140,7 +143,8 @@ pub(crate) fn named<'a>(name: &str, words: &mut Words<'a>) -> Option<&'a [u8]>
 
 /// Returns the second word, if there are exactly two and the first is this name.
 pub(crate) fn last_named<'a>(name: &str, words: Words<'a>) -> Option<&'a [u8]>
-    ensures { MatchOption result (last_named_in name.now (words_left words.entry.rest) ≡ None) (λ word. last_named_in name.now (words_left words.entry.rest) ≡ Some word.now) }
+    ensures { MatchOption result (last_named_in name.now (words_left words.entry.rest) ≡ None) (λ word. last_named_in name.now (words_left words.entry.rest)
+        ≡ Some word.now) }
 {
     let mut words = words;
     let label = next_word(&mut words)?;

@@ -12,12 +12,14 @@ use Rattle.seq_arith.specs.declared.BadPacket.{BadPacket}
 use Rattle.seq_arith.specs.declared.kinds.BadMsg.{BadMsg}
 use Rattle.seq_arith.proofs.Spelling.{spelling_is_read}
 use Rattle.seq_arith.proofs.MessageSpelling.{message_is_read}
-use Rattle.seq_arith.proofs.Refused.{flipped_packet_is_refused, flipped_message_is_refused}
+use Rattle.seq_arith.proofs.Refused.{flipped_packet_is_refused, flipped_is_refused_by}
 use Rattle.server_trait.specs.Service.{Machine}
+use Rattle.tcp_rules.specs.Profile.{grammar_of}
+use Rattle.tcp_rules.specs.Profiles.{profile_of}
 use Rattle.ft_model.specs.Client.{Client}
 use Rattle.ft_model.specs.Network.{Packet, source_of, destination_of}
 use Rattle.ft_model.specs.Network.Packet.{To_server, To_client, To_logger, From_logger}
-use Rattle.ft_model.specs.Wire.{wire_of, HasWire}
+use Rattle.ft_model.specs.Wire.{wire_by, wire_of, HasWireBy}
 use Rattle.ft_model.specs.World.{World as Seen, WasSent, MayCome, ServerMoves, ClientReads, LogReads, NothingHappens, Delivered, DeliveredAs, segment_or_noise, message_or_noise, with_client}
 use Rattle.ft_model.specs.declared.way.Way.TheVariants.{ClientToServer, ServerToClient, ServerToLogger, LoggerToServer, HeadToTail, TailToHead}
 use Rattle.ft_model.specs.declared.way.Way.{Way}
@@ -92,7 +94,7 @@ module _ {State : Type 0} (service : Machine State) where
 
   -- what the only logger makes of them
   reads_log : (w w' : Kept State) (v : Seen) (r : Result Message BadMsg) → WorldStands service w v
-      → w' ≡ record w { log = (log_reads r (w.log, w.packets)).0; packets = (log_reads r (w.log, w.packets)).1 } → ReachesNext service (LogReads r v) v w'
+      → w' ≡ record w { log = (log_reads (grammar_of v.profile) r (w.log, w.packets)).0; packets = (log_reads (grammar_of v.profile) r (w.log, w.packets)).1 } → ReachesNext service (LogReads r v) v w'
   reads_log w w' v (Ok message) st e' = logger_hears service w w' v message st e'
   reads_log w w' v (Err bad) st e' = one_goes service (NothingHappens v) w w' v st (nothing_happens service w w' v (actors_of service w v st) e')
 
@@ -104,14 +106,14 @@ module _ {State : Type 0} (service : Machine State) where
   not_marked store e = absurd (cc)
 
   brings_to_log : (w w' : Kept State) (v : Seen) (packet : Packet) (bytes : List ℕ) (way : Way) (logs now : Logs) (sent : Carried) → WorldStands service w v → way ≡ ServerToLogger
-      → way ≡ way_along w.keys (wire_of packet) → w.log ≡ log_in logs → w.keepers ≡ keepers_in logs → HearsIn logs way bytes w.packets now sent → w' ≡ with_logs w (now, sent)
+      → way ≡ way_along w.keys (wire_of packet) → w.log ≡ log_in logs → w.keepers ≡ keepers_in logs → HearsIn (grammar_of v.profile) logs way bytes w.packets now sent → w' ≡ with_logs w (now, sent)
       → ReachesNext service (DeliveredAs service v packet bytes) v w'
   brings_to_log w w' v packet bytes way (Two loggers) now sent st is along log two heard e' = not_two loggers (sym st.single ∙ two)
   brings_to_log w w' v packet bytes way (Marked kept) now sent st is along log two heard e' = not_marked kept.store (sym st.single ∙ two)
   brings_to_log w w' v (To_logger message) bytes way (One log) now sent st is along same two heard e' =
-      reads_log w w' v (messages.reading bytes) st
-      (e' ∙ (ap (with_logs w) (heard ∙ ap (λ x. let h = log_hears x bytes (log, w.packets) in both (One h.0) h.1) is)
-      ∙ ap₂ (λ l o. record w { log = (log_reads (messages.reading bytes) (l, w.packets)).0; keepers = o; packets = (log_reads (messages.reading bytes) (l, w.packets)).1 }) (sym same) (sym two)))
+      reads_log w w' v (messages.reading_by (grammar_of v.profile) bytes) st
+      (e' ∙ (ap (with_logs w) (heard ∙ ap (λ x. let h = log_hears (grammar_of v.profile) x bytes (log, w.packets) in both (One h.0) h.1) is)
+      ∙ ap₂ (λ l o. record w { log = (log_reads (grammar_of v.profile) (messages.reading_by (grammar_of v.profile) bytes) (l, w.packets)).0; keepers = o; packets = (log_reads (grammar_of v.profile) (messages.reading_by (grammar_of v.profile) bytes) (l, w.packets)).1 }) (sym same) (sym two)))
   brings_to_log w w' v (To_server segment) bytes way (One log) now sent st is along same two heard e' = absurd (other (sym is ∙ along))
     where
       other : ServerToLogger ≡ ClientToServer (number_in w.keys (source_of segment)) → ⊥
@@ -126,9 +128,11 @@ module _ {State : Type 0} (service : Machine State) where
       other e = absurd (cc)
 
   pub brings_logger : (w w' : Kept State) (v : Seen) (packet : Packet) (bytes : List ℕ) (logs now : Logs) (sent : Carried) → WorldStands service w v
-      → ServerToLogger ≡ way_along w.keys (wire_of packet) → w.log ≡ log_in logs → w.keepers ≡ keepers_in logs → HearsIn logs ServerToLogger bytes w.packets now sent
+      → ServerToLogger ≡ way_along w.keys (wire_of packet) → w.log ≡ log_in logs → w.keepers ≡ keepers_in logs → HearsIn (grammar_of (profile_of w.profile)) logs ServerToLogger bytes w.packets now sent
       → w' ≡ with_logs w (now, sent) → ReachesNext service (DeliveredAs service v packet bytes) v w'
-  brings_logger w w' v packet bytes logs now sent st way log two heard e' = brings_to_log w w' v packet bytes ServerToLogger logs now sent st refl way log two heard e'
+  brings_logger w w' v packet bytes logs now sent st way log two heard e' =
+      brings_to_log w w' v packet bytes ServerToLogger logs now sent st refl way log two
+      (subst (λ p. HearsIn (grammar_of p) logs ServerToLogger bytes w.packets now sent) st.profile heard) e'
 
   -- no packet of a world with one logger goes between two
   pub none_between : {P : Type 0} (keys : List Key) (packet : Packet) (way : Way) → is_between way ≡ true → way ≡ way_along keys (wire_of packet) → P
@@ -156,33 +160,33 @@ module _ {State : Type 0} (service : Machine State) where
   packet_brought keys v (From_logger message) bytes number w w' way g = absurd (cc)
 
   pub message_comes : (keys : List Key) (v : Seen) (packet : Packet) (bytes : List ℕ) → LoggerToServer ≡ way_along keys (wire_of packet) → ComesAs v packet bytes
-      → MayCome v (message_or_noise (messages.reading bytes))
+      → MayCome v (message_or_noise (messages.reading_by (grammar_of v.profile) bytes))
   message_comes keys v (From_logger message) bytes way comes = comes
   message_comes keys v (To_server segment) bytes way comes = absurd (cc)
   message_comes keys v (To_client segment) bytes way comes = absurd (cc)
   message_comes keys v (To_logger message) bytes way comes = absurd (cc)
 
   pub message_brought : (keys : List Key) (v : Seen) (packet : Packet) (bytes : List ℕ) (w w' : Kept State) → LoggerToServer ≡ way_along keys (wire_of packet)
-      → ActorsGoOn service (ServerMoves service (message_or_noise (messages.reading bytes)) v) v w w' → ActorsGoOn service (DeliveredAs service v packet bytes) v w w'
+      → ActorsGoOn service (ServerMoves service (message_or_noise (messages.reading_by (grammar_of v.profile) bytes)) v) v w w' → ActorsGoOn service (DeliveredAs service v packet bytes) v w w'
   message_brought keys v (From_logger message) bytes w w' way g = g
   message_brought keys v (To_server segment) bytes w w' way g = absurd (cc)
   message_brought keys v (To_client segment) bytes w w' way g = absurd (cc)
   message_brought keys v (To_logger message) bytes w w' way g = absurd (cc)
 
   -- a packet's own bytes are the packet
-  pub comes_whole : (v : Seen) (packet : Packet) → HasWire packet → WasSent v packet → ComesAs v packet (wire_of packet).bytes
+  pub comes_whole : (v : Seen) (packet : Packet) → HasWireBy (grammar_of v.profile) packet → WasSent v packet → ComesAs v packet (wire_by (grammar_of v.profile) packet).bytes
   comes_whole v (To_server segment) wire sent = subst (λ r. MayCome v (segment_or_noise r)) (sym (spelling_is_read segment wire.0)) sent
   comes_whole v (To_client segment) wire sent = tt
   comes_whole v (To_logger message) wire sent = tt
   comes_whole v (From_logger message) wire sent = subst (λ r. MayCome v (message_or_noise r)) (sym (message_is_read message wire.0)) sent
 
-  pub as_whole : (v : Seen) (packet : Packet) (sent : List Packet) (after : Seen) → HasWire packet → DeliveredAs service v packet (wire_of packet).bytes sent after → Delivered service v packet sent after
+  pub as_whole : (v : Seen) (packet : Packet) (sent : List Packet) (after : Seen) → HasWireBy (grammar_of v.profile) packet → DeliveredAs service v packet (wire_by (grammar_of v.profile) packet).bytes sent after → Delivered service v packet sent after
   as_whole v (To_server segment) sent after wire h = subst (λ r. ServerMoves service (segment_or_noise r) v sent after) (spelling_is_read segment wire.0) h
   as_whole v (To_client segment) sent after wire h = subst (λ r. ClientReads (destination_of segment) r v sent after) (spelling_is_read segment wire.0) h
   as_whole v (To_logger message) sent after wire h = subst (λ r. LogReads r v sent after) (message_is_read message wire.0) h
   as_whole v (From_logger message) sent after wire h = subst (λ r. ServerMoves service (message_or_noise r) v sent after) (message_is_read message wire.0) h
 
-  pub goes_whole : (v : Seen) (packet : Packet) (w' : Kept State) → HasWire packet → ReachesNext service (DeliveredAs service v packet (wire_of packet).bytes) v w' → ReachesNext service (Delivered service v packet) v w'
+  pub goes_whole : (v : Seen) (packet : Packet) (w' : Kept State) → HasWireBy (grammar_of v.profile) packet → ReachesNext service (DeliveredAs service v packet (wire_by (grammar_of v.profile) packet).bytes) v w' → ReachesNext service (Delivered service v packet) v w'
   goes_whole v packet w' wire g = record { sent = g.sent; world = g.world; goes = as_whole v packet g.sent g.world wire g.goes; stands = g.stands; grew = g.grew }
 
   -- with a changed bit they are noise
@@ -194,10 +198,10 @@ module _ {State : Type 0} (service : Machine State) where
   message_noise v (Err bad) h = tt
   message_noise v (Ok message) h = absurd (true≢false (sym h))
 
-  pub comes_changed : (v : Seen) (packet : Packet) (bit : ℕ) → HasWire packet → bit < 8 * length (wire_of packet).bytes → ComesAs v packet (flipped bit (wire_of packet).bytes)
+  pub comes_changed : (v : Seen) (packet : Packet) (bit : ℕ) → HasWireBy (grammar_of v.profile) packet → bit < 8 * length (wire_by (grammar_of v.profile) packet).bytes → ComesAs v packet (flipped bit (wire_by (grammar_of v.profile) packet).bytes)
   comes_changed v (To_server segment) bit wire within =
       segment_noise v (segments.reading (flipped bit (segments.spelling segment))) (flipped_packet_is_refused bit (segments.spelling segment) segment (spelling_is_read segment wire.0) within)
   comes_changed v (To_client segment) bit wire within = tt
   comes_changed v (To_logger message) bit wire within = tt
   comes_changed v (From_logger message) bit wire within =
-      message_noise v (messages.reading (flipped bit (messages.spelling message))) (flipped_message_is_refused bit (messages.spelling message) message (message_is_read message wire.0) within)
+      message_noise v (messages.reading_by (grammar_of v.profile) (flipped bit (messages.spelling_by (grammar_of v.profile) message))) (flipped_is_refused_by (grammar_of v.profile) bit (messages.spelling_by (grammar_of v.profile) message) message (message_is_read message wire.0) within)

@@ -3,15 +3,20 @@ use Rattle.std.proofs.Common.{◌≡◌, ◌∙◌, sym, ap, subst, refl, ℕ, �
 use Rattle.seq_arith.specs.PacketGrammar as segments
 use Rattle.seq_arith.specs.MessageGrammar as messages
 use Rattle.server_trait.specs.declared.Service.{Ghosts}
-use Rattle.ft_model.specs.World.{DeliveredAs, segment_or_noise, message_or_noise}
+use Rattle.tcp_rules.specs.Profile.{grammar_of}
+use Rattle.tcp_rules.specs.Profiles.{profile_of}
+use Rattle.ft_model.specs.World.{World as Seen, DeliveredAs, MayCome, ServerMoves, segment_or_noise, message_or_noise}
 use Rattle.ft_model.specs.declared.way.Way.{Way}
 use Rattle.ft_model.specs.declared.way.Way.TheVariants.{ClientToServer, ServerToClient, ServerToLogger, LoggerToServer, HeadToTail, TailToHead}
 use Rattle.twin_laws.specs.TwinWorld.{seen}
 use Rattle.mark_laws.specs.MarkedNode.MarkedInput.{Plain_comes}
-use Rattle.mark_laws.specs.MarkedWorld.{said_by}
+use Rattle.mark_laws.specs.MarkedWorld.{ServerMoves as MarkedMoves, said_by}
 use Rattle.mark_laws.specs.MarkedWorld.{input_of as heard_from}
 use Rattle.node_serving.specs.Markers.{Saving}
+use Rattle.net_schedule.specs.Actors.{ActorsStand, ActorsGoOn}
 use Rattle.net_schedule.specs.Delivery.{delivered_to}
+use Rattle.net_schedule.specs.MarkedRefinement.{MarkedGoesOn, MayComeMarked}
+use Rattle.net_schedule.specs.Premises.{Premises}
 use Rattle.net_schedule.specs.WorldView.{kept, service_of}
 use Rattle.net_schedule.specs.MarkedTurns.{marker_in}
 use Rattle.net_schedule.specs.TwinRefinement.{TwinGoesOn, ParcelComesAs}
@@ -29,7 +34,7 @@ use Rattle.net_schedule.proofs.TwinLoggers.{brings_loggers, logs_grow}
 module _ {State : Type 0} {ghosts : Ghosts State} (saved : Saving State) (w w' : World State ghosts) (way : Way) (bytes : List ℕ) where
   pub to_client : (number : ℕ) → way ≡ ServerToClient number → kept w' ≡ record (kept w) { clients = delivered_to number bytes w.clients.items } → Brings saved way bytes w w'
   to_client number is so = record {
-    continues = record { same_kind = ap (λ k. k.kind) so; grew = subst (λ k. length w.packets.bytes ≤ length k.packets.bytes) (sym so) (le_refl (length w.packets.bytes)) };
+    continues = record { same_kind = ap (λ k. k.kind) so; same_profile = ap (λ k. k.profile) so; grew = subst (λ k. length w.packets.bytes ≤ length k.packets.bytes) (sym so) (le_refl (length w.packets.bytes)) };
     one = λ v packet st p along comes.
         one_goes (service_of w) (DeliveredAs (service_of w) v packet bytes) (kept w) (kept w') v st
         (brings_client (service_of w) (kept w) (kept w') v packet bytes number (actors_of (service_of w) (kept w) v st) p (sym is ∙ along) so);
@@ -57,32 +62,44 @@ module _ {State : Type 0} {ghosts : Ghosts State} (saved : Saving State) (w w' :
         segment_brought (marker_in saved every w) (kept w).keys (kept w') v parcel bytes number (sym is ∙ along) comes (λ may. so.marked savable every v st p may);
   }
 
-  pub answer_to_server : way ≡ LoggerToServer → Serves saved (message_or_noise (messages.reading bytes)) (heard_from (said_by bytes)) w w' → Brings saved way bytes w w'
+  -- the server reads messages by its profile, which is that of the definitions' world
+  moved : Serves saved (message_or_noise (messages.reading_by (grammar_of (profile_of w.profile)) bytes)) (heard_from (said_by (grammar_of (profile_of w.profile)) bytes)) w w'
+      → (v : Seen) → ActorsStand (service_of w) (kept w) v → Premises (service_of w) v → MayCome v (message_or_noise (messages.reading_by (grammar_of v.profile) bytes))
+      → ActorsGoOn (service_of w) (ServerMoves (service_of w) (message_or_noise (messages.reading_by (grammar_of v.profile) bytes)) v) v (kept w) (kept w')
+  moved so v st p comes =
+      subst (λ q. ActorsGoOn (service_of w) (ServerMoves (service_of w) (message_or_noise (messages.reading_by (grammar_of q) bytes)) v) v (kept w) (kept w')) st.profile
+      (so.moves v st p (subst (λ q. MayCome v (message_or_noise (messages.reading_by (grammar_of q) bytes))) (sym st.profile) comes))
+
+  pub answer_to_server : way ≡ LoggerToServer
+      → Serves saved (message_or_noise (messages.reading_by (grammar_of (profile_of w.profile)) bytes)) (heard_from (said_by (grammar_of (profile_of w.profile)) bytes)) w w'
+      → Brings saved way bytes w w'
   answer_to_server is so = record {
     continues = so.continues;
     one = λ v packet st p along comes.
         one_goes (service_of w) (DeliveredAs (service_of w) v packet bytes) (kept w) (kept w') v st
         (message_brought (service_of w) (kept w).keys v packet bytes (kept w) (kept w') (sym is ∙ along)
-        (so.moves v (actors_of (service_of w) (kept w) v st) p (message_comes (service_of w) (kept w).keys v packet bytes (sym is ∙ along) comes)));
+        (moved so v (actors_of (service_of w) (kept w) v st) p (message_comes (service_of w) (kept w).keys v packet bytes (sym is ∙ along) comes)));
     two = λ v parcel st p along comes.
         by_outside (λ x. TwinGoesOn (service_of w) (ParcelComesAs (service_of w) x bytes v) v (kept w')) (kept w).keys (seen v p.packets) parcel LoggerToServer bytes refl (sym is ∙ along) comes
         (λ packet other goes came. two_brings (service_of w) (kept w) (kept w') v p.packets packet bytes other st
         (message_brought (service_of w) (kept w).keys (seen v p.packets) packet bytes (kept w) (kept w') goes
-        (so.moves (seen v p.packets) (twin_actors_of (service_of w) (kept w) v p.packets st) p.premises
+        (moved so (seen v p.packets) (twin_actors_of (service_of w) (kept w) v p.packets st) p.premises
         (message_comes (service_of w) (kept w).keys (seen v p.packets) packet bytes goes came))));
     marked = λ savable every v parcel st p along comes.
-        answer_brought (marker_in saved every w) (kept w).keys (kept w') v parcel bytes (sym is ∙ along) comes (λ may. so.marked savable every v st p may);
+        answer_brought (marker_in saved every w) (kept w).keys (kept w') v parcel bytes (sym is ∙ along) comes
+        (λ may. subst (λ q. MarkedGoesOn (marker_in saved every w) (MarkedMoves (marker_in saved every w) (heard_from (said_by (grammar_of q) bytes)) v) v (kept w')) st.actors.profile
+        (so.marked savable every v st p (subst (λ q. MayComeMarked v (heard_from (said_by (grammar_of q) bytes))) (sym st.actors.profile) may)));
   }
 
   -- what a logger sends is stored after what was
   more_logged : (to : Way) → TellsLogger to bytes w w' → Continues w w'
-  more_logged to so = record { same_kind = ap (λ k. k.kind) so.is; grew = logs_grow w.logs w'.logs to bytes w.packets w'.packets so.heard }
+  more_logged to so = record { same_kind = ap (λ k. k.kind) so.is; same_profile = ap (λ k. k.profile) so.is; grew = logs_grow (grammar_of (profile_of w.profile)) w.logs w'.logs to bytes w.packets w'.packets so.heard }
 
   pub to_logger : way ≡ ServerToLogger → TellsLogger ServerToLogger bytes w w' → Brings saved way bytes w w'
   to_logger is so = record {
     continues = more_logged ServerToLogger so;
     one = λ v packet st p along comes. brings_logger (service_of w) (kept w) (kept w') v packet bytes w.logs w'.logs w'.packets st (sym is ∙ along) refl refl so.heard so.is;
-    two = λ v parcel st p along comes. brings_loggers (service_of w) (kept w) (kept w') v st p.paired w.logs w'.logs w'.packets parcel ServerToLogger bytes refl refl (sym is ∙ along) so.heard so.is;
+    two = λ v parcel st p along comes. brings_loggers (service_of w) (kept w) (kept w') v st p.paired (grammar_of (profile_of w.profile)) w.logs w'.logs w'.packets parcel ServerToLogger bytes refl refl (sym is ∙ along) so.heard so.is;
     marked = λ savable every v parcel st p along comes.
         brings_marked (marker_in saved every w) (kept w) (kept w') v st w.logs w'.logs w'.packets parcel bytes p.distinct refl refl (sym is ∙ along) so.heard so.is;
   }
@@ -91,7 +108,7 @@ module _ {State : Type 0} {ghosts : Ghosts State} (saved : Saving State) (w w' :
   to_tail is so = record {
     continues = more_logged HeadToTail so;
     one = λ v packet st p along comes. none_between (service_of w) (kept w).keys packet HeadToTail refl (sym is ∙ along);
-    two = λ v parcel st p along comes. brings_loggers (service_of w) (kept w) (kept w') v st p.paired w.logs w'.logs w'.packets parcel HeadToTail bytes refl refl (sym is ∙ along) so.heard so.is;
+    two = λ v parcel st p along comes. brings_loggers (service_of w) (kept w) (kept w') v st p.paired (grammar_of (profile_of w.profile)) w.logs w'.logs w'.packets parcel HeadToTail bytes refl refl (sym is ∙ along) so.heard so.is;
     marked = λ savable every v parcel st p along comes. no_marked_between (kept w).keys parcel HeadToTail refl (sym is ∙ along);
   }
 
@@ -99,6 +116,6 @@ module _ {State : Type 0} {ghosts : Ghosts State} (saved : Saving State) (w w' :
   to_head is so = record {
     continues = more_logged TailToHead so;
     one = λ v packet st p along comes. none_between (service_of w) (kept w).keys packet TailToHead refl (sym is ∙ along);
-    two = λ v parcel st p along comes. brings_loggers (service_of w) (kept w) (kept w') v st p.paired w.logs w'.logs w'.packets parcel TailToHead bytes refl refl (sym is ∙ along) so.heard so.is;
+    two = λ v parcel st p along comes. brings_loggers (service_of w) (kept w) (kept w') v st p.paired (grammar_of (profile_of w.profile)) w.logs w'.logs w'.packets parcel TailToHead bytes refl refl (sym is ∙ along) so.heard so.is;
     marked = λ savable every v parcel st p along comes. no_marked_between (kept w).keys parcel TailToHead refl (sym is ∙ along);
   }

@@ -4,6 +4,7 @@ use Rattle.std.specs.List.{AllByRecursion}
 use Rattle.std.proofs.lemmas.Bool.Decides.{nat_tests}
 use Rattle.seq_arith.specs.Damage.{flipped}
 use Rattle.server_trait.specs.Service.{Machine}
+use Rattle.tcp_rules.specs.Profile.{grammar_of}
 use Rattle.tcp_rules.specs.Profiles.{profile_of}
 use Rattle.ft_model.specs.Client.{move_asked}
 use Rattle.ft_model.specs.Lawful.{hello}
@@ -12,7 +13,7 @@ use Rattle.ft_model.specs.Network.{Packet, packet_at}
 use Rattle.ft_model.specs.Node.{Node, booted}
 use Rattle.ft_model.specs.Node.Stage.{Asking}
 use Rattle.ft_model.specs.Node.Input.{Tick_comes}
-use Rattle.ft_model.specs.Wire.{Wire, wire_of, HasWire}
+use Rattle.ft_model.specs.Wire.{Wire, wire_by, wire_of, HasWireBy}
 use Rattle.ft_model.specs.World.{World as Seen, ServerMoves, Delivered, DeliveredAs}
 use Rattle.ft_model.specs.declared.event.Event.{Event}
 use Rattle.ft_model.specs.declared.event.Event.TheVariants as events
@@ -42,7 +43,7 @@ no_move v event sent after none number move client k h = none_is_some (number, m
 module _ {State : Type 0} (service : Machine State) where
   -- the server starts
   pub boots : (w w' : Kept State) (v : Seen) (boot isn : ℕ) (s : Server State) (sent : List Wire) → ActorsStand service w v → w.node ≡ None → w.boot < boot → boot < 2 ^ 64
-      → StageStands service (booted w.server (profile_of w.profile) boot isn) s.stage → sent ≡ map wire_of (hello (booted w.server (profile_of w.profile) boot isn))
+      → StageStands service (booted w.server (profile_of w.profile) boot isn) s.stage → sent ≡ map (wire_by (grammar_of (profile_of w.profile))) (hello (booted w.server (profile_of w.profile) boot isn))
       → s.who ≡ record { boot = boot; isn = isn; kind = w.kind; local = w.server; profile = w.profile }
       → w' ≡ record w { packets = with_wires w.keys w.packets sent; boot = boot; node = Some s } → ActorsAdvance service v (events.Boot boot isn) w w'
   boots w w' v boot isn s wires st is_down more fits stands hello_is who e' =
@@ -50,7 +51,9 @@ module _ {State : Type 0} (service : Machine State) where
       let node : Node = booted v.server v.profile boot isn in
       let low : v.boot < boot = subst (λ n. n < boot) st.boot more in
       let rises : nat_le boot v.boot ≡ false = grind (arith, nat_tests) in
-      let said : wires ≡ map wire_of (hello node) = subst (λ a. wires ≡ map wire_of (hello (booted a (profile_of w.profile) boot isn))) st.server hello_is in
+      let said : wires ≡ map (wire_by (grammar_of v.profile)) (hello node) =
+      subst (λ p. wires ≡ map (wire_by (grammar_of p)) (hello (booted v.server v.profile boot isn))) st.profile
+      (subst (λ a. wires ≡ map (wire_by (grammar_of (profile_of w.profile))) (hello (booted a v.profile boot isn))) st.server hello_is) in
       subst (ActorsAdvance service v (events.Boot boot isn) w) (sym e')
       (record {
         happens = record {
@@ -70,9 +73,11 @@ module _ {State : Type 0} (service : Machine State) where
               is = ap₂ (λ a x. booted a x boot isn) (sym st.server) (sym st.profile) ∙ ap (λ i. node_of i Asking) (sym who);
               stands = subst (λ i. StageStands service (node_of i Asking) s.stage) (sym who) stands;
             };
+            runs = ap (λ i. i.profile) who;
           };
           grew = refl;
           quiet = refl;
+          same_profile = refl;
           stored = ap (with_wires w.keys w.packets) said;
           same_keys = refl;
           same_log = refl;
@@ -102,9 +107,10 @@ module _ {State : Type 0} (service : Machine State) where
           sent = [];
           world = record v { node = None; packets = v.packets ++ [] };
           goes = (is_up, refl, refl);
-          stands = record { server = st.server; profile = st.profile; keys = st.keys; clients = st.clients; boot = st.boot; unmarked = st.unmarked; node = tt };
+          stands = record { server = st.server; profile = st.profile; keys = st.keys; clients = st.clients; boot = st.boot; unmarked = st.unmarked; node = tt; runs = tt };
           grew = refl;
           quiet = refl;
+          same_profile = refl;
           stored = none_sent w.keys w.packets;
           same_keys = refl;
           same_log = refl;
@@ -129,6 +135,7 @@ module _ {State : Type 0} (service : Machine State) where
           stands = g.stands;
           grew = g.grew;
           quiet = g.quiet;
+          same_profile = g.same_profile;
           stored = g.stored;
           same_keys = g.same_keys;
           same_log = g.same_log;
@@ -143,8 +150,8 @@ module _ {State : Type 0} (service : Machine State) where
       → at_number w.packets.ways n ≡ Some way → at_number w.packets.bytes n ≡ Some bytes
       → ((packet : Packet) → way ≡ way_along w.keys (wire_of packet) → ComesAs v packet bytes → ReachesNext service (DeliveredAs service v packet bytes) v w') → Advances service v (events.Deliver n) w'
   delivers w w' v n way bytes st p e f brings =
-      let x : Found w.keys v.packets n way bytes = found w.keys w.packets v.packets n way bytes st.packets e f in
-      let wire : HasWire x.packet = all_numbered HasWire v.packets n x.packet p.wires x.is in
+      let x : Found (grammar_of v.profile) w.keys v.packets n way bytes = found (grammar_of v.profile) w.keys w.packets v.packets n way bytes st.packets e f in
+      let wire : HasWireBy (grammar_of v.profile) x.packet = all_numbered (HasWireBy (grammar_of v.profile)) v.packets n x.packet p.wires x.is in
       let came : ComesAs v x.packet bytes = subst (ComesAs v x.packet) (sym x.spells) (comes_whole service v x.packet wire (n, x.is)) in
       let g : ReachesNext service (Delivered service v x.packet) v w' = goes_whole service v x.packet w' wire (subst (λ b. ReachesNext service (DeliveredAs service v x.packet b) v w') x.spells (brings x.packet x.goes came)) in
       record {
@@ -162,26 +169,26 @@ module _ {State : Type 0} (service : Machine State) where
       → ((packet : Packet) → way ≡ way_along w.keys (wire_of packet) → ComesAs v packet (flipped bit bytes) → ReachesNext service (DeliveredAs service v packet (flipped bit bytes)) v w')
       → Advances service v (events.Flip n bit) w'
   flips w w' v n bit way bytes st p e f within brings =
-      let x : Found w.keys v.packets n way bytes = found w.keys w.packets v.packets n way bytes st.packets e f in
-      let wire : HasWire x.packet = all_numbered HasWire v.packets n x.packet p.wires x.is in
-      let inside : bit < 8 * length (wire_of x.packet).bytes = subst (λ b. bit < 8 * length b) x.spells within in
+      let x : Found (grammar_of v.profile) w.keys v.packets n way bytes = found (grammar_of v.profile) w.keys w.packets v.packets n way bytes st.packets e f in
+      let wire : HasWireBy (grammar_of v.profile) x.packet = all_numbered (HasWireBy (grammar_of v.profile)) v.packets n x.packet p.wires x.is in
+      let inside : bit < 8 * length (wire_by (grammar_of v.profile) x.packet).bytes = subst (λ b. bit < 8 * length b) x.spells within in
       let came : ComesAs v x.packet (flipped bit bytes) = subst (λ b. ComesAs v x.packet (flipped bit b)) (sym x.spells) (comes_changed service v x.packet bit wire inside) in
-      let g : ReachesNext service (DeliveredAs service v x.packet (flipped bit (wire_of x.packet).bytes)) v w' =
+      let g : ReachesNext service (DeliveredAs service v x.packet (flipped bit (wire_by (grammar_of v.profile) x.packet).bytes)) v w' =
       subst (λ b. ReachesNext service (DeliveredAs service v x.packet (flipped bit b)) v w') x.spells (brings x.packet x.goes came) in
-      let has : nat_le (8 * length (wire_of x.packet).bytes) bit ≡ false = grind (arith, nat_tests) in
+      let has : nat_le (8 * length (wire_by (grammar_of v.profile) x.packet).bytes) bit ≡ false = grind (arith, nat_tests) in
       record {
         happens = record { sent = g.sent; world = g.world; goes = (x.packet, x.is, record { wire = wire; within = inside; comes = g.goes }); stands = g.stands; grew = g.grew };
-        allowed = ap (λ o. refusal_of_flip o bit) x.is ∙ ap (λ b. cond b (Some why.Bit) None) has;
+        allowed = ap (λ o. refusal_of_flip (grammar_of v.profile) o bit) x.is ∙ ap (λ b. cond b (Some why.Bit) None) has;
         scripted = no_move v (events.Flip n bit) g.sent g.world refl;
       }
 
   pub refuses_no_packet : (v : Seen) (n bit : ℕ) → packet_at v.packets n ≡ None → refusal v (events.Flip n bit) ≡ Some why.Packet
-  refuses_no_packet v n bit e = ap (λ o. refusal_of_flip o bit) e
+  refuses_no_packet v n bit e = ap (λ o. refusal_of_flip (grammar_of v.profile) o bit) e
 
   pub refuses_bit : (w : Kept State) (v : Seen) (n bit : ℕ) (way : Way) (bytes : List ℕ) → WorldStands service w v → at_number w.packets.ways n ≡ Some way → at_number w.packets.bytes n ≡ Some bytes
       → 8 * length bytes ≤ bit → refusal v (events.Flip n bit) ≡ Some why.Bit
   refuses_bit w v n bit way bytes st e f past =
-      let x : Found w.keys v.packets n way bytes = found w.keys w.packets v.packets n way bytes st.packets e f in
-      let outside : 8 * length (wire_of x.packet).bytes ≤ bit = subst (λ b. 8 * length b ≤ bit) x.spells past in
-      let has : nat_le (8 * length (wire_of x.packet).bytes) bit ≡ true = grind (arith, nat_tests) in
-      ap (λ o. refusal_of_flip o bit) x.is ∙ ap (λ b. cond b (Some why.Bit) None) has
+      let x : Found (grammar_of v.profile) w.keys v.packets n way bytes = found (grammar_of v.profile) w.keys w.packets v.packets n way bytes st.packets e f in
+      let outside : 8 * length (wire_by (grammar_of v.profile) x.packet).bytes ≤ bit = subst (λ b. 8 * length b ≤ bit) x.spells past in
+      let has : nat_le (8 * length (wire_by (grammar_of v.profile) x.packet).bytes) bit ≡ true = grind (arith, nat_tests) in
+      ap (λ o. refusal_of_flip (grammar_of v.profile) o bit) x.is ∙ ap (λ b. cond b (Some why.Bit) None) has

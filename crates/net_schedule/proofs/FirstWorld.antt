@@ -4,6 +4,8 @@ use Rattle.std.specs.Prelude.{unwrap_or}
 use Rattle.server_trait.specs.Service.{Machine}
 use Rattle.ft_io.specs.declared.Addr.{Addr}
 use Rattle.ft_io.specs.declared.Key.{Key}
+use Rattle.tcp_rules.specs.Profile.{grammar_of}
+use Rattle.tcp_rules.specs.Profiles.{profile_of}
 use Rattle.ft_model.specs.Client.{Client}
 use Rattle.ft_model.specs.Schedule.{kind_of, clients_of}
 use Rattle.ft_model.specs.Legal.{start_of}
@@ -79,6 +81,7 @@ stands_at_start services schedule w logs every start e one none =
     subst (StandsAfter services schedule [] []) (sym e)
     (record {
       kind = refl;
+      profile = refl;
       legal = record { joint = start; events_are = refl; allowed = tt };
       stands = record {
         server = refl;
@@ -91,19 +94,21 @@ stands_at_start services schedule w logs every start e one none =
         packets = refl;
         boot = refl;
         node = tt;
+        runs = tt;
       };
     })
 
 pub twin_stands_at_start : {State : Type 0} (services : ℕ → Machine State) (schedule : Schedule) (w : Kept State) (logs : Logs) (every : ℕ) → IsStart (start_of schedule)
-    → w ≡ started schedule logs every → logs ≡ Two new_loggers → every ≡ 0 → TwinStandsAfter services schedule [] [] w
+    → w ≡ started schedule logs every → logs ≡ Two (new_loggers (grammar_of (profile_of schedule.profile))) → every ≡ 0 → TwinStandsAfter services schedule [] [] w
 twin_stands_at_start services schedule w logs every start e two none =
     subst (TwinStandsAfter services schedule [] []) (sym e)
     (record {
       kind = refl;
+      profile = refl;
       legal = record { joint = record { start = start; pair = refl; parcels = refl }; events_are = refl; allowed = tt };
       stands = record {
-        actors = record { server = refl; profile = refl; keys = keys_begin schedule.server schedule.clients; clients = refl; boot = refl; unmarked = none; node = tt };
-        loggers = new_loggers;
+        actors = record { server = refl; profile = refl; keys = keys_begin schedule.server schedule.clients; clients = refl; boot = refl; unmarked = none; node = tt; runs = tt };
+        loggers = new_loggers (grammar_of (profile_of schedule.profile));
         double = ap keepers_in two;
         log = ap log_in two;
         pair = record { head = refl; tail = refl };
@@ -119,9 +124,10 @@ marked_stands_at_start saved services schedule w logs every marks start e new sa
     subst (MarkedStandsAfter (marker_for saved services marks) schedule [] []) (sym e)
     (record {
       kind = refl;
+      profile = refl;
       legal = record { joint = record { start = start; log = refl; parcels = refl; node = refl }; events_are = refl; allowed = tt };
       stands = record {
-        actors = record { server = refl; profile = refl; keys = keys_begin schedule.server schedule.clients; clients = refl; boot = refl };
+        actors = record { server = refl; profile = refl; keys = keys_begin schedule.server schedule.clients; clients = refl; boot = refl; runs = tt };
         node = tt;
         both = new.0;
         keepers = ap keepers_in new.1;

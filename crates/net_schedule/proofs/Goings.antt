@@ -5,25 +5,28 @@ use Rattle.ft_io.specs.declared.Key.{Key}
 use Rattle.seq_arith.specs.Packet.{Segment}
 use Rattle.seq_arith.specs.Message.{Message}
 use Rattle.server_trait.specs.Service.{Machine}
+use Rattle.tcp_rules.specs.Profile.{grammar_of}
+use Rattle.tcp_rules.specs.Profiles.{profile_of}
+use Rattle.tcp_rules.specs.declared.profile.Profile.{Profile}
 use Rattle.ft_model.specs.Client.{Client, received}
 use Rattle.ft_model.specs.Lawful.{IsNearInput, IsSoundInput, fence}
 use Rattle.ft_model.specs.Log.{log_after, answer_to}
 use Rattle.ft_model.specs.Network.{Packet}
 use Rattle.ft_model.specs.Network.Packet.{From_logger}
 use Rattle.ft_model.specs.Node.{Node, Stage, Input}
-use Rattle.ft_model.specs.Wire.{Wire, wire_of}
+use Rattle.ft_model.specs.Wire.{Wire, wire_by}
 use Rattle.ft_model.specs.World.{World as Seen, MayCome, ServerTurn, ServerMoves, ClientHears, LogHears, NothingHappens, Happens, with_client}
 use Rattle.ft_model.specs.declared.event.Event.{Event}
 use Rattle.ft_model.proofs.FaithfulKept.{received_same}
 use Rattle.ft_model.proofs.Lists.{none_is_some}
 use Rattle.ft_model.proofs.ClientKeys.{keys_stay}
-use Rattle.logger_store.specs.StoreState.{answer_bytes}
+use Rattle.logger_store.specs.StoreState.{answer_bytes_by}
 use Rattle.node_serving.specs.Identity.{node_of}
 use Rattle.server_node.specs.Stages.{StageStands, NodeGoes}
 use Rattle.net_schedule.specs.Actors.{ActorsStand, ActorsGoOn, ActorsAdvance}
 use Rattle.schedule_network.specs.StoredPackets.{carried, with_wires, with_answer}
 use Rattle.net_schedule.specs.Premises.{Premises}
-use Rattle.net_schedule.specs.Refinement.{Kept, Server, IsAt, NodeStands, WorldStands, ReachesNext, Advances}
+use Rattle.net_schedule.specs.Refinement.{Kept, Server, IsAt, NodeStands, RunsWith, WorldStands, ReachesNext, Advances}
 use Rattle.net_schedule.proofs.PacketStore.{sent_kept, none_sent, answer_kept}
 
 -- the server is down in both worlds at once, ..
@@ -58,6 +61,7 @@ module _ {State : Type 0} (service : Machine State) where
   server_goes w w' v input s s' sent st p comes is_up same turn e' =
       let u : IsUp service w.kind s v.node = up service w.kind s v.node (subst (λ o. NodeStands service w.kind o v.node) is_up st.node) in
       let node : Node = node_of s.who u.at.standing in
+      let its_profile : s.who.profile ≡ w.profile = subst (RunsWith w.profile) is_up st.runs in
       let is : v.node ≡ Some (node_of s.who u.at.standing) = u.up ∙ ap Some u.at.is in
       let g : NodeGoes service (node_of s.who u.at.standing) input s.who s'.stage sent =
       turn u.at.standing (p.near (node_of s.who u.at.standing) input is comes) (p.sound (node_of s.who u.at.standing) input is comes) u.at.stands in
@@ -79,10 +83,13 @@ module _ {State : Type 0} (service : Machine State) where
             is = ap (λ i. node_of i g.after) (sym same);
             stands = subst (λ i. StageStands service (node_of i g.after) s'.stage) (sym same) g.stands;
           };
+          runs = ap (λ i. i.profile) same ∙ its_profile;
         };
         grew = refl;
         quiet = refl;
-        stored = ap (with_wires w.keys w.packets) g.wires;
+        same_profile = refl;
+        stored = ap (with_wires w.keys w.packets)
+            (g.wires ∙ ap (λ p. map (wire_by (grammar_of p)) g.packets) (ap profile_of its_profile ∙ st.profile));
         same_keys = refl;
         same_log = refl;
         same_keepers = refl;
@@ -101,9 +108,10 @@ module _ {State : Type 0} (service : Machine State) where
     sent = [];
     world = record v { packets = v.packets ++ [] };
     goes = goes;
-    stands = record { server = st.server; profile = st.profile; keys = st.keys; clients = st.clients; boot = st.boot; unmarked = st.unmarked; node = st.node };
+    stands = record { server = st.server; profile = st.profile; keys = st.keys; clients = st.clients; boot = st.boot; unmarked = st.unmarked; node = st.node; runs = st.runs };
     grew = refl;
     quiet = refl;
+    same_profile = refl;
     stored = none_sent w.keys w.packets;
     same_keys = refl;
     same_log = refl;
@@ -134,9 +142,11 @@ module _ {State : Type 0} (service : Machine State) where
           boot = st.boot;
           unmarked = st.unmarked;
           node = st.node;
+          runs = st.runs;
         };
         grew = refl;
         quiet = refl;
+        same_profile = refl;
         stored = none_sent w.keys w.packets;
         same_keys = refl;
         same_log = refl;
@@ -149,7 +159,7 @@ module _ {State : Type 0} (service : Machine State) where
 
   -- With one logger: what server and clients do is done in the whole world.
   pub actors_of : (w : Kept State) (v : Seen) → WorldStands service w v → ActorsStand service w v
-  actors_of w v st = record { server = st.server; profile = st.profile; keys = st.keys; clients = st.clients; boot = st.boot; unmarked = st.unmarked; node = st.node }
+  actors_of w v st = record { server = st.server; profile = st.profile; keys = st.keys; clients = st.clients; boot = st.boot; unmarked = st.unmarked; node = st.node; runs = st.runs }
 
   pub one_goes : (Goes : List Packet → Seen → Type 0) (w w' : Kept State) (v : Seen) → WorldStands service w v → ActorsGoOn service Goes v w w' → ReachesNext service Goes v w'
   one_goes Goes w w' v st g = record {
@@ -164,10 +174,13 @@ module _ {State : Type 0} (service : Machine State) where
       single = g.same_keepers ∙ st.single;
       unmarked = g.stands.unmarked;
       log = g.same_log ∙ st.log ∙ sym g.quiet;
-      packets = g.stored ∙ sent_kept w.keys w.packets v.packets g.sent st.packets
-          ∙ ap (λ ps. carried w.keys (map wire_of ps)) (sym g.grew) ∙ ap (λ ks. carried ks (map wire_of g.world.packets)) (sym g.same_keys);
+      packets = g.stored ∙ sent_kept (grammar_of v.profile) w.keys w.packets v.packets g.sent st.packets
+          ∙ ap (λ ps. carried w.keys (map (wire_by (grammar_of v.profile)) ps)) (sym g.grew)
+          ∙ ap (λ ks. carried ks (map (wire_by (grammar_of v.profile)) g.world.packets)) (sym g.same_keys)
+          ∙ ap (λ p. carried w'.keys (map (wire_by (grammar_of p)) g.world.packets)) (sym g.same_profile);
       boot = g.stands.boot;
       node = g.stands.node;
+      runs = g.stands.runs;
     };
     grew = g.grew;
   }
@@ -179,7 +192,7 @@ module _ {State : Type 0} (service : Machine State) where
 
   -- the only logger takes a message and answers
   pub logger_hears : (w w' : Kept State) (v : Seen) (message : Message) → WorldStands service w v
-      → w' ≡ record w { log = log_after w.log message; packets = with_answer w.packets (answer_bytes (answer_to w.log message)) } → ReachesNext service (LogHears message v) v w'
+      → w' ≡ record w { log = log_after w.log message; packets = with_answer w.packets (answer_bytes_by (grammar_of v.profile) (answer_to w.log message)) } → ReachesNext service (LogHears message v) v w'
   logger_hears w w' v message st e' =
       let answer : Option Message = answer_to v.log message in
       let sent : List Packet = option_to_list (option_map From_logger (answer_to v.log message)) in
@@ -196,16 +209,18 @@ module _ {State : Type 0} (service : Machine State) where
           single = st.single;
           unmarked = st.unmarked;
           log = ap (λ l. log_after l message) st.log;
-          packets = ap (λ l. with_answer w.packets (answer_bytes (answer_to l message))) st.log ∙ answer_kept w.keys w.packets (answer_to v.log message)
-              ∙ sent_kept w.keys w.packets v.packets (option_to_list (option_map From_logger (answer_to v.log message))) st.packets;
+          packets = ap (λ l. with_answer w.packets (answer_bytes_by (grammar_of v.profile) (answer_to l message))) st.log
+              ∙ answer_kept (grammar_of v.profile) w.keys w.packets (answer_to v.log message)
+              ∙ sent_kept (grammar_of v.profile) w.keys w.packets v.packets (option_to_list (option_map From_logger (answer_to v.log message))) st.packets;
           boot = st.boot;
           node = st.node;
+          runs = st.runs;
         };
         grew = refl;
       })
 
 -- so it is where the turn is by the service of the server's own kind, which is the world's
-pub server_goes_at : {State : Type 0} (services : ℕ → Machine State) (w w' : Kept State) (v : Seen) (input : Input) (s s' : Server State) (sent : List Wire)
+server_goes_at : {State : Type 0} (services : ℕ → Machine State) (w w' : Kept State) (v : Seen) (input : Input) (s s' : Server State) (sent : List Wire)
     → ActorsStand (services w.kind) w v → Premises (services w.kind) v → MayCome v input → w.node ≡ Some s → s'.who ≡ s.who
     → ((standing : Stage) → IsNearInput s.who.local input standing → IsSoundInput (services s.who.kind) (node_of s.who standing) input standing → StageStands (services s.who.kind) (node_of s.who standing) s.stage
     → NodeGoes (services s.who.kind) (node_of s.who standing) input s.who s'.stage sent)
@@ -219,3 +234,19 @@ server_goes_at services w w' v input s s' sent st p comes is_up same turn e' =
     (subst (λ k. IsSoundInput (services k) (node_of s.who standing) input standing) (sym u.at.kind_is) sound)
     (subst (λ k. StageStands (services k) (node_of s.who standing) s.stage) (sym u.at.kind_is) stands)))
     e'
+
+-- .. on an input that depends on its profile, which is the world's
+pub server_goes_by : {State : Type 0} (services : ℕ → Machine State) (w w' : Kept State) (v : Seen) (input : Profile → Input) (s s' : Server State) (sent : List Wire)
+    → ActorsStand (services w.kind) w v → Premises (services w.kind) v → MayCome v (input w.profile) → w.node ≡ Some s → s'.who ≡ s.who
+    → ((standing : Stage) → IsNearInput s.who.local (input s.who.profile) standing → IsSoundInput (services s.who.kind) (node_of s.who standing) (input s.who.profile) standing
+    → StageStands (services s.who.kind) (node_of s.who standing) s.stage → NodeGoes (services s.who.kind) (node_of s.who standing) (input s.who.profile) s.who s'.stage sent)
+    → w' ≡ record w { packets = with_wires w.keys w.packets sent; node = Some s' } → ActorsGoOn (services w.kind) (ServerMoves (services w.kind) (input w.profile) v) v w w'
+server_goes_by services w w' v input s s' sent st p comes is_up same turn e' =
+    let runs : s.who.profile ≡ w.profile = subst (RunsWith w.profile) is_up st.runs in
+    subst (λ q. ActorsGoOn (services w.kind) (ServerMoves (services w.kind) (input q) v) v w w') runs
+    (server_goes_at services w w' v (input s.who.profile) s s' sent st p (subst (λ q. MayCome v (input q)) (sym runs) comes) is_up same turn e')
+
+pub never_fenced_by : {State : Type 0} {P : Type 0} (service : Machine State) (w : Kept State) (v : Seen) (input : Profile → Input) (s : Server State) (newer : ℕ) → ActorsStand service w v
+    → Premises service v → MayCome v (input w.profile) → w.node ≡ Some s → ((standing : Stage) → fence (node_of s.who standing) (input s.who.profile) ≡ Some newer) → P
+never_fenced_by service w v input s newer st p comes is_up fenced =
+    never_fenced service w v (input s.who.profile) s newer st p (subst (λ q. MayCome v (input q)) (sym (subst (RunsWith w.profile) is_up st.runs)) comes) is_up fenced

@@ -1,16 +1,18 @@
 -- With marks: what only clients do is done in the whole world. They don't look at server and log, so it is first said of a world whose server is down.
-use Rattle.std.proofs.Common.{◌≡◌, ◌∙◌, sym, ap, subst, refl, ℕ, Bool, true, false, true≢false, Some, None, List, [], ◌∷◌, ◌++◌, map}
+use Rattle.std.proofs.Common.{◌≡◌, ◌∙◌, sym, ap, subst, subst₂, refl, ℕ, Bool, true, false, true≢false, Some, None, List, [], ◌∷◌, ◌++◌, map}
 use Rattle.std.specs.List.{AllByRecursion}
 use Rattle.seq_arith.specs.PacketGrammar as segments
 use Rattle.seq_arith.specs.Packet.{Segment}
 use Rattle.seq_arith.specs.declared.BadPacket.{BadPacket}
+use Rattle.seq_arith.specs.declared.kinds.Grammar.{Grammar}
 use Rattle.std.specs.Prelude.{Result, Ok, Err}
 use Rattle.ft_io.specs.declared.Key.{Key}
+use Rattle.tcp_rules.specs.Profile.{grammar_of}
 use Rattle.ft_model.specs.Client.{mover_of}
 use Rattle.ft_model.specs.Legal.{refusal, IsScripted}
 use Rattle.ft_model.specs.Network.{Packet, destination_of}
 use Rattle.ft_model.specs.Network.Packet.{To_server, To_client, To_logger, From_logger}
-use Rattle.ft_model.specs.Wire.{HasWire}
+use Rattle.ft_model.specs.Wire.{HasWireBy}
 use Rattle.ft_model.specs.World.{World as Seen, Moves, Happens, ClientReads}
 use Rattle.ft_model.specs.declared.event.Event.{Event}
 use Rattle.ft_model.specs.declared.event.Event.TheVariants.{Boot, Crash, Tick, Deliver, Flip, Begin, Send, Fin, Ack, Reset, Stop}
@@ -26,7 +28,7 @@ use Rattle.mark_laws.proofs.Strip.{usual_append, usual_of}
 use Rattle.net_schedule.specs.Actors.{ActorsStand, ActorsGoOn, ActorsAdvance}
 use Rattle.net_schedule.specs.Delivery.{delivered_to}
 use Rattle.net_schedule.specs.Premises.{Premises}
-use Rattle.net_schedule.specs.Refinement.{Kept}
+use Rattle.net_schedule.specs.Refinement.{Kept, RunsWith}
 use Rattle.net_schedule.specs.MarkedRefinement.{MarkedWorldStands, MarkedGoesOn, MarkedAdvances, MarkedPremises, MarkedNodeStands, way_of_parcel, stored_parcels}
 use Rattle.net_schedule.proofs.Bringing.{brings_client}
 use Rattle.net_schedule.proofs.MarkedParcels.{usual_after}
@@ -65,11 +67,11 @@ downed w = record w { every = 0; node = None }
 abbrev pub seen_down : MarkedWorld → Seen
 seen_down v = record (seen v) { node = None }
 
-wires_seen : (parcels : List Parcel) → AllByRecursion CanBeRead parcels → AllByRecursion HasWire (usual parcels)
-wires_seen [] a = tt
-wires_seen (Usual packet ∷ parcels) a = (a.0, wires_seen parcels a.1)
-wires_seen (Mark_sent message ∷ parcels) a = wires_seen parcels a.1
-wires_seen (Mark_answered message ∷ parcels) a = wires_seen parcels a.1
+wires_seen : (grammar : Grammar) (parcels : List Parcel) → AllByRecursion (CanBeRead grammar) parcels → AllByRecursion (HasWireBy grammar) (usual parcels)
+wires_seen grammar [] a = tt
+wires_seen grammar (Usual packet ∷ parcels) a = (a.0, wires_seen grammar parcels a.1)
+wires_seen grammar (Mark_sent message ∷ parcels) a = wires_seen grammar parcels a.1
+wires_seen grammar (Mark_answered message ∷ parcels) a = wires_seen grammar parcels a.1
 
 -- a client's event is tested alike
 pub refused_down : (v : MarkedWorld) (event : Event) → IsOfClients event → marked_refusal v event ≡ refusal (seen_down v) event
@@ -160,11 +162,11 @@ module _ {State : Type 0} (by : Marker State) where
   client_happens v (Reset client) sent world a h = goes_up v client sent world h
 
   pub down_stands : (w : Kept State) (v : MarkedWorld) → MarkedWorldStands by w v → ActorsStand by.service (downed w) (seen_down v)
-  down_stands w v st = record { server = st.actors.server; profile = st.actors.profile; keys = st.actors.keys; clients = st.actors.clients; boot = st.actors.boot; unmarked = refl; node = tt }
+  down_stands w v st = record { server = st.actors.server; profile = st.actors.profile; keys = st.actors.keys; clients = st.actors.clients; boot = st.actors.boot; unmarked = refl; node = tt; runs = tt }
 
   pub down_premises : (v : MarkedWorld) → MarkedPremises by v → Premises by.service (seen_down v)
   down_premises v p = record {
-    wires = wires_seen v.parcels p.readable;
+    wires = wires_seen (grammar_of v.profile) v.parcels p.readable;
     keys = p.keys;
     near = λ node input is comes. none_is_some node is;
     sound = λ node input is comes. none_is_some node is;
@@ -172,15 +174,16 @@ module _ {State : Type 0} (by : Marker State) where
   }
 
   -- the code's world is then at the next one
-  client_stands : (Goes : List Packet → Seen → Type 0) (w w' : Kept State) (v : MarkedWorld) → MarkedWorldStands by w v → w'.node ≡ w.node → w'.every ≡ w.every → w'.kind ≡ w.kind
+  client_stands : (Goes : List Packet → Seen → Type 0) (w w' : Kept State) (v : MarkedWorld) → MarkedWorldStands by w v → w'.node ≡ w.node → w'.every ≡ w.every → w'.kind ≡ w.kind → w'.profile ≡ w.profile
       → (g : ActorsGoOn by.service Goes (seen_down v) (downed w) (downed w')) → IsClients v g.sent g.world → MarkedWorldStands by w' (next_of v g.sent g.world)
-  client_stands Goes w w' v st same_node same_every same_kind g is = record {
+  client_stands Goes w w' v st same_node same_every same_kind same_run g is = record {
     actors = record {
       server = g.stands.server ∙ ap (λ (u : Seen). u.server) is;
       profile = g.stands.profile ∙ ap (λ (u : Seen). u.profile) is;
       keys = g.stands.keys;
       clients = g.stands.clients;
       boot = g.stands.boot ∙ ap (λ (u : Seen). u.boot) is;
+      runs = subst₂ (λ profile o. RunsWith profile o) (sym same_run) (sym same_node) st.actors.runs;
     };
     node = subst (λ k. MarkedNodeStands by k w'.node v.node) (sym same_kind) (subst (λ o. MarkedNodeStands by w.kind o v.node) (sym same_node) st.node);
     both = st.both;
@@ -188,21 +191,21 @@ module _ {State : Type 0} (by : Marker State) where
     journal = g.same_log ∙ st.journal;
     log = g.same_log ∙ st.log;
     at = st.at;
-    packets = g.stored ∙ (usual_after w.keys w.packets v.parcels g.sent st.packets ∙ ap (λ ks. stored_parcels ks (v.parcels ++ map Usual g.sent)) (sym g.same_keys));
+    packets = g.stored ∙ (usual_after (grammar_of v.profile) w.keys w.packets v.parcels g.sent st.packets ∙ ap (λ ks. stored_parcels (grammar_of v.profile) ks (v.parcels ++ map Usual g.sent)) (sym g.same_keys));
     every = same_every ∙ st.every;
     marks = st.marks;
   }
 
-  pub client_advances : (event : Event) (w w' : Kept State) (v : MarkedWorld) → IsOfClients event → MarkedWorldStands by w v → w'.node ≡ w.node → w'.every ≡ w.every → w'.kind ≡ w.kind
+  pub client_advances : (event : Event) (w w' : Kept State) (v : MarkedWorld) → IsOfClients event → MarkedWorldStands by w v → w'.node ≡ w.node → w'.every ≡ w.every → w'.kind ≡ w.kind → w'.profile ≡ w.profile
       → ActorsAdvance by.service (seen_down v) event (downed w) (downed w') → MarkedAdvances by v event w'
-  client_advances event w w' v actors st same_node same_every same_kind a =
+  client_advances event w w' v actors st same_node same_every same_kind same_run a =
       let is : IsClients v a.happens.sent a.happens.world = happened_is v event a.happens.sent a.happens.world actors a.happens.goes in
       record {
         happens = record {
           sent = map Usual a.happens.sent;
           world = next_of v a.happens.sent a.happens.world;
           goes = client_happens v event a.happens.sent a.happens.world actors a.happens.goes;
-          stands = client_stands (Happens by.service (seen_down v) event) w w' v st same_node same_every same_kind a.happens is;
+          stands = client_stands (Happens by.service (seen_down v) event) w w' v st same_node same_every same_kind same_run a.happens is;
           grew = refl;
         };
         allowed = refused_down v event actors ∙ a.allowed;
@@ -210,15 +213,15 @@ module _ {State : Type 0} (by : Marker State) where
       }
 
   -- bytes reach a client
-  pub client_reads : (key : Key) (r : Result Segment BadPacket) (w w' : Kept State) (v : MarkedWorld) → MarkedWorldStands by w v → w'.node ≡ w.node → w'.every ≡ w.every → w'.kind ≡ w.kind
+  pub client_reads : (key : Key) (r : Result Segment BadPacket) (w w' : Kept State) (v : MarkedWorld) → MarkedWorldStands by w v → w'.node ≡ w.node → w'.every ≡ w.every → w'.kind ≡ w.kind → w'.profile ≡ w.profile
       → ActorsGoOn by.service (ClientReads key r (seen_down v)) (seen_down v) (downed w) (downed w') → MarkedGoesOn by (Elsewhere (ClientReads key r) v) v w'
-  client_reads key r w w' v st same_node same_every same_kind g =
+  client_reads key r w w' v st same_node same_every same_kind same_run g =
       let is : IsClients v g.sent g.world = reads_is v key r g.sent g.world g.goes in
       record {
         sent = map Usual g.sent;
         world = next_of v g.sent g.world;
         goes = (g.sent, refl, subst (ClientReads key r (seen v) g.sent) (sym (seen_next v g.sent g.world is)) (reads_up v key r g.sent g.world g.goes), refl);
-        stands = client_stands (ClientReads key r (seen_down v)) w w' v st same_node same_every same_kind g is;
+        stands = client_stands (ClientReads key r (seen_down v)) w w' v st same_node same_every same_kind same_run g is;
         grew = refl;
       }
 
@@ -226,7 +229,7 @@ module _ {State : Type 0} (by : Marker State) where
   pub client_brought : (w w' : Kept State) (v : MarkedWorld) (parcel : Parcel) (bytes : List ℕ) (number : ℕ) → MarkedWorldStands by w v → MarkedPremises by v
       → ServerToClient number ≡ way_of_parcel w.keys parcel → w' ≡ record w { clients = delivered_to number bytes w.clients } → MarkedGoesOn by (ComesAs by parcel bytes v) v w'
   client_brought w w' v (Usual (To_client segment)) bytes number st p way e =
-      client_reads (destination_of segment) (segments.reading bytes) w w' v st (ap (λ k. k.node) e) (ap (λ k. k.every) e) (ap (λ k. k.kind) e)
+      client_reads (destination_of segment) (segments.reading bytes) w w' v st (ap (λ k. k.node) e) (ap (λ k. k.every) e) (ap (λ k. k.kind) e) (ap (λ k. k.profile) e)
       (brings_client by.service (downed w) (downed w') (seen_down v) (To_client segment) bytes number (down_stands w v st) (down_premises v p) way (ap downed e))
   client_brought w w' v (Usual (To_server segment)) bytes number st p way e = absurd (true≢false (ap is_to_client way))
   client_brought w w' v (Usual (To_logger message)) bytes number st p way e = absurd (true≢false (ap is_to_client way))

@@ -6,6 +6,7 @@ use Rattle.seq_arith.specs.Packet.{Segment}
 use Rattle.seq_arith.specs.PacketGrammar as segments
 use Rattle.seq_arith.specs.declared.BadPacket.{BadPacket}
 use Rattle.seq_arith.specs.Damage.{flipped}
+use Rattle.tcp_rules.specs.Profile.{grammar_of}
 use Rattle.ft_model.specs.Client.{received}
 use Rattle.ft_model.specs.Network.{Packet, destination_of}
 use Rattle.ft_model.specs.Network.Packet.{To_server, To_client, To_logger, From_logger}
@@ -59,10 +60,10 @@ comes_keeps by (Mark_answered message) before sent after t = server_keeps by (Ma
 as_keeps : {State : Type 0} (by : Marker State) (parcel : Parcel) (bytes : List ℕ) (before : MarkedWorld) (sent : List Parcel) (after : MarkedWorld) → ComesAs by parcel bytes before sent after → Keeps before after
 as_keeps by (Usual (To_server segment)) bytes before sent after t = server_keeps by (Plain_comes (segment_or_noise (segments.reading bytes))) before sent after before.node t
 as_keeps by (Usual (To_client segment)) bytes before sent after t = client_reads_keep (destination_of segment) (segments.reading bytes) (seen before) t.0 (seen after) t.2
-as_keeps by (Usual (To_logger message)) bytes before sent after t = reads_keep (said_by bytes) before sent after t
-as_keeps by (Usual (From_logger message)) bytes before sent after t = server_keeps by (input_of (said_by bytes)) before sent after before.node t
-as_keeps by (Mark_sent message) bytes before sent after t = reads_keep (said_by bytes) before sent after t
-as_keeps by (Mark_answered message) bytes before sent after t = server_keeps by (input_of (said_by bytes)) before sent after before.node t
+as_keeps by (Usual (To_logger message)) bytes before sent after t = reads_keep (said_by (grammar_of before.profile) bytes) before sent after t
+as_keeps by (Usual (From_logger message)) bytes before sent after t = server_keeps by (input_of (said_by (grammar_of before.profile) bytes)) before sent after before.node t
+as_keeps by (Mark_sent message) bytes before sent after t = reads_keep (said_by (grammar_of before.profile) bytes) before sent after t
+as_keeps by (Mark_answered message) bytes before sent after t = server_keeps by (input_of (said_by (grammar_of before.profile) bytes)) before sent after before.node t
 
 event_keeps : {State : Type 0} (by : Marker State) (event : Event) (before : MarkedWorld) (sent : List Parcel) (after : MarkedWorld)
     → Elsewhere (λ w. Happens by.service w event) before sent after → Keeps before after
@@ -75,7 +76,7 @@ moment_keeps by (Boot boot isn) before sent after t = ap (λ (w : MarkedWorld). 
 moment_keeps by Crash before sent after t = ap (λ (w : MarkedWorld). keys_in w.clients) t.2
 moment_keeps by Tick before sent after t = server_keeps by (Plain_comes Tick_comes) before sent after before.node t.1
 moment_keeps by (Deliver number) before sent after t = comes_keeps by t.0 before sent after t.2
-moment_keeps by (Flip number bit) before sent after t = as_keeps by t.0 (flipped bit (bytes_of t.0)) before sent after t.2.comes
+moment_keeps by (Flip number bit) before sent after t = as_keeps by t.0 (flipped bit (bytes_of (grammar_of before.profile) t.0)) before sent after t.2.comes
 moment_keeps by event before sent after t = event_keeps by event before sent after t
 
 pub marked_keys_after : {State : Type 0} (by : Marker State) (start : MarkedWorld) (trace : List MarkedMoment) → MarkedJoint by start trace

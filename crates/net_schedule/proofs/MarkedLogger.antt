@@ -9,12 +9,14 @@ use Rattle.seq_arith.specs.MarkGrammar as marks
 use Rattle.seq_arith.specs.MessageGrammar as messages
 use Rattle.seq_arith.specs.declared.kinds.BadMsg.{BadMsg}
 use Rattle.seq_arith.specs.declared.mark.BadMark.{BadMark}
+use Rattle.tcp_rules.specs.Profile.{grammar_of}
+use Rattle.tcp_rules.specs.Profiles.{profile_of}
 use Rattle.ft_model.specs.Network.Packet.{To_server, To_client, To_logger, From_logger}
 use Rattle.ft_model.specs.declared.way.Way.{Way}
 use Rattle.ft_model.specs.declared.way.Way.TheVariants.{ServerToLogger, HeadToTail, TailToHead}
 use Rattle.mark_laws.specs.MarkedLog.{answer_above}
 use Rattle.mark_laws.specs.MarkedLog.AnyMessage.{Of_log}
-use Rattle.mark_store.specs.Bytes.{after_bytes, after_reading, reply_to, reply_to_reading}
+use Rattle.mark_store.specs.Bytes.{after_bytes_by, after_reading, reply_to_by, reply_to_reading}
 use Rattle.mark_store.specs.Refinement.{TrimmedAtMarks, IsLeftOfMarked}
 use Rattle.mark_laws.specs.MarkedNode.{Marker}
 use Rattle.mark_laws.specs.MarkedWorld.{Parcel, MarkedWorld, LogReads, ComesAs, answered_as, either_said, said_by}
@@ -49,31 +51,31 @@ is_to_logger ServerToLogger = true
 is_to_logger _ = false
 
 module _ {State : Type 0} (by : Marker State) (w w' : Kept State) (v : MarkedWorld) (st : MarkedWorldStands by w v) where
-  logger_goes : (after : StoreAndJournal) (sent : Carried) (bytes : List ℕ) → AreAt after (after_bytes bytes v.log) → sent ≡ with_answer w.packets (reply_to bytes v.log)
-      → w' ≡ record w { log = after.journal; keepers = With_marks after.store; packets = sent } → MarkedGoesOn by (LogReads (said_by bytes) v) v w'
+  logger_goes : (after : StoreAndJournal) (sent : Carried) (bytes : List ℕ) → AreAt after (after_bytes_by (grammar_of v.profile) bytes v.log) → sent ≡ with_answer w.packets (reply_to_by (grammar_of v.profile) bytes v.log)
+      → w' ≡ record w { log = after.journal; keepers = With_marks after.store; packets = sent } → MarkedGoesOn by (LogReads (said_by (grammar_of v.profile) bytes) v) v w'
   logger_goes after sent bytes at answered e =
-      let new : List Parcel = map answered_as (option_to_list (reply_to_reading (messages.reading bytes) (marks.reading bytes) v.log)) in
-      subst (MarkedGoesOn by (LogReads (said_by bytes) v) v) (sym e)
+      let new : List Parcel = map answered_as (option_to_list (reply_to_reading (messages.reading_by (grammar_of v.profile) bytes) (marks.reading bytes) v.log)) in
+      subst (MarkedGoesOn by (LogReads (said_by (grammar_of v.profile) bytes) v) v) (sym e)
       (record {
-        sent = map answered_as (option_to_list (reply_to_reading (messages.reading bytes) (marks.reading bytes) v.log));
-        world = record v { log = after_bytes bytes v.log; parcels = v.parcels ++ map answered_as (option_to_list (reply_to_reading (messages.reading bytes) (marks.reading bytes) v.log)) };
-        goes = read_goes v (messages.reading bytes) (marks.reading bytes);
+        sent = map answered_as (option_to_list (reply_to_reading (messages.reading_by (grammar_of v.profile) bytes) (marks.reading bytes) v.log));
+        world = record v { log = after_bytes_by (grammar_of v.profile) bytes v.log; parcels = v.parcels ++ map answered_as (option_to_list (reply_to_reading (messages.reading_by (grammar_of v.profile) bytes) (marks.reading bytes) v.log)) };
+        goes = read_goes v (messages.reading_by (grammar_of v.profile) bytes) (marks.reading bytes);
         stands = record {
-          actors = record { server = st.actors.server; profile = st.actors.profile; keys = st.actors.keys; clients = st.actors.clients; boot = st.actors.boot };
+          actors = record { server = st.actors.server; profile = st.actors.profile; keys = st.actors.keys; clients = st.actors.clients; boot = st.actors.boot; runs = st.actors.runs };
           node = st.node;
           both = after;
           keepers = refl;
           journal = refl;
           log = at.journal;
           at = at;
-          packets = answered ∙ reply_after w.keys w.packets v.parcels (reply_to_reading (messages.reading bytes) (marks.reading bytes) v.log) st.packets;
+          packets = answered ∙ reply_after (grammar_of v.profile) w.keys w.packets v.parcels (reply_to_reading (messages.reading_by (grammar_of v.profile) bytes) (marks.reading bytes) v.log) st.packets;
           every = st.every;
           marks = st.marks;
         };
         grew = refl;
       })
 
-  by_parcel : (parcel : Parcel) (bytes : List ℕ) → ServerToLogger ≡ way_of_parcel w.keys parcel → MarkedGoesOn by (LogReads (said_by bytes) v) v w' → MarkedGoesOn by (ComesAs by parcel bytes v) v w'
+  by_parcel : (parcel : Parcel) (bytes : List ℕ) → ServerToLogger ≡ way_of_parcel w.keys parcel → MarkedGoesOn by (LogReads (said_by (grammar_of v.profile) bytes) v) v w' → MarkedGoesOn by (ComesAs by parcel bytes v) v w'
   by_parcel (Usual (To_logger message)) bytes is g = g
   by_parcel (Mark_sent message) bytes is g = g
   by_parcel (Usual (To_server segment)) bytes is g = absurd (true≢false (ap is_to_logger is))
@@ -92,16 +94,18 @@ module _ {State : Type 0} (by : Marker State) (w w' : Kept State) (v : MarkedWor
   same_store a b e = cc
 
   pub brings_marked : (logs now : Logs) (sent : Carried) (parcel : Parcel) (bytes : List ℕ) → HasDistinctKeys v.log → w.log ≡ log_in logs → w.keepers ≡ keepers_in logs
-      → ServerToLogger ≡ way_of_parcel w.keys parcel → HearsIn logs ServerToLogger bytes w.packets now sent → w' ≡ with_logs w (now, sent)
+      → ServerToLogger ≡ way_of_parcel w.keys parcel → HearsIn (grammar_of (profile_of w.profile)) logs ServerToLogger bytes w.packets now sent → w' ≡ with_logs w (now, sent)
       → MarkedGoesOn by (ComesAs by parcel bytes v) v w'
   brings_marked (One log) now sent parcel bytes d journal are is heard e = not_one st.both.store (sym are ∙ st.keepers)
   brings_marked (Two l) now sent parcel bytes d journal are is heard e = not_two l st.both.store (sym are ∙ st.keepers)
-  brings_marked (Marked both) now sent parcel bytes d journal are is heard e =
+  brings_marked (Marked both) now sent parcel bytes d journal are is told e =
+      let heard : HearsIn (grammar_of v.profile) (Marked both) ServerToLogger bytes w.packets now sent =
+      subst (λ p. HearsIn (grammar_of p) (Marked both) ServerToLogger bytes w.packets now sent) st.actors.profile told in
       let at : AreAt both v.log = record {
         left = subst (λ s. IsLeftOfMarked s v.log) (sym (same_store both.store st.both.store (sym are ∙ st.keepers))) st.at.left;
         journal = sym journal ∙ st.log;
       } in
-      let goes : MarkedGoesOn by (LogReads (said_by bytes) v) v w' =
+      let goes : MarkedGoesOn by (LogReads (said_by (grammar_of v.profile) bytes) v) v w' =
       logger_goes heard.0 sent bytes (heard.2.log v.log at d) (heard.2.sent v.log at d) (e ∙ ap (λ x. with_logs w (x, sent)) heard.1) in
       by_parcel parcel bytes is goes
 

@@ -8,15 +8,18 @@ use Rattle.seq_arith.specs.MarkGrammar as marks
 use Rattle.seq_arith.specs.MessageGrammar as messages
 use Rattle.seq_arith.specs.PacketGrammar as segments
 use Rattle.seq_arith.specs.declared.kinds.BadMsg.{BadMsg}
+use Rattle.seq_arith.specs.declared.kinds.Grammar.{Grammar}
 use Rattle.seq_arith.specs.declared.mark.BadMark.{BadMark}
 use Rattle.ft_io.specs.declared.Key.{Key}
+use Rattle.tcp_rules.specs.Profile.{grammar_of}
 use Rattle.tcp_rules.specs.Profiles.{profile_of}
+use Rattle.tcp_rules.specs.declared.profile.Profile.{Profile}
 use Rattle.ft_model.specs.Lawful.{hello, fence}
 use Rattle.ft_model.specs.Network.Packet.{To_server, To_client, To_logger, From_logger}
 use Rattle.ft_model.specs.Node.{Stage, Input, booted}
 use Rattle.ft_model.specs.Node.Stage.{Asking, Fetching, Serving, Fenced}
 use Rattle.ft_model.specs.Node.Input.{Message_comes, Tick_comes}
-use Rattle.ft_model.specs.Wire.{Wire, wire_of}
+use Rattle.ft_model.specs.Wire.{Wire, wire_by}
 use Rattle.ft_model.specs.World.{segment_or_noise, message_or_noise}
 use Rattle.ft_model.specs.declared.event.Event.{Event}
 use Rattle.ft_model.specs.declared.event.Event.TheVariants as events
@@ -45,31 +48,32 @@ use Rattle.server_node.specs.Inputs.{input_of as heard_of}
 use Rattle.server_node.specs.declared.input.Input.{Input as Heard}
 use Rattle.server_node.specs.declared.input.Input.TheVariants as inputs
 use Rattle.schedule_network.specs.StoredPackets.{Carried, with_wires, way_along}
-use Rattle.net_schedule.specs.Refinement.{Kept, Server}
+use Rattle.net_schedule.specs.Refinement.{Kept, Server, RunsWith}
 use Rattle.net_schedule.specs.MarkedRefinement.{IsMarkedAt, MarkedNodeStands, MarkedWorldStands, MarkedGoesOn, MarkedAdvances, MarkedPremises, MayComeMarked, MarkedComesAs, marker_for, way_of_parcel, stored_parcels}
 use Rattle.net_schedule.proofs.Events.{no_move}
+use Rattle.net_schedule.proofs.PacketStore.{ways_alike}
 use Rattle.net_schedule.proofs.MarkedParcels.{parcels_after, usual_after, none_after}
 
 -- what the server sends is stored as the definitions' parcels
-out_ways : (keys : List Key) (out : List Outgoing) → map (way_along keys) (map outgoing_wire out) ≡ map (way_of_parcel keys) (map parcel_of out)
-out_ways keys [] = refl
-out_ways keys (Plain packet ∷ out) = ap (λ ws. way_along keys (wire_of packet) ∷ ws) (out_ways keys out)
-out_ways keys (Mark_to_logger message ∷ out) = ap (λ ws. way_along keys (outgoing_wire (Mark_to_logger message)) ∷ ws) (out_ways keys out)
+out_ways : (grammar : Grammar) (keys : List Key) (out : List Outgoing) → map (way_along keys) (map (outgoing_wire grammar) out) ≡ map (way_of_parcel keys) (map parcel_of out)
+out_ways grammar keys [] = refl
+out_ways grammar keys (Plain packet ∷ out) = ap₂ (λ w ws. w ∷ ws) (ways_alike grammar keys packet) (out_ways grammar keys out)
+out_ways grammar keys (Mark_to_logger message ∷ out) = ap (λ ws. way_along keys (outgoing_wire grammar (Mark_to_logger message)) ∷ ws) (out_ways grammar keys out)
 
-out_bytes : (out : List Outgoing) → map (λ w. w.bytes) (map outgoing_wire out) ≡ map bytes_of (map parcel_of out)
-out_bytes [] = refl
-out_bytes (Plain packet ∷ out) = ap (λ bs. (wire_of packet).bytes ∷ bs) (out_bytes out)
-out_bytes (Mark_to_logger message ∷ out) = ap (λ bs. (outgoing_wire (Mark_to_logger message)).bytes ∷ bs) (out_bytes out)
+out_bytes : (grammar : Grammar) (out : List Outgoing) → map (λ w. w.bytes) (map (outgoing_wire grammar) out) ≡ map (bytes_of grammar) (map parcel_of out)
+out_bytes grammar [] = refl
+out_bytes grammar (Plain packet ∷ out) = ap (λ bs. (wire_by grammar packet).bytes ∷ bs) (out_bytes grammar out)
+out_bytes grammar (Mark_to_logger message ∷ out) = ap (λ bs. (outgoing_wire grammar (Mark_to_logger message)).bytes ∷ bs) (out_bytes grammar out)
 
 abbrev pack : List Way → List (List ℕ) → Carried
 pack ways bytes = record { ways = ways; bytes = bytes }
 
-out_after : (keys : List Key) (kept : Carried) (xs : List Parcel) (out : List Outgoing) → kept ≡ stored_parcels keys xs
-    → with_wires keys kept (map outgoing_wire out) ≡ stored_parcels keys (xs ++ map parcel_of out)
-out_after keys kept xs out e =
-    parcels_after keys kept (with_wires keys kept (map outgoing_wire out)) xs (map parcel_of out) e
-    (ap (λ ws. pack (kept.ways ++ ws) (kept.bytes ++ map (λ w. w.bytes) (map outgoing_wire out))) (out_ways keys out)
-    ∙ ap (λ bs. pack (kept.ways ++ map (way_of_parcel keys) (map parcel_of out)) (kept.bytes ++ bs)) (out_bytes out))
+out_after : (grammar : Grammar) (keys : List Key) (kept : Carried) (xs : List Parcel) (out : List Outgoing) → kept ≡ stored_parcels grammar keys xs
+    → with_wires keys kept (map (outgoing_wire grammar) out) ≡ stored_parcels grammar keys (xs ++ map parcel_of out)
+out_after grammar keys kept xs out e =
+    parcels_after grammar keys kept (with_wires keys kept (map (outgoing_wire grammar) out)) xs (map parcel_of out) e
+    (ap (λ ws. pack (kept.ways ++ ws) (kept.bytes ++ map (λ w. w.bytes) (map (outgoing_wire grammar) out))) (out_ways grammar keys out)
+    ∙ ap (λ bs. pack (kept.ways ++ map (way_of_parcel keys) (map parcel_of out)) (kept.bytes ++ bs)) (out_bytes grammar out))
 
 -- the server is down in both worlds at once, and up
 marked_down : {State : Type 0} (by : Marker State) (kind : ℕ) (s : Option (Server State)) (n : Option MarkedNode) → MarkedNodeStands by kind s n → s ≡ None → n ≡ None
@@ -136,7 +140,7 @@ pub record TurnsTo {State : Type 0} (by : Marker State) (bytes lengths : List �
   pub is : after.plain ≡ node_of now.who after.plain.stage
   pub stands : NodeStandsAt by after now.stage
   pub turn : LawfulMarkedTurn by bytes lengths node input sent after
-  pub wires : lent ≡ map outgoing_wire sent
+  pub wires : lent ≡ map (outgoing_wire (grammar_of (profile_of now.who.profile))) sent
 
 module _ {State : Type 0} (by : Marker State) where
   -- a lawful turn of the server
@@ -147,6 +151,7 @@ module _ {State : Type 0} (by : Marker State) where
       → w' ≡ record w { packets = with_wires w.keys w.packets sent; node = Some s' } → MarkedGoesOn by (ServerMoves by input v) v w'
   marked_goes w w' v input s s' sent st p comes is_up same turn e' =
       let u : IsMarkedUp by w.kind s v.node = marked_up by w.kind s v.node (subst (λ o. MarkedNodeStands by w.kind o v.node) is_up st.node) in
+      let its_profile : s'.who.profile ≡ w.profile = ap (λ i. i.profile) same ∙ subst (RunsWith w.profile) is_up st.actors.runs in
       let g : TurnsTo by (bytes_told v.log.log input) (lengths_told v.log.log input) u.node input s' sent =
       turn u.node (bytes_told v.log.log input) (lengths_told v.log.log input) (fair by v u.node input p u.up comes) u.at.is u.at.stands in
       subst (MarkedGoesOn by (ServerMoves by input v) v) (sym e')
@@ -156,14 +161,16 @@ module _ {State : Type 0} (by : Marker State) where
         goes = subst (λ o. ServerTurn by input o v (map parcel_of g.sent) (record v { node = Some g.after; parcels = v.parcels ++ map parcel_of g.sent })) (sym u.up)
             (g.after, g.sent, g.turn, refl, refl);
         stands = record {
-          actors = record { server = st.actors.server; profile = st.actors.profile; keys = st.actors.keys; clients = st.actors.clients; boot = st.actors.boot };
+          actors = record { server = st.actors.server; profile = st.actors.profile; keys = st.actors.keys; clients = st.actors.clients; boot = st.actors.boot; runs = its_profile };
           node = record { kind_is = ap (λ i. i.kind) same ∙ u.at.kind_is; is = g.is; stands = g.stands };
           both = st.both;
           keepers = st.keepers;
           journal = st.journal;
           log = st.log;
           at = st.at;
-          packets = ap (with_wires w.keys w.packets) g.wires ∙ out_after w.keys w.packets v.parcels g.sent st.packets;
+          packets = ap (with_wires w.keys w.packets)
+              (g.wires ∙ ap (λ p. map (outgoing_wire (grammar_of p)) g.sent) (ap profile_of its_profile ∙ st.actors.profile))
+              ∙ out_after (grammar_of v.profile) w.keys w.packets v.parcels g.sent st.packets;
           every = st.every;
           marks = st.marks;
         };
@@ -171,9 +178,9 @@ module _ {State : Type 0} (by : Marker State) where
       })
 
   -- nothing is sent, and only the server changes
-  rests : (Goes : List Parcel → MarkedWorld → Type 0) (w w' : Kept State) (v : MarkedWorld) (node : Option MarkedNode) → MarkedWorldStands by w v → MarkedNodeStands by w.kind w'.node node
+  rests : (Goes : List Parcel → MarkedWorld → Type 0) (w w' : Kept State) (v : MarkedWorld) (node : Option MarkedNode) → MarkedWorldStands by w v → MarkedNodeStands by w.kind w'.node node → RunsWith w.profile w'.node
       → w' ≡ record w { node = w'.node } → Goes [] (record v { node = node; parcels = v.parcels ++ [] }) → MarkedGoesOn by Goes v w'
-  rests Goes w w' v node st at e goes =
+  rests Goes w w' v node st at runs e goes =
       let keys : w'.keys ≡ w.keys = ap (λ k. k.keys) e in
       record {
         sent = [];
@@ -181,14 +188,14 @@ module _ {State : Type 0} (by : Marker State) where
         goes = goes;
         stands = subst (λ k. MarkedWorldStands by k (record v { node = node; parcels = v.parcels ++ [] })) (sym e)
             (record {
-              actors = record { server = st.actors.server; profile = st.actors.profile; keys = st.actors.keys; clients = st.actors.clients; boot = st.actors.boot };
+              actors = record { server = st.actors.server; profile = st.actors.profile; keys = st.actors.keys; clients = st.actors.clients; boot = st.actors.boot; runs = runs };
               node = at;
               both = st.both;
               keepers = st.keepers;
               journal = st.journal;
               log = st.log;
               at = st.at;
-              packets = none_after w.keys w.packets v.parcels st.packets;
+              packets = none_after (grammar_of v.profile) w.keys w.packets v.parcels st.packets;
               every = st.every;
               marks = st.marks;
             });
@@ -199,11 +206,11 @@ module _ {State : Type 0} (by : Marker State) where
   pub marked_rests : (w : Kept State) (v : MarkedWorld) (input : MarkedInput) → MarkedWorldStands by w v → w.node ≡ None → MarkedGoesOn by (ServerMoves by input v) v w
   marked_rests w v input st is_down =
       let none : v.node ≡ None = marked_down by w.kind w.node v.node st.node is_down in
-      rests (ServerMoves by input v) w w v v.node st st.node refl
+      rests (ServerMoves by input v) w w v v.node st st.node st.actors.runs refl
       (subst (λ o. ServerTurn by input o v [] (record v { parcels = v.parcels ++ [] })) (sym none) (refl, refl))
 
   -- nothing that may come fences it
-  pub never_marked_fenced : {P : Type 0} (w : Kept State) (v : MarkedWorld) (input : MarkedInput) (s : Server State) → MarkedWorldStands by w v → MarkedPremises by v → MayComeMarked v input
+  never_marked_fenced : {P : Type 0} (w : Kept State) (v : MarkedWorld) (input : MarkedInput) (s : Server State) → MarkedWorldStands by w v → MarkedPremises by v → MayComeMarked v input
       → w.node ≡ Some s → ((node : MarkedNode) → node.plain ≡ node_of s.who node.plain.stage → IsFencedBy node input) → P
   never_marked_fenced w v (Plain_comes input) s st p comes is_up fenced =
       let u : IsMarkedUp by w.kind s v.node = marked_up by w.kind s v.node (subst (λ o. MarkedNodeStands by w.kind o v.node) is_up st.node) in
@@ -213,16 +220,23 @@ module _ {State : Type 0} (by : Marker State) where
       let u : IsMarkedUp by w.kind s v.node = marked_up by w.kind s v.node (subst (λ o. MarkedNodeStands by w.kind o v.node) is_up st.node) in
       absurd (fenced u.node u.at.is)
 
+  -- .. where the input depends on its profile, which is the world's
+  pub never_marked_fenced_by : {P : Type 0} (w : Kept State) (v : MarkedWorld) (input : Profile → MarkedInput) (s : Server State) → MarkedWorldStands by w v → MarkedPremises by v
+      → MayComeMarked v (input w.profile) → w.node ≡ Some s → ((node : MarkedNode) → node.plain ≡ node_of s.who node.plain.stage → IsFencedBy node (input s.who.profile)) → P
+  never_marked_fenced_by w v input s st p comes is_up fenced =
+      never_marked_fenced w v (input s.who.profile) s st p (subst (λ q. MayComeMarked v (input q)) (sym (subst (RunsWith w.profile) is_up st.actors.runs)) comes) is_up fenced
+
   -- the server starts
   pub marked_boots : (w w' : Kept State) (v : MarkedWorld) (boot isn : ℕ) (s : Server State) (sent : List Wire) → MarkedWorldStands by w v → w.node ≡ None → w.boot < boot → boot < 2 ^ 64
-      → s.who.kind ≡ w.kind → booted w.server (profile_of w.profile) boot isn ≡ node_of s.who Asking → NodeStandsAt by (booted_to_mark w.server (profile_of w.profile) boot isn) s.stage
-      → sent ≡ map wire_of (hello (booted w.server (profile_of w.profile) boot isn))
+      → s.who.kind ≡ w.kind → s.who.profile ≡ w.profile → booted w.server (profile_of w.profile) boot isn ≡ node_of s.who Asking → NodeStandsAt by (booted_to_mark w.server (profile_of w.profile) boot isn) s.stage
+      → sent ≡ map (wire_by (grammar_of (profile_of w.profile))) (hello (booted w.server (profile_of w.profile) boot isn))
       → w' ≡ record w { packets = with_wires w.keys w.packets sent; boot = boot; node = Some s } → MarkedAdvances by v (events.Boot boot isn) w'
-  marked_boots w w' v boot isn s wires st is_down more fits kind who stands hello_is e' =
+  marked_boots w w' v boot isn s wires st is_down more fits kind runs who stands hello_is e' =
       let none : v.node ≡ None = marked_down by w.kind w.node v.node st.node is_down in
       let low : v.boot < boot = subst (λ n. n < boot) st.actors.boot more in
       let rises : nat_le boot v.boot ≡ false = grind (arith, nat_tests) in
-      let said : wires ≡ map wire_of (hello (booted v.server v.profile boot isn)) = subst (λ a. wires ≡ map wire_of (hello (booted a (profile_of w.profile) boot isn))) st.actors.server hello_is in
+      let said : wires ≡ map (wire_by (grammar_of v.profile)) (hello (booted v.server v.profile boot isn)) =
+      subst₂ (λ a p. wires ≡ map (wire_by (grammar_of p)) (hello (booted a p boot isn))) st.actors.server st.actors.profile hello_is in
       let world : MarkedWorld = record v { boot = boot; node = Some (booted_to_mark v.server v.profile boot isn); parcels = v.parcels ++ map Usual (hello (booted v.server v.profile boot isn)) } in
       subst (MarkedAdvances by v (events.Boot boot isn)) (sym e')
       (record {
@@ -231,7 +245,7 @@ module _ {State : Type 0} (by : Marker State) where
           world = record v { boot = boot; node = Some (booted_to_mark v.server v.profile boot isn); parcels = v.parcels ++ map Usual (hello (booted v.server v.profile boot isn)) };
           goes = (none, (low, fits), refl, refl);
           stands = record {
-            actors = record { server = st.actors.server; profile = st.actors.profile; keys = st.actors.keys; clients = st.actors.clients; boot = refl };
+            actors = record { server = st.actors.server; profile = st.actors.profile; keys = st.actors.keys; clients = st.actors.clients; boot = refl; runs = runs };
             node = record {
               kind_is = kind;
               is = ap₂ (λ a x. booted a x boot isn) (sym st.actors.server) (sym st.actors.profile) ∙ who;
@@ -242,7 +256,7 @@ module _ {State : Type 0} (by : Marker State) where
             journal = st.journal;
             log = st.log;
             at = st.at;
-            packets = ap (with_wires w.keys w.packets) said ∙ usual_after w.keys w.packets v.parcels (hello (booted v.server v.profile boot isn)) st.packets;
+            packets = ap (with_wires w.keys w.packets) said ∙ usual_after (grammar_of v.profile) w.keys w.packets v.parcels (hello (booted v.server v.profile boot isn)) st.packets;
             every = st.every;
             marks = st.marks;
           };
@@ -273,7 +287,8 @@ module _ {State : Type 0} (by : Marker State) where
       let none : w'.node ≡ None = ap (λ k. k.node) e' in
       let world : MarkedWorld = record v { node = None; parcels = v.parcels ++ [] } in
       record {
-        happens = rests (MarkedHappens by v events.Crash) w w' v None st (subst (λ o. MarkedNodeStands by w.kind o None) (sym none) tt) (e' ∙ ap (λ o. record w { node = o }) (sym none)) (is_up, refl, refl);
+        happens = rests (MarkedHappens by v events.Crash) w w' v None st (subst (λ o. MarkedNodeStands by w.kind o None) (sym none) tt)
+            (subst (RunsWith w.profile) (sym none) tt) (e' ∙ ap (λ o. record w { node = o }) (sym none)) (is_up, refl, refl);
         allowed = ap (λ b. cond b None (Some why.Down)) (is_up_seen v.node ∙ is_up);
         scripted = no_move (seen v) events.Crash _ (seen world) refl;
       }
@@ -316,7 +331,7 @@ segment_brought by keys w' v (Mark_answered message) bytes number way comes goes
 
 pub answer_brought : {State : Type 0} (by : Marker State) (keys : List Key) (w' : Kept State) (v : MarkedWorld) (parcel : Parcel) (bytes : List ℕ)
     → LoggerToServer ≡ way_of_parcel keys parcel → MarkedComesAs v parcel bytes
-    → (MayComeMarked v (input_of (said_by bytes)) → MarkedGoesOn by (ServerMoves by (input_of (said_by bytes)) v) v w') → MarkedGoesOn by (ComesAs by parcel bytes v) v w'
+    → (MayComeMarked v (input_of (said_by (grammar_of v.profile) bytes)) → MarkedGoesOn by (ServerMoves by (input_of (said_by (grammar_of v.profile) bytes)) v) v w') → MarkedGoesOn by (ComesAs by parcel bytes v) v w'
 answer_brought by keys w' v (Usual (From_logger message)) bytes way comes goes = goes comes
 answer_brought by keys w' v (Mark_answered message) bytes way comes goes = goes comes
 answer_brought by keys w' v (Usual (To_server segment)) bytes way comes goes = absurd (true≢false (ap is_from_logger way))
@@ -331,29 +346,29 @@ fenced_so who newer (Ok message) q node is fenced = (newer, ap (λ n. fence n (M
 fenced_so who newer (Err bad) (Ok mark) node is fenced = none_is_some newer (fenced node.plain.stage)
 fenced_so who newer (Err bad) (Err worse) node is fenced = none_is_some newer (fenced node.plain.stage)
 
-pub fenced_by : (who : Identity) (newer : ℕ) (input : Heard) (node : MarkedNode) → node.plain ≡ node_of who node.plain.stage
-    → ((standing : Stage) → fence (node_of who standing) (heard_of input) ≡ Some newer) → IsFencedBy node (marked_input_of input)
-fenced_by who newer (inputs.Packet bytes) node is fenced = (newer, ap (λ n. fence n (segment_or_noise (segments.reading bytes.now))) is ∙ fenced node.plain.stage)
-fenced_by who newer (inputs.Message bytes) node is fenced = fenced_so who newer (messages.reading bytes.now) (marks.reading bytes.now) node is fenced
-fenced_by who newer inputs.Tick node is fenced = (newer, ap (λ n. fence n Tick_comes) is ∙ fenced node.plain.stage)
+pub fenced_by : (grammar : Grammar) (who : Identity) (newer : ℕ) (input : Heard) (node : MarkedNode) → node.plain ≡ node_of who node.plain.stage
+    → ((standing : Stage) → fence (node_of who standing) (heard_of grammar input) ≡ Some newer) → IsFencedBy node (marked_input_of grammar input)
+fenced_by grammar who newer (inputs.Packet bytes) node is fenced = (newer, ap (λ n. fence n (segment_or_noise (segments.reading bytes.now))) is ∙ fenced node.plain.stage)
+fenced_by grammar who newer (inputs.Message bytes) node is fenced = fenced_so who newer (messages.reading_by grammar bytes.now) (marks.reading bytes.now) node is fenced
+fenced_by grammar who newer inputs.Tick node is fenced = (newer, ap (λ n. fence n Tick_comes) is ∙ fenced node.plain.stage)
 
 -- The marker of a world's server is that of its incarnation, which runs the world's service
 pub marker_is : {State : Type 0} (ghosts : Ghosts State) (saved : Saving State) (who : Identity) (every kind : ℕ) → saved.savable ≡ true → who.kind ≡ kind
-    → marker_of ghosts saved who every ≡ marker_for saved (machines ghosts.started ghosts.after) every kind
+    → marker_of ghosts saved who every ≡ marker_for saved (machines ghosts.started ghosts.after ghosts.greeting) every kind
 marker_is ghosts saved who every kind savable same =
     ap (λ n. record (marker_of ghosts saved who every) { every = n }) (ap (λ b. every_for b every) savable)
-    ∙ ap (λ k. marker_for saved (machines ghosts.started ghosts.after) every k) same
+    ∙ ap (λ k. marker_for saved (machines ghosts.started ghosts.after ghosts.greeting) every k) same
 
 pub marked_goes_at : {State : Type 0} (ghosts : Ghosts State) (saved : Saving State) (every : ℕ) (w w' : Kept State) (v : MarkedWorld) (input : MarkedInput) (s s' : Server State) (sent : List Wire)
-    → saved.savable ≡ true → MarkedWorldStands (marker_for saved (machines ghosts.started ghosts.after) every w.kind) w v
-    → MarkedPremises (marker_for saved (machines ghosts.started ghosts.after) every w.kind) v → MayComeMarked v input → w.node ≡ Some s → s'.who ≡ s.who
+    → saved.savable ≡ true → MarkedWorldStands (marker_for saved (machines ghosts.started ghosts.after ghosts.greeting) every w.kind) w v
+    → MarkedPremises (marker_for saved (machines ghosts.started ghosts.after ghosts.greeting) every w.kind) v → MayComeMarked v input → w.node ≡ Some s → s'.who ≡ s.who
     → ((node : MarkedNode) (bytes lengths : List ℕ) → IsFairTo (marker_of ghosts saved s.who every) bytes lengths node input → node.plain ≡ node_of s.who node.plain.stage
     → NodeStandsAt (marker_of ghosts saved s.who every) node s.stage → TurnsTo (marker_of ghosts saved s.who every) bytes lengths node input s' sent)
     → w' ≡ record w { packets = with_wires w.keys w.packets sent; node = Some s' }
-    → MarkedGoesOn (marker_for saved (machines ghosts.started ghosts.after) every w.kind) (ServerMoves (marker_for saved (machines ghosts.started ghosts.after) every w.kind) input v) v w'
+    → MarkedGoesOn (marker_for saved (machines ghosts.started ghosts.after ghosts.greeting) every w.kind) (ServerMoves (marker_for saved (machines ghosts.started ghosts.after ghosts.greeting) every w.kind) input v) v w'
 marked_goes_at ghosts saved every w w' v input s s' sent savable st p comes is_up same turn e' =
-    let by = marker_for saved (machines ghosts.started ghosts.after) every w.kind in
-    let u : IsMarkedUp (marker_for saved (machines ghosts.started ghosts.after) every w.kind) w.kind s v.node =
+    let by = marker_for saved (machines ghosts.started ghosts.after ghosts.greeting) every w.kind in
+    let u : IsMarkedUp (marker_for saved (machines ghosts.started ghosts.after ghosts.greeting) every w.kind) w.kind s v.node =
     marked_up by w.kind s v.node (subst (λ o. MarkedNodeStands by w.kind o v.node) is_up st.node) in
     marked_goes by w w' v input s s' sent st p comes is_up same
     (subst

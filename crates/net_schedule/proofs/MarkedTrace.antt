@@ -4,6 +4,8 @@ use Rattle.std.specs.List.{AllByRecursion}
 use Rattle.std.specs.Prelude.{IfOk, IfErr, OnOk}
 use Rattle.seq_arith.specs.Mark.{MarkMessage}
 use Rattle.server_trait.specs.declared.Service.{Ghosts}
+use Rattle.tcp_rules.specs.Profile.{grammar_of}
+use Rattle.tcp_rules.specs.Profiles.{profile_of}
 use Rattle.ft_model.specs.Lawful.{IsNearInput, IsSoundInput, fence}
 use Rattle.ft_model.specs.Node.{Input}
 use Rattle.ft_model.specs.Schedule.{kind_of}
@@ -56,7 +58,7 @@ pub record AreMarkedLaws {State : Type 0} (by : ℕ → Marker State) : Type 0 w
   pub marks : (number : ℕ) (schedule : Schedule) (events : List Event) (trace : List MarkedMoment) (node : MarkedNode) (message : MarkMessage) → IsMarkedLegalFor by schedule events trace
       → (marked_after (marked_start schedule) trace).node ≡ Some node → parcel_at (marked_after (marked_start schedule) trace).parcels number ≡ Some (Mark_answered message)
       → IsSoundMark (by (kind_of schedule.service)) (marked_after (marked_start schedule) trace).log.log node message node.plain.stage
-  pub written : (kind : ℕ) (start : MarkedWorld) (trace : List MarkedMoment) → MarkedJoint (by kind) start trace → AllByRecursion CanBeRead (marked_after start trace).parcels
+  pub written : (kind : ℕ) (start : MarkedWorld) (trace : List MarkedMoment) → MarkedJoint (by kind) start trace → AllByRecursion (CanBeRead (grammar_of start.profile)) (marked_after start trace).parcels
   pub distinct : (kind : ℕ) (start : MarkedWorld) (trace : List MarkedMoment) → MarkedJoint (by kind) start trace → HasDistinctKeys (marked_after start trace).log
 
 -- what they rest on: which marks are true
@@ -103,10 +105,12 @@ marked_laws_hold by small writes back = record {
 
 module _ {State : Type 0} (by : ℕ → Marker State) (laws : AreMarkedLaws by) where
   marked_premises_at : (schedule : Schedule) (events : List Event) (trace : List MarkedMoment) → IsMarkedLegalFor by schedule events trace
+      → (marked_after (marked_start schedule) trace).profile ≡ (marked_start schedule).profile
       → MarkedPremises (by (kind_of schedule.service)) (marked_after (marked_start schedule) trace)
-  marked_premises_at schedule events trace l =
+  marked_premises_at schedule events trace l as_first =
       record {
-        readable = laws.written (kind_of schedule.service) (marked_start schedule) trace l.joint;
+        readable = subst (λ profile. AllByRecursion (CanBeRead (grammar_of profile)) (marked_after (marked_start schedule) trace).parcels) (sym as_first)
+            (laws.written (kind_of schedule.service) (marked_start schedule) trace l.joint);
         keys = (
           seen (marked_start schedule),
           (start_of_joint (by (kind_of schedule.service)) (marked_start schedule) trace l.joint).start,
@@ -122,17 +126,18 @@ module _ {State : Type 0} (by : ℕ → Marker State) (laws : AreMarkedLaws by) 
   marked_premises : (schedule : Schedule) (events : List Event) (trace : List MarkedMoment) (w : Kept State) → MarkedStandsAfter by schedule events trace w
       → MarkedPremises (by w.kind) (marked_after (marked_start schedule) trace)
   marked_premises schedule events trace w s =
-      subst (λ k. MarkedPremises (by k) (marked_after (marked_start schedule) trace)) (sym s.kind) (marked_premises_at schedule events trace s.legal)
+      subst (λ k. MarkedPremises (by k) (marked_after (marked_start schedule) trace)) (sym s.kind) (marked_premises_at schedule events trace s.legal (sym s.stands.actors.profile ∙ ap profile_of s.profile))
 
   -- what an event does extends the trace
   marked_extends : (schedule : Schedule) (events : List Event) (trace : List MarkedMoment) (event : Event) (w w' : Kept State) → MarkedStandsAfter by schedule events trace w
-      → w'.kind ≡ w.kind → MarkedAdvances (by w.kind) (marked_after (marked_start schedule) trace) event w' → MarkedExtends by schedule events trace event w'
-  marked_extends schedule events trace event w w' s same a =
+      → w'.kind ≡ w.kind → w'.profile ≡ w.profile → MarkedAdvances (by w.kind) (marked_after (marked_start schedule) trace) event w' → MarkedExtends by schedule events trace event w'
+  marked_extends schedule events trace event w w' s same as_before a =
       let v : MarkedWorld = marked_after (marked_start schedule) trace in
       record {
         moment = record { event = event; sent = a.happens.sent; world = a.happens.world };
         stands = record {
           kind = same ∙ s.kind;
+          profile = as_before ∙ s.profile;
           legal = record {
             joint = (s.legal.joint, subst (λ k. MarkedHappens (by k) v event a.happens.sent a.happens.world) s.kind a.happens.goes);
             events_are = ap (λ es. es ++ event ∷ []) s.legal.events_are;
@@ -144,35 +149,35 @@ module _ {State : Type 0} (by : ℕ → Marker State) (laws : AreMarkedLaws by) 
       }
 
   -- a step is what an event does, with the count of its parcels
-  pub marked_steps : (r : Result StepOut StepEnd) (w w' : Kept State) (event : Event) (before : ℕ) → before ≡ length w.packets.bytes → w'.kind ≡ w.kind
+  pub marked_steps : (r : Result StepOut StepEnd) (w w' : Kept State) (event : Event) (before : ℕ) → before ≡ length w.packets.bytes → w'.kind ≡ w.kind → w'.profile ≡ w.profile
       → ((v : MarkedWorld) → MarkedWorldStands (by w.kind) w v → MarkedPremises (by w.kind) v → MarkedAdvances (by w.kind) v event w')
       → IfOk r (λ out. out.first ≡ before + 1) → IfOk r (λ out. out.count ≡ length w'.packets.bytes - before) → OnOk r (length w'.packets.bytes ≤ 200000)
       → IfOk r (λ answer. (schedule : Schedule) (events : List Event) (trace : List MarkedMoment) → MarkedStandsAfter by schedule events trace w
       → MarkedSteps by schedule events trace event answer w')
-  marked_steps (Err e) w w' event before b same advances f n l = tt
-  marked_steps (Ok out) w w' event before b same advances f n l = λ schedule events trace s.
+  marked_steps (Err e) w w' event before b same as_before advances f n l = tt
+  marked_steps (Ok out) w w' event before b same as_before advances f n l = λ schedule events trace s.
       let v : MarkedWorld = marked_after (marked_start schedule) trace in
       let x : MarkedExtends by schedule events trace event w' =
-      marked_extends schedule events trace event w w' s same (advances v s.stands (marked_premises schedule events trace w s)) in
-      let old : before ≡ length v.parcels = b ∙ as_many_marked w.keys w.packets v.parcels s.stands.packets in
-      let now : length w'.packets.bytes ≡ length x.moment.world.parcels = as_many_marked w'.keys w'.packets x.moment.world.parcels x.stands.stands.packets in
+      marked_extends schedule events trace event w w' s same as_before (advances v s.stands (marked_premises schedule events trace w s)) in
+      let old : before ≡ length v.parcels = b ∙ as_many_marked (grammar_of v.profile) w.keys w.packets v.parcels s.stands.packets in
+      let now : length w'.packets.bytes ≡ length x.moment.world.parcels = as_many_marked (grammar_of x.moment.world.profile) w'.keys w'.packets x.moment.world.parcels x.stands.stands.packets in
       let long : length x.moment.world.parcels ≡ length v.parcels + length x.moment.sent = ap length x.grew ∙ length-append v.parcels x.moment.sent in
       record { extends = x; first = f ∙ ap (λ k. k + 1) old; count = n ∙ omega arith; within = omega arith }
 
-  pub marked_limits : (r : Result StepOut StepEnd) (w w' : Kept State) (event : Event) → w'.kind ≡ w.kind
+  pub marked_limits : (r : Result StepOut StepEnd) (w w' : Kept State) (event : Event) → w'.kind ≡ w.kind → w'.profile ≡ w.profile
       → ((v : MarkedWorld) → MarkedWorldStands (by w.kind) w v → MarkedPremises (by w.kind) v → MarkedAdvances (by w.kind) v event w')
       → IfErr r (λ end. (end ≡ PacketLimit) × (200000 < length w'.packets.bytes))
       → IfErr r (λ end. (schedule : Schedule) (events : List Event) (trace : List MarkedMoment) → MarkedStandsAfter by schedule events trace w
       → MarkedEndsStep by schedule events trace event w' end)
-  marked_limits (Ok out) w w' event same advances h = tt
-  marked_limits (Err end) w w' event same advances h =
+  marked_limits (Ok out) w w' event same as_before advances h = tt
+  marked_limits (Err end) w w' event same as_before advances h =
       subst (λ e. (schedule : Schedule) (events : List Event) (trace : List MarkedMoment) → MarkedStandsAfter by schedule events trace w
       → MarkedEndsStep by schedule events trace event w' e) (sym h.0)
       (λ schedule events trace s.
       let v : MarkedWorld = marked_after (marked_start schedule) trace in
       let x : MarkedExtends by schedule events trace event w' =
-      marked_extends schedule events trace event w w' s same (advances v s.stands (marked_premises schedule events trace w s)) in
-      (x, subst (λ n. 200000 < n) (as_many_marked w'.keys w'.packets x.moment.world.parcels x.stands.stands.packets) h.1))
+      marked_extends schedule events trace event w w' s same as_before (advances v s.stands (marked_premises schedule events trace w s)) in
+      (x, subst (λ n. 200000 < n) (as_many_marked (grammar_of x.moment.world.profile) w'.keys w'.packets x.moment.world.parcels x.stands.stands.packets) h.1))
 
   -- an event that is refused ends the step
   pub marked_refused : (w w' : Kept State) (event : Event) (why : EventWhy)

@@ -179,9 +179,11 @@ module _ {State : Type 0} (service : Machine State) where
             boot = st.boot;
             unmarked = st.unmarked;
             node = st.node;
+            runs = st.runs;
           };
           grew = refl;
           quiet = refl;
+          same_profile = refl;
           stored = ap (λ n. with_packet w.packets (ClientToServer n) (spelling (segment_of client m.move (window_of client event)))) numbered;
           same_keys = refl;
           same_log = refl;

@@ -4,13 +4,14 @@ use Rattle.std.specs.List.{AllByRecursion}
 use Rattle.std.specs.Prelude.{IfOk, IfErr, OnOk}
 use Rattle.server_trait.specs.Service.{Machine, WritesBytes}
 use Rattle.server_trait.specs.declared.Service.{Ghosts}
+use Rattle.tcp_rules.specs.Profile.{grammar_of}
 use Rattle.ft_model.specs.Client.{received}
 use Rattle.ft_model.specs.Lawful.{IsNearInput, IsSoundInput, fence}
 use Rattle.ft_model.specs.Legal.{Legal, IsLegalFor, start_of}
 use Rattle.ft_model.specs.Schedule.{kind_of}
 use Rattle.ft_model.specs.Network.{Packet, destination_of}
 use Rattle.ft_model.specs.Node.{Node, Input}
-use Rattle.ft_model.specs.Wire.{HasWire}
+use Rattle.ft_model.specs.Wire.{HasWireBy}
 use Rattle.ft_model.specs.World.{World as Seen, Moment, MayCome, Joint, Happens, world_after}
 use Rattle.ft_model.specs.declared.event.Event.{Event}
 use Rattle.ft_model.specs.declared.schedule.Schedule.{Schedule}
@@ -20,6 +21,7 @@ use Rattle.ft_model.proofs.FormedWorld.{wires_after}
 use Rattle.ft_model.proofs.Happened.{Happened, holds_after}
 use Rattle.ft_model.proofs.Happened.Happened.{log_heard, client_heard, client_moved, server_turned, server_booted, server_down}
 use Rattle.ft_model.proofs.Lists.{same_key}
+use Rattle.ft_model.proofs.Profiles.{profile_stays}
 use Rattle.ft_model.proofs.ClientKeys.{keys_in, keys_stay}
 use Rattle.ft_model.proofs.Running.{HasSmallOutputs}
 use Rattle.ft_model.proofs.Unfenced.{no_fence}
@@ -62,7 +64,7 @@ pub record AreLaws {State : Type 0} (services : ℕ → Machine State) : Type 0 
       → (world_after (start_of schedule) trace).node ≡ Some node → MayCome (world_after (start_of schedule) trace) input → IsSoundInput (services (kind_of schedule.service)) node input node.stage
   pub unfenced : (schedule : Schedule) (trace : List Moment) (node : Node) (input : Input) → Legal services schedule trace
       → (world_after (start_of schedule) trace).node ≡ Some node → MayCome (world_after (start_of schedule) trace) input → fence node input ≡ None
-  pub wires : (kind : ℕ) (start : Seen) (trace : List Moment) → Joint (services kind) start trace → AllByRecursion HasWire (world_after start trace).packets
+  pub wires : (kind : ℕ) (start : Seen) (trace : List Moment) → Joint (services kind) start trace → AllByRecursion (HasWireBy (grammar_of start.profile)) (world_after start trace).packets
 
 pub laws_hold : {State : Type 0} (services : ℕ → Machine State) → ((kind : ℕ) → HasSmallOutputs (services kind)) → ((kind : ℕ) → WritesBytes (services kind)) → AreLaws services
 laws_hold services small writes = record {
@@ -83,7 +85,8 @@ module _ {State : Type 0} (services : ℕ → Machine State) where
   premises_at laws schedule events trace l =
       let legal : Legal services (record schedule { events = events }) trace = legal_so_far schedule events trace l in
       record {
-        wires = laws.wires (kind_of schedule.service) (start_of schedule) trace l.joint;
+        wires = subst (λ profile. AllByRecursion (HasWireBy (grammar_of profile)) (world_after (start_of schedule) trace).packets)
+            (sym (profile_stays (services (kind_of schedule.service)) (start_of schedule) trace l.joint)) (laws.wires (kind_of schedule.service) (start_of schedule) trace l.joint);
         keys = (start_of schedule, start_is (services (kind_of schedule.service)) (start_of schedule) trace l.joint, keys_after (services (kind_of schedule.service)) (start_of schedule) trace l.joint);
         near = λ node input is comes. laws.near (record schedule { events = events }) trace node input legal is comes;
         sound = λ node input is comes. laws.sound (record schedule { events = events }) trace node input legal is comes;
@@ -97,13 +100,14 @@ module _ {State : Type 0} (services : ℕ → Machine State) where
 
   -- what an event does extends the trace
   pub extends : (schedule : Schedule) (events : List Event) (trace : List Moment) (event : Event) (w w' : Kept State) → StandsAfter services schedule events trace w → w'.kind ≡ w.kind
-      → Advances (services w.kind) (world_after (start_of schedule) trace) event w' → Extends services schedule events trace event w'
-  extends schedule events trace event w w' s same a =
+      → w'.profile ≡ w.profile → Advances (services w.kind) (world_after (start_of schedule) trace) event w' → Extends services schedule events trace event w'
+  extends schedule events trace event w w' s same as_before a =
       let v : Seen = world_after (start_of schedule) trace in
       record {
         moment = record { event = event; sent = a.happens.sent; world = a.happens.world };
         stands = record {
           kind = same ∙ s.kind;
+          profile = as_before ∙ s.profile;
           legal = record {
             joint = (s.legal.joint, subst (λ k. Happens (services k) (world_after (start_of schedule) trace) event a.happens.sent a.happens.world) s.kind a.happens.goes);
             events_are = ap (λ es. es ++ event ∷ []) s.legal.events_are;
@@ -115,30 +119,30 @@ module _ {State : Type 0} (services : ℕ → Machine State) where
       }
 
   -- a step is what an event does, with the count of its packets
-  pub steps : AreLaws services → (r : Result StepOut StepEnd) (w w' : Kept State) (event : Event) (before : ℕ) → before ≡ length w.packets.bytes → w'.kind ≡ w.kind
+  pub steps : AreLaws services → (r : Result StepOut StepEnd) (w w' : Kept State) (event : Event) (before : ℕ) → before ≡ length w.packets.bytes → w'.kind ≡ w.kind → w'.profile ≡ w.profile
       → ((v : Seen) → WorldStands (services w.kind) w v → Premises (services w.kind) v → Advances (services w.kind) v event w')
       → IfOk r (λ out. out.first ≡ before + 1) → IfOk r (λ out. out.count ≡ length w'.packets.bytes - before) → OnOk r (length w'.packets.bytes ≤ 200000)
       → IfOk r (λ answer. (schedule : Schedule) (events : List Event) (trace : List Moment) → StandsAfter services schedule events trace w → Steps services schedule events trace event answer w')
-  steps laws (Err e) w w' event before b same advances f n l = tt
-  steps laws (Ok out) w w' event before b same advances f n l = λ schedule events trace s.
+  steps laws (Err e) w w' event before b same as_before advances f n l = tt
+  steps laws (Ok out) w w' event before b same as_before advances f n l = λ schedule events trace s.
       let v : Seen = world_after (start_of schedule) trace in
-      let x : Extends services schedule events trace event w' = extends schedule events trace event w w' s same (advances v s.stands (premises laws schedule events trace w s)) in
-      let old : before ≡ length v.packets = b ∙ as_many w.keys w.packets v.packets s.stands.packets in
-      let now : length w'.packets.bytes ≡ length x.moment.world.packets = as_many w'.keys w'.packets x.moment.world.packets x.stands.stands.packets in
+      let x : Extends services schedule events trace event w' = extends schedule events trace event w w' s same as_before (advances v s.stands (premises laws schedule events trace w s)) in
+      let old : before ≡ length v.packets = b ∙ as_many (grammar_of v.profile) w.keys w.packets v.packets s.stands.packets in
+      let now : length w'.packets.bytes ≡ length x.moment.world.packets = as_many (grammar_of x.moment.world.profile) w'.keys w'.packets x.moment.world.packets x.stands.stands.packets in
       let long : length x.moment.world.packets ≡ length v.packets + length x.moment.sent = ap length x.grew ∙ length-append v.packets x.moment.sent in
       record { extends = x; first = f ∙ ap (λ k. k + 1) old; count = n ∙ omega arith; within = omega arith }
 
-  pub limits : AreLaws services → (r : Result StepOut StepEnd) (w w' : Kept State) (event : Event) → w'.kind ≡ w.kind
+  pub limits : AreLaws services → (r : Result StepOut StepEnd) (w w' : Kept State) (event : Event) → w'.kind ≡ w.kind → w'.profile ≡ w.profile
       → ((v : Seen) → WorldStands (services w.kind) w v → Premises (services w.kind) v → Advances (services w.kind) v event w')
       → IfErr r (λ end. (end ≡ PacketLimit) × (200000 < length w'.packets.bytes))
       → IfErr r (λ end. (schedule : Schedule) (events : List Event) (trace : List Moment) → StandsAfter services schedule events trace w → EndsStep services schedule events trace event w' end)
-  limits laws (Ok out) w w' event same advances h = tt
-  limits laws (Err end) w w' event same advances h =
+  limits laws (Ok out) w w' event same as_before advances h = tt
+  limits laws (Err end) w w' event same as_before advances h =
       subst (λ e. (schedule : Schedule) (events : List Event) (trace : List Moment) → StandsAfter services schedule events trace w → EndsStep services schedule events trace event w' e) (sym h.0)
       (λ schedule events trace s.
       let v : Seen = world_after (start_of schedule) trace in
-      let x : Extends services schedule events trace event w' = extends schedule events trace event w w' s same (advances v s.stands (premises laws schedule events trace w s)) in
-      (x, subst (λ n. 200000 < n) (as_many w'.keys w'.packets x.moment.world.packets x.stands.stands.packets) h.1))
+      let x : Extends services schedule events trace event w' = extends schedule events trace event w w' s same as_before (advances v s.stands (premises laws schedule events trace w s)) in
+      (x, subst (λ n. 200000 < n) (as_many (grammar_of x.moment.world.profile) w'.keys w'.packets x.moment.world.packets x.stands.stands.packets) h.1))
 
 -- an event that isn't done ends the step
 pub ends_so : {State : Type 0} {ghosts : Ghosts State} (saved : Saving State) (w w' : World State ghosts) (event : Event) (end : StepEnd) → AreLaws (services_of w)

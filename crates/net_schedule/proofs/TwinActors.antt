@@ -1,10 +1,11 @@
 -- With two loggers: what server and clients do is done in the whole world, since they don't look at the log.
-use Rattle.std.proofs.Common.{◌≡◌, ◌∙◌, sym, ap, subst, refl, ◌≢◌, ℕ, Some, List, [], ◌++◌, map, Result}
+use Rattle.std.proofs.Common.{◌≡◌, ◌∙◌, sym, ap₂, subst, refl, ◌≢◌, ℕ, Some, List, [], ◌++◌, map, Result}
 use Rattle.std.specs.Prelude.{OnOk, IfErr}
 use Rattle.std.proofs.lemmas.Result.{on_ok_weaker}
 use Rattle.ft_io.proofs.Outcomes.{if_err}
 use Rattle.server_trait.specs.Service.{Machine}
 use Rattle.server_trait.specs.declared.Service.{Ghosts}
+use Rattle.tcp_rules.specs.Profile.{grammar_of}
 use Rattle.ft_model.specs.Client.{mover_of}
 use Rattle.ft_model.specs.Legal.{refusal, IsScripted}
 use Rattle.ft_model.specs.Network.{Packet, destination_of}
@@ -27,7 +28,7 @@ use Rattle.node_serving.specs.Markers.{Saving}
 use Rattle.net_schedule.specs.WorldView.{kept, service_of}
 use Rattle.net_schedule.specs.Refinement.{Kept}
 use Rattle.net_schedule.specs.Turns.{ActorsDo, ActorsDecline, Does, Declines}
-use Rattle.net_schedule.specs.TwinRefinement.{TwinWorldStands, TwinGoesOn, TwinAdvances, ParcelComesAs, carried_parcels}
+use Rattle.net_schedule.specs.TwinRefinement.{LoggersStand, TwinWorldStands, TwinGoesOn, TwinAdvances, ParcelComesAs, carried_parcels}
 use Rattle.schedule_network.specs.declared.end.StepEnd.{StepEnd}
 use Rattle.schedule_network.specs.declared.end.StepEnd.TheVariants.{NoMemory, BadEvent, PacketLimit}
 use Rattle.net_schedule.specs.declared.world.World.{World}
@@ -117,13 +118,13 @@ module _ {State : Type 0} (service : Machine State) where
         world = next_of v g.sent g.world;
         goes = (g.sent, refl, there, refl, refl);
         stands = record {
-          actors = record { server = g.stands.server; profile = g.stands.profile; keys = g.stands.keys; clients = g.stands.clients; boot = g.stands.boot; unmarked = g.stands.unmarked; node = g.stands.node };
+          actors = record { server = g.stands.server; profile = g.stands.profile; keys = g.stands.keys; clients = g.stands.clients; boot = g.stands.boot; unmarked = g.stands.unmarked; node = g.stands.node; runs = g.stands.runs };
           loggers = st.loggers;
           double = g.same_keepers ∙ st.double;
           log = g.same_log ∙ st.log;
-          pair = st.pair;
-          packets = g.stored ∙ packets_after w.keys w.packets v.parcels g.sent st.packets
-              ∙ ap (λ ks. carried_parcels ks (v.parcels ++ map Outside g.sent)) (sym g.same_keys);
+          pair = subst (λ p. LoggersStand (grammar_of p) st.loggers v.pair) (sym g.same_profile) st.pair;
+          packets = g.stored ∙ packets_after (grammar_of v.profile) w.keys w.packets v.parcels g.sent st.packets
+              ∙ ap₂ (λ p ks. carried_parcels (grammar_of p) ks (v.parcels ++ map Outside g.sent)) (sym g.same_profile) (sym g.same_keys);
         };
         grew = refl;
       }
@@ -131,7 +132,7 @@ module _ {State : Type 0} (service : Machine State) where
   -- server and clients stand where they stood, whatever packets are taken for sent
   pub twin_actors_of : (w : Kept State) (v : TwinWorld) (ps : List Packet) → TwinWorldStands service w v → ActorsStand service w (seen v ps)
   twin_actors_of w v ps st =
-      record { server = st.actors.server; profile = st.actors.profile; keys = st.actors.keys; clients = st.actors.clients; boot = st.actors.boot; unmarked = st.actors.unmarked; node = st.actors.node }
+      record { server = st.actors.server; profile = st.actors.profile; keys = st.actors.keys; clients = st.actors.clients; boot = st.actors.boot; unmarked = st.actors.unmarked; node = st.actors.node; runs = st.actors.runs }
 
   two_advances : (event : Event) (w w' : Kept State) (v : TwinWorld) (ps : List Packet) → IsOfActors event → TwinWorldStands service w v
       → ActorsAdvance service (seen v ps) event w w' → TwinAdvances service v event w'

@@ -7,11 +7,13 @@ use Rattle.ft_io.proofs.Choices.{by_cases}
 use Rattle.ft_io.specs.declared.Key.{Key}
 use Rattle.seq_arith.specs.Damage.{flipped}
 use Rattle.seq_arith.specs.MessageGrammar as messages
+use Rattle.seq_arith.specs.declared.kinds.Grammar.{Grammar}
 use Rattle.seq_arith.proofs.MessageSpelling.{message_is_read}
 use Rattle.server_trait.specs.Service.{Machine}
+use Rattle.tcp_rules.specs.Profile.{grammar_of}
 use Rattle.ft_model.specs.Network.{Packet}
 use Rattle.ft_model.specs.Network.Packet.{To_server, To_client, To_logger, From_logger}
-use Rattle.ft_model.specs.Wire.{wire_of, HasWire}
+use Rattle.ft_model.specs.Wire.{wire_by, wire_of, HasWireBy}
 use Rattle.ft_model.specs.Wire.Party.{The_logger}
 use Rattle.ft_model.specs.World.{World as Seen, Delivered, Flipped, DeliveredAs}
 use Rattle.ft_model.specs.declared.event.Event.TheVariants as events
@@ -59,25 +61,27 @@ by_outside P keys v (Outside (From_logger message)) way bytes leads is comes so 
 by_outside P keys v (Inside (Forward number r)) way bytes leads is comes so = absurd (true≢false (sym leads ∙ ap leads_to_actor is))
 by_outside P keys v (Inside (Got number)) way bytes leads is comes so = absurd (true≢false (sym leads ∙ ap leads_to_actor is))
 
-pub written_at : (xs : List Parcel) (n : ℕ) (x : Parcel) → AllByRecursion IsWritten xs → parcel_at xs n ≡ Some x → IsWritten x
-written_at xs zero x a e = none_is_some x e
-written_at xs (suc n) x a e = all_slice_get IsWritten xs n x a e
+pub written_at : (grammar : Grammar) (xs : List Parcel) (n : ℕ) (x : Parcel) → AllByRecursion (IsWritten grammar) xs → parcel_at xs n ≡ Some x → IsWritten grammar x
+written_at grammar xs zero x a e = none_is_some x e
+written_at grammar xs (suc n) x a e = all_slice_get (IsWritten grammar) xs n x a e
 
 module _ {State : Type 0} (service : Machine State) where
   -- a parcel's own bytes are the parcel
-  may_come : (v : TwinWorld) (p : TwinPremises service v) (n : ℕ) (x : Parcel) → parcel_at v.parcels n ≡ Some x → IsWritten x
-      → MayComeAs (seen v p.packets) x (bytes_of_parcel x)
+  may_come : (v : TwinWorld) (p : TwinPremises service v) (n : ℕ) (x : Parcel) → parcel_at v.parcels n ≡ Some x → IsWritten (grammar_of v.profile) x
+      → MayComeAs (seen v p.packets) x (bytes_of_parcel (grammar_of v.profile) x)
   may_come v p n (Outside packet) at wire = comes_whole service (seen v p.packets) packet wire (p.sent n packet at)
   may_come v p n (Inside between) at wire = tt
 
-  outside_whole : (v after : TwinWorld) (packet : Packet) (sent : List Parcel) → HasWire packet → Elsewhere (λ w. DeliveredAs service w packet (wire_of packet).bytes) v sent after
+  outside_whole : (v after : TwinWorld) (packet : Packet) (sent : List Parcel) → HasWireBy (grammar_of v.profile) packet
+      → Elsewhere (λ w. DeliveredAs service w packet (wire_by (grammar_of v.profile) packet).bytes) v sent after
       → Elsewhere (λ w. Delivered service w packet) v sent after
   outside_whole v after packet sent wire e = (e.0, e.1, as_whole service (seen v []) packet e.0 (seen after e.0) wire e.2, e.3, e.4)
 
-  comes_so : (x : Parcel) (v : TwinWorld) (sent : List Parcel) (after : TwinWorld) → IsWritten x → ParcelComesAs service x (bytes_of_parcel x) v sent after
+  comes_so : (x : Parcel) (v : TwinWorld) (sent : List Parcel) (after : TwinWorld) → IsWritten (grammar_of v.profile) x
+      → ParcelComesAs service x (bytes_of_parcel (grammar_of v.profile) x) v sent after
       → ParcelComes service x v sent after
   comes_so (Outside (To_logger m)) v sent after wire h =
-      subst (λ r. LoggerHas v.pair.head_stopped (asked (messages.spelling m) r) v sent after) (message_is_read m wire.0) h
+      subst (λ r. LoggerHas v.pair.head_stopped (asked (messages.spelling_by (grammar_of v.profile) m) r) v sent after) (message_is_read m wire.0) h
   comes_so (Outside (To_server s)) v sent after wire h = outside_whole v after (To_server s) sent wire h
   comes_so (Outside (To_client s)) v sent after wire h = outside_whole v after (To_client s) sent wire h
   comes_so (Outside (From_logger m)) v sent after wire h = outside_whole v after (From_logger m) sent wire h
@@ -90,10 +94,10 @@ module _ {State : Type 0} (service : Machine State) where
       → ((parcel : Parcel) → way ≡ stored_way w.keys parcel → MayComeAs (seen v p.packets) parcel bytes → TwinGoesOn service (ParcelComesAs service parcel bytes v) v w')
       → TwinAdvances service v (events.Deliver n) w'
   twin_delivers w w' v n way bytes st p e f brings =
-      let x : FoundParcel w.keys v.parcels n way bytes = found_parcel w.keys w.packets v.parcels n way bytes st.packets e f in
-      let wire : IsWritten x.parcel = written_at v.parcels n x.parcel p.written x.is in
+      let x : FoundParcel (grammar_of v.profile) w.keys v.parcels n way bytes = found_parcel (grammar_of v.profile) w.keys w.packets v.parcels n way bytes st.packets e f in
+      let wire : IsWritten (grammar_of v.profile) x.parcel = written_at (grammar_of v.profile) v.parcels n x.parcel p.written x.is in
       let came : MayComeAs (seen v p.packets) x.parcel bytes = subst (MayComeAs (seen v p.packets) x.parcel) (sym x.spells) (may_come v p n x.parcel x.is wire) in
-      let g : TwinGoesOn service (ParcelComesAs service x.parcel (bytes_of_parcel x.parcel) v) v w' =
+      let g : TwinGoesOn service (ParcelComesAs service x.parcel (bytes_of_parcel (grammar_of v.profile) x.parcel) v) v w' =
       subst (λ b. TwinGoesOn service (ParcelComesAs service x.parcel b v) v w') x.spells (brings x.parcel x.goes came) in
       record {
         turn = Usual (events.Deliver n);
@@ -107,16 +111,18 @@ module _ {State : Type 0} (service : Machine State) where
   twin_refuses_packet v n e = rw e refl
 
   -- .. or with a changed bit
-  may_come_changed : (v : Seen) (x : Parcel) (bit : ℕ) → IsWritten x → bit < 8 * length (bytes_of_parcel x) → MayComeAs v x (flipped bit (bytes_of_parcel x))
+  may_come_changed : (v : Seen) (x : Parcel) (bit : ℕ) → IsWritten (grammar_of v.profile) x → bit < 8 * length (bytes_of_parcel (grammar_of v.profile) x)
+      → MayComeAs v x (flipped bit (bytes_of_parcel (grammar_of v.profile) x))
   may_come_changed v (Outside packet) bit wire within = comes_changed service v packet bit wire within
   may_come_changed v (Inside between) bit wire within = tt
 
-  outside_flipped : (v after : TwinWorld) (packet : Packet) (bit : ℕ) (sent : List Parcel) → HasWire packet → bit < 8 * length (wire_of packet).bytes
-      → Elsewhere (λ w. DeliveredAs service w packet (flipped bit (wire_of packet).bytes)) v sent after → Elsewhere (λ w. Flipped service w packet bit) v sent after
+  outside_flipped : (v after : TwinWorld) (packet : Packet) (bit : ℕ) (sent : List Parcel) → HasWireBy (grammar_of v.profile) packet
+      → bit < 8 * length (wire_by (grammar_of v.profile) packet).bytes
+      → Elsewhere (λ w. DeliveredAs service w packet (flipped bit (wire_by (grammar_of v.profile) packet).bytes)) v sent after → Elsewhere (λ w. Flipped service w packet bit) v sent after
   outside_flipped v after packet bit sent wire within e = (e.0, e.1, record { wire = wire; within = within; comes = e.2 }, e.3, e.4)
 
-  flipped_so : (x : Parcel) (bit : ℕ) (v : TwinWorld) (sent : List Parcel) (after : TwinWorld) → IsWritten x → bit < 8 * length (bytes_of_parcel x)
-      → ParcelComesAs service x (flipped bit (bytes_of_parcel x)) v sent after → ParcelFlipped service x bit v sent after
+  flipped_so : (x : Parcel) (bit : ℕ) (v : TwinWorld) (sent : List Parcel) (after : TwinWorld) → IsWritten (grammar_of v.profile) x → bit < 8 * length (bytes_of_parcel (grammar_of v.profile) x)
+      → ParcelComesAs service x (flipped bit (bytes_of_parcel (grammar_of v.profile) x)) v sent after → ParcelFlipped service x bit v sent after
   flipped_so (Outside (To_logger m)) bit v sent after wire within h = (wire, within, h)
   flipped_so (Outside (To_server s)) bit v sent after wire within h = outside_flipped v after (To_server s) bit sent wire within h
   flipped_so (Outside (To_client s)) bit v sent after wire within h = outside_flipped v after (To_client s) bit sent wire within h
@@ -129,52 +135,52 @@ module _ {State : Type 0} (service : Machine State) where
       → ((parcel : Parcel) → way ≡ stored_way w.keys parcel → MayComeAs (seen v p.packets) parcel (flipped bit bytes)
       → TwinGoesOn service (ParcelComesAs service parcel (flipped bit bytes) v) v w') → TwinAdvances service v (events.Flip n bit) w'
   twin_flips w w' v n bit way bytes st p e f within brings =
-      let x : FoundParcel w.keys v.parcels n way bytes = found_parcel w.keys w.packets v.parcels n way bytes st.packets e f in
-      let wire : IsWritten x.parcel = written_at v.parcels n x.parcel p.written x.is in
-      let inside : bit < 8 * length (bytes_of_parcel x.parcel) = subst (λ b. bit < 8 * length b) x.spells within in
+      let x : FoundParcel (grammar_of v.profile) w.keys v.parcels n way bytes = found_parcel (grammar_of v.profile) w.keys w.packets v.parcels n way bytes st.packets e f in
+      let wire : IsWritten (grammar_of v.profile) x.parcel = written_at (grammar_of v.profile) v.parcels n x.parcel p.written x.is in
+      let inside : bit < 8 * length (bytes_of_parcel (grammar_of v.profile) x.parcel) = subst (λ b. bit < 8 * length b) x.spells within in
       let came : MayComeAs (seen v p.packets) x.parcel (flipped bit bytes) =
       subst (λ b. MayComeAs (seen v p.packets) x.parcel (flipped bit b)) (sym x.spells) (may_come_changed (seen v p.packets) x.parcel bit wire inside) in
-      let g : TwinGoesOn service (ParcelComesAs service x.parcel (flipped bit (bytes_of_parcel x.parcel)) v) v w' =
+      let g : TwinGoesOn service (ParcelComesAs service x.parcel (flipped bit (bytes_of_parcel (grammar_of v.profile) x.parcel)) v) v w' =
       subst (λ b. TwinGoesOn service (ParcelComesAs service x.parcel (flipped bit b) v) v w') x.spells (brings x.parcel x.goes came) in
-      let has : nat_le (8 * length (bytes_of_parcel x.parcel)) bit ≡ false = grind (arith, nat_tests) in
+      let has : nat_le (8 * length (bytes_of_parcel (grammar_of v.profile) x.parcel)) bit ≡ false = grind (arith, nat_tests) in
       record {
         turn = Usual (events.Flip n bit);
         is = refl;
         happens = record { sent = g.sent; world = g.world; goes = (x.parcel, x.is, flipped_so x.parcel bit v g.sent g.world wire inside g.goes); stands = g.stands; grew = g.grew };
-        allowed = ap (λ o. refusal_of_twin_flip o bit) x.is ∙ ap (λ b. cond b (Some why.Bit) None) has;
+        allowed = ap (λ o. refusal_of_twin_flip (grammar_of v.profile) o bit) x.is ∙ ap (λ b. cond b (Some why.Bit) None) has;
         scripted = no_move (seen v []) (events.Flip n bit) _ (seen g.world []) refl;
       }
 
   pub twin_refuses_no_packet : (v : TwinWorld) (n bit : ℕ) → parcel_at v.parcels n ≡ None → twin_refusal v (events.Flip n bit) ≡ Some why.Packet
-  twin_refuses_no_packet v n bit e = ap (λ o. refusal_of_twin_flip o bit) e
+  twin_refuses_no_packet v n bit e = ap (λ o. refusal_of_twin_flip (grammar_of v.profile) o bit) e
 
   pub twin_refuses_bit : (w : Kept State) (v : TwinWorld) (n bit : ℕ) (way : Way) (bytes : List ℕ) → TwinWorldStands service w v → at_number w.packets.ways n ≡ Some way
       → at_number w.packets.bytes n ≡ Some bytes → 8 * length bytes ≤ bit → twin_refusal v (events.Flip n bit) ≡ Some why.Bit
   twin_refuses_bit w v n bit way bytes st e f past =
-      let x : FoundParcel w.keys v.parcels n way bytes = found_parcel w.keys w.packets v.parcels n way bytes st.packets e f in
-      let beyond : 8 * length (bytes_of_parcel x.parcel) ≤ bit = subst (λ b. 8 * length b ≤ bit) x.spells past in
-      let has : nat_le (8 * length (bytes_of_parcel x.parcel)) bit ≡ true = grind (arith, nat_tests) in
-      ap (λ o. refusal_of_twin_flip o bit) x.is ∙ ap (λ b. cond b (Some why.Bit) None) has
+      let x : FoundParcel (grammar_of v.profile) w.keys v.parcels n way bytes = found_parcel (grammar_of v.profile) w.keys w.packets v.parcels n way bytes st.packets e f in
+      let beyond : 8 * length (bytes_of_parcel (grammar_of v.profile) x.parcel) ≤ bit = subst (λ b. 8 * length b ≤ bit) x.spells past in
+      let has : nat_le (8 * length (bytes_of_parcel (grammar_of v.profile) x.parcel)) bit ≡ true = grind (arith, nat_tests) in
+      ap (λ o. refusal_of_twin_flip (grammar_of v.profile) o bit) x.is ∙ ap (λ b. cond b (Some why.Bit) None) has
 
   -- a logger stops
   stop_stands : (part : Part) (w w' : Kept State) (v : TwinWorld) → (st : TwinWorldStands service w v) → IsPaired v.pair
       → w' ≡ record w { log = serving_log (stopped part st.loggers); keepers = Paired (stopped part st.loggers) }
       → TwinWorldStands service w' (record v { pair = stopped_by part v.pair; parcels = v.parcels ++ [] })
   stop_stands part w w' v st paired e =
-      let pair : LoggersStand (stopped part st.loggers) (stopped_by part v.pair) = stopped_stand part st.loggers v.pair st.pair in
+      let pair : LoggersStand (grammar_of v.profile) (stopped part st.loggers) (stopped_by part v.pair) = stopped_stand (grammar_of v.profile) part st.loggers v.pair st.pair in
       subst (λ x. TwinWorldStands service x (record v { pair = stopped_by part v.pair; parcels = v.parcels ++ [] })) (sym e)
       (record {
-        actors = record { server = st.actors.server; profile = st.actors.profile; keys = st.actors.keys; clients = st.actors.clients; boot = st.actors.boot; unmarked = st.actors.unmarked; node = st.actors.node };
+        actors = record { server = st.actors.server; profile = st.actors.profile; keys = st.actors.keys; clients = st.actors.clients; boot = st.actors.boot; unmarked = st.actors.unmarked; node = st.actors.node; runs = st.actors.runs };
         loggers = stopped part st.loggers;
         double = refl;
-        log = serving_is (stopped part st.loggers) (stopped_by part v.pair) pair (alone_after part v.pair paired.head_alone);
+        log = serving_is (grammar_of v.profile) (stopped part st.loggers) (stopped_by part v.pair) pair (alone_after part v.pair paired.head_alone);
         pair = pair;
-        packets = none_after w.keys w.packets v.parcels st.packets;
+        packets = none_after (grammar_of v.profile) w.keys w.packets v.parcels st.packets;
       })
     where
-      stopped_stand : (part : Part) (l : Loggers) (p : Pair) → LoggersStand l p → LoggersStand (stopped part l) (stopped_by part p)
-      stopped_stand parts.Head l p s = record { head = s.head; tail = ap left_alone s.tail }
-      stopped_stand parts.Tail l p s = record { head = ap left_alone s.head; tail = s.tail }
+      stopped_stand : (grammar : Grammar) (part : Part) (l : Loggers) (p : Pair) → LoggersStand grammar l p → LoggersStand grammar (stopped part l) (stopped_by part p)
+      stopped_stand grammar parts.Head l p s = record { head = s.head; tail = ap left_alone s.tail }
+      stopped_stand grammar parts.Tail l p s = record { head = ap left_alone s.head; tail = s.tail }
 
       alone_after : (part : Part) (p : Pair) → p.head.alone ≡ p.tail_stopped → (stopped_by part p).head.alone ≡ (stopped_by part p).tail_stopped
       alone_after parts.Head p e = e
@@ -210,7 +216,7 @@ module _ {State : Type 0} (service : Machine State) where
   same_pair a b e = cc
 
   -- whether one has stopped is known from the one that serves alone
-  any_stopped : (v : TwinWorld) (l : Loggers) → LoggersStand l v.pair → IsPaired v.pair → (l.tail.alone || l.head.alone) ≡ (v.pair.head_stopped || v.pair.tail_stopped)
+  any_stopped : (v : TwinWorld) (l : Loggers) → LoggersStand (grammar_of v.profile) l v.pair → IsPaired v.pair → (l.tail.alone || l.head.alone) ≡ (v.pair.head_stopped || v.pair.tail_stopped)
   any_stopped v l stand paired =
       ap₂ (λ a b. a || b) (ap (λ k. k.alone) stand.tail ∙ paired.tail_alone) (ap (λ k. k.alone) stand.head ∙ paired.head_alone)
 

@@ -4,11 +4,13 @@ use Rattle.std.specs.List.{AllByRecursion}
 use Rattle.ft_io.proofs.Choices.{holds_either_way}
 use Rattle.ft_io.specs.declared.Key.{Key}
 use Rattle.seq_arith.specs.Message.{Message, is_answer}
-use Rattle.seq_arith.specs.MessageGrammar.{reading}
+use Rattle.seq_arith.specs.MessageGrammar.{reading_by}
 use Rattle.seq_arith.specs.declared.kinds.BadMsg.{BadMsg}
+use Rattle.seq_arith.specs.declared.kinds.Grammar.{Grammar}
 use Rattle.server_trait.specs.Service.{Machine}
+use Rattle.tcp_rules.specs.Profile.{grammar_of}
 use Rattle.ft_model.specs.Log.{Log, answer_to}
-use Rattle.logger_store.specs.StoreState.{answer_bytes}
+use Rattle.logger_store.specs.StoreState.{answer_bytes_by}
 use Rattle.ft_model.specs.Network.Packet.{To_server, To_client, To_logger, From_logger}
 use Rattle.ft_model.specs.declared.way.Way.{Way}
 use Rattle.ft_model.specs.declared.way.Way.TheVariants.{ClientToServer, ServerToClient, ServerToLogger, LoggerToServer, HeadToTail, TailToHead}
@@ -63,8 +65,8 @@ tail_confirms (Tells (Got number)) t = tt
 tail_confirms Is_noise t = tt
 
 -- the loggers and the packets stand at a pair, and at the parcels
-abbrev HeardAt : List Key → List Parcel → Loggers × Carried → Pair → List Parcel → Type 0
-HeardAt keys before h pair sent = LoggersStand h.0 pair × (h.1 ≡ carried_parcels keys (before ++ sent))
+abbrev HeardAt : Grammar → List Key → List Parcel → Loggers × Carried → Pair → List Parcel → Type 0
+HeardAt grammar keys before h pair sent = LoggersStand grammar h.0 pair × (h.1 ≡ carried_parcels grammar keys (before ++ sent))
 
 -- two choices by what is the same
 alike_if : {X Y Z : Type 0} (P : X → Y → Z → Type 0) (b c : Bool) (x x' : X) (y y' : Y) (z z' : Z) → c ≡ b → P x y z → P x' y' z'
@@ -74,39 +76,39 @@ alike_if P false false x x' y y' z z' e p q = q
 alike_if P true false x x' y y' z z' e p q = absurd (true≢false (sym e))
 alike_if P false true x x' y y' z z' e p q = absurd (true≢false e)
 
-module _ (keys : List Key) (before : TwinWorld) (l : Loggers) (kept : Carried) (stand : LoggersStand l before.pair) (paired : IsPaired before.pair)
-    (stored : kept ≡ carried_parcels keys before.parcels) where
+module _ (grammar : Grammar) (keys : List Key) (before : TwinWorld) (l : Loggers) (kept : Carried) (stand : LoggersStand grammar l before.pair) (paired : IsPaired before.pair)
+    (stored : kept ≡ carried_parcels grammar keys before.parcels) where
   head_heard : (from : Side) (bytes : List ℕ)
-      → HeardAt keys before.parcels (head_hears from bytes (l, kept)) (head_has (comes_from from bytes) before.pair)
-      (if before.pair.head_stopped then [] else sent_by (head_does (comes_from from bytes) before.pair.head))
+      → HeardAt grammar keys before.parcels (head_hears from bytes (l, kept)) (head_has (comes_from grammar from bytes) before.pair)
+      (if before.pair.head_stopped then [] else sent_by (head_does (comes_from grammar from bytes) before.pair.head))
   head_heard from bytes =
       let p : Pair = before.pair in
-      let d : Does Head = head_does (comes_from from bytes) before.pair.head in
-      let does : kept_does from bytes l.head ≡ in_bytes kept_head (head_does (comes_from from bytes) before.pair.head) =
-      ap (kept_does from bytes) stand.head ∙ head_does_so from bytes before.pair.head paired.confirmed in
-      alike_if (HeardAt keys before.parcels) p.head_stopped l.tail.alone (l, kept) _ p _ [] (sent_by d) (ap (λ k. k.alone) stand.tail ∙ paired.tail_alone)
-      (stand, none_after keys kept before.parcels stored) (
+      let d : Does Head = head_does (comes_from grammar from bytes) before.pair.head in
+      let does : kept_does from bytes l.head ≡ in_bytes (kept_head grammar) (head_does (comes_from grammar from bytes) before.pair.head) =
+      ap (kept_does from bytes) stand.head ∙ head_does_so grammar from bytes before.pair.head paired.confirmed in
+      alike_if (HeardAt grammar keys before.parcels) p.head_stopped l.tail.alone (l, kept) _ p _ [] (sent_by d) (ap (λ k. k.alone) stand.tail ∙ paired.tail_alone)
+      (stand, none_after grammar keys kept before.parcels stored) (
         record { head = ap (λ k. k.next) does; tail = stand.tail },
-        ap (λ k. with_datagrams parts.Head kept k.sent) does ∙ datagrams_after keys parts.Head kept before.parcels d (head_forwards (comes_from from bytes) p.head) stored,
+        ap (λ k. with_datagrams parts.Head kept k.sent) does ∙ datagrams_after grammar keys parts.Head kept before.parcels d (head_forwards (comes_from grammar from bytes) p.head) stored,
       )
 
   tail_heard : (from : Side) (bytes : List ℕ)
-      → HeardAt keys before.parcels (tail_hears from bytes (l, kept)) (tail_has (comes_from from bytes) before.pair)
-      (if before.pair.tail_stopped then [] else sent_by (tail_does (comes_from from bytes) before.pair.tail))
+      → HeardAt grammar keys before.parcels (tail_hears from bytes (l, kept)) (tail_has (comes_from grammar from bytes) before.pair)
+      (if before.pair.tail_stopped then [] else sent_by (tail_does (comes_from grammar from bytes) before.pair.tail))
   tail_heard from bytes =
       let p : Pair = before.pair in
-      let d : Does Tail = tail_does (comes_from from bytes) before.pair.tail in
-      let does : kept_does from bytes l.tail ≡ in_bytes kept_tail (tail_does (comes_from from bytes) before.pair.tail) =
-      ap (kept_does from bytes) stand.tail ∙ tail_does_so from bytes before.pair.tail in
-      alike_if (HeardAt keys before.parcels) p.tail_stopped l.head.alone (l, kept) _ p _ [] (sent_by d) (ap (λ k. k.alone) stand.head ∙ paired.head_alone)
-      (stand, none_after keys kept before.parcels stored) (
+      let d : Does Tail = tail_does (comes_from grammar from bytes) before.pair.tail in
+      let does : kept_does from bytes l.tail ≡ in_bytes (kept_tail grammar) (tail_does (comes_from grammar from bytes) before.pair.tail) =
+      ap (kept_does from bytes) stand.tail ∙ tail_does_so grammar from bytes before.pair.tail in
+      alike_if (HeardAt grammar keys before.parcels) p.tail_stopped l.head.alone (l, kept) _ p _ [] (sent_by d) (ap (λ k. k.alone) stand.head ∙ paired.head_alone)
+      (stand, none_after grammar keys kept before.parcels stored) (
         record { head = stand.head; tail = ap (λ k. k.next) does },
-        ap (λ k. with_datagrams parts.Tail kept k.sent) does ∙ datagrams_after keys parts.Tail kept before.parcels d (tail_confirms (comes_from from bytes) p.tail) stored,
+        ap (λ k. with_datagrams parts.Tail kept k.sent) does ∙ datagrams_after grammar keys parts.Tail kept before.parcels d (tail_confirms (comes_from grammar from bytes) p.tail) stored,
       )
 
 -- the log that serves is the serving one
-pub serving_is : (l : Loggers) (p : Pair) → LoggersStand l p → p.head.alone ≡ p.tail_stopped → serving_log l ≡ serving p
-serving_is l p stand alone =
+pub serving_is : (grammar : Grammar) (l : Loggers) (p : Pair) → LoggersStand grammar l p → p.head.alone ≡ p.tail_stopped → serving_log l ≡ serving p
+serving_is grammar l p stand alone =
     ap₂ (λ h t. if h.alone then h.log else t.log) stand.head stand.tail ∙ ap (λ b. if b then p.head.log else p.tail.log) alone
 
 -- what arrives changes nothing of who serves alone
@@ -142,7 +144,7 @@ leads_to_logger TailToHead = true
 leads_to_logger _ = false
 
 module _ {State : Type 0} (service : Machine State) (w w' : Kept State) (v : TwinWorld) (st : TwinWorldStands service w v) (paired : IsPaired v.pair) where
-  heard_goes : (Goes : List Parcel → TwinWorld → Type 0) (h : Loggers × Carried) (pair : Pair) (sent : List Parcel) → HeardAt w.keys v.parcels h pair sent → KnowsAlone pair
+  heard_goes : (Goes : List Parcel → TwinWorld → Type 0) (h : Loggers × Carried) (pair : Pair) (sent : List Parcel) → HeardAt (grammar_of v.profile) w.keys v.parcels h pair sent → KnowsAlone pair
       → Goes sent (record v { pair = pair; parcels = v.parcels ++ sent }) → w' ≡ heard_in w h → TwinGoesOn service Goes v w'
   heard_goes Goes h pair sent at alone goes e =
       subst (TwinGoesOn service Goes v) (sym e)
@@ -151,30 +153,30 @@ module _ {State : Type 0} (service : Machine State) (w w' : Kept State) (v : Twi
         world = record v { pair = pair; parcels = v.parcels ++ sent };
         goes = goes;
         stands = record {
-          actors = record { server = st.actors.server; profile = st.actors.profile; keys = st.actors.keys; clients = st.actors.clients; boot = st.actors.boot; unmarked = st.actors.unmarked; node = st.actors.node };
+          actors = record { server = st.actors.server; profile = st.actors.profile; keys = st.actors.keys; clients = st.actors.clients; boot = st.actors.boot; unmarked = st.actors.unmarked; node = st.actors.node; runs = st.actors.runs };
           loggers = h.0;
           double = refl;
-          log = serving_is h.0 pair at.0 alone;
+          log = serving_is (grammar_of v.profile) h.0 pair at.0 alone;
           pair = at.0;
           packets = at.1;
         };
         grew = refl;
       })
 
-  head_goes : (from : Side) (bytes : List ℕ) → w' ≡ heard_in w (head_hears from bytes (st.loggers, w.packets)) → TwinGoesOn service (HeadHas (comes_from from bytes) v) v w'
+  head_goes : (from : Side) (bytes : List ℕ) → w' ≡ heard_in w (head_hears from bytes (st.loggers, w.packets)) → TwinGoesOn service (HeadHas (comes_from (grammar_of v.profile) from bytes) v) v w'
   head_goes from bytes e =
-      heard_goes (HeadHas (comes_from from bytes) v) (head_hears from bytes (st.loggers, w.packets)) (head_has (comes_from from bytes) v.pair)
-      (if v.pair.head_stopped then [] else sent_by (head_does (comes_from from bytes) v.pair.head))
-      (head_heard w.keys v st.loggers w.packets st.pair paired st.packets from bytes) (head_knows (comes_from from bytes) v.pair paired.head_alone) (refl, refl) e
+      heard_goes (HeadHas (comes_from (grammar_of v.profile) from bytes) v) (head_hears from bytes (st.loggers, w.packets)) (head_has (comes_from (grammar_of v.profile) from bytes) v.pair)
+      (if v.pair.head_stopped then [] else sent_by (head_does (comes_from (grammar_of v.profile) from bytes) v.pair.head))
+      (head_heard (grammar_of v.profile) w.keys v st.loggers w.packets st.pair paired st.packets from bytes) (head_knows (comes_from (grammar_of v.profile) from bytes) v.pair paired.head_alone) (refl, refl) e
 
-  tail_goes : (from : Side) (bytes : List ℕ) → w' ≡ heard_in w (tail_hears from bytes (st.loggers, w.packets)) → TwinGoesOn service (TailHas (comes_from from bytes) v) v w'
+  tail_goes : (from : Side) (bytes : List ℕ) → w' ≡ heard_in w (tail_hears from bytes (st.loggers, w.packets)) → TwinGoesOn service (TailHas (comes_from (grammar_of v.profile) from bytes) v) v w'
   tail_goes from bytes e =
-      heard_goes (TailHas (comes_from from bytes) v) (tail_hears from bytes (st.loggers, w.packets)) (tail_has (comes_from from bytes) v.pair)
-      (if v.pair.tail_stopped then [] else sent_by (tail_does (comes_from from bytes) v.pair.tail))
-      (tail_heard w.keys v st.loggers w.packets st.pair paired st.packets from bytes) (tail_knows (comes_from from bytes) v.pair paired.head_alone) (refl, refl) e
+      heard_goes (TailHas (comes_from (grammar_of v.profile) from bytes) v) (tail_hears from bytes (st.loggers, w.packets)) (tail_has (comes_from (grammar_of v.profile) from bytes) v.pair)
+      (if v.pair.tail_stopped then [] else sent_by (tail_does (comes_from (grammar_of v.profile) from bytes) v.pair.tail))
+      (tail_heard (grammar_of v.profile) w.keys v st.loggers w.packets st.pair paired st.packets from bytes) (tail_knows (comes_from (grammar_of v.profile) from bytes) v.pair paired.head_alone) (refl, refl) e
 
   front_goes : (bytes : List ℕ) (head_stopped : Bool) → st.loggers.tail.alone ≡ head_stopped → w' ≡ heard_in w (front_hears bytes (st.loggers, w.packets))
-      → TwinGoesOn service (LoggerHas head_stopped (comes_from sides.Server bytes) v) v w'
+      → TwinGoesOn service (LoggerHas head_stopped (comes_from (grammar_of v.profile) sides.Server bytes) v) v w'
   front_goes bytes true is e =
       tail_goes sides.Server bytes
       (e ∙ ap (λ b. heard_in w (if b then tail_hears sides.Server bytes (st.loggers, w.packets) else head_hears sides.Server bytes (st.loggers, w.packets))) is)
@@ -200,11 +202,11 @@ module _ {State : Type 0} (service : Machine State) (w w' : Kept State) (v : Twi
   not_marked : {P : Type 0} (store : TrimmedAtMarks) (l : Loggers) → With_marks store ≡ Paired l → P
   not_marked store l e = absurd (cc)
 
-  pub brings_loggers : (logs now : Logs) (sent : Carried) (parcel : Parcel) (way : Way) (bytes : List ℕ) → w.keepers ≡ keepers_in logs → leads_to_logger way ≡ true → way ≡ stored_way w.keys parcel
-      → HearsIn logs way bytes w.packets now sent → w' ≡ with_logs w (now, sent) → TwinGoesOn service (ParcelComesAs service parcel bytes v) v w'
-  brings_loggers (One log) now sent parcel way bytes are leads is heard e = not_one st.loggers (sym are ∙ st.double)
-  brings_loggers (Marked both) now sent parcel way bytes are leads is heard e = not_marked both.store st.loggers (sym are ∙ st.double)
-  brings_loggers (Two l) now sent parcel way bytes are leads is heard e =
+  pub brings_loggers : (grammar : Grammar) (logs now : Logs) (sent : Carried) (parcel : Parcel) (way : Way) (bytes : List ℕ) → w.keepers ≡ keepers_in logs → leads_to_logger way ≡ true → way ≡ stored_way w.keys parcel
+      → HearsIn grammar logs way bytes w.packets now sent → w' ≡ with_logs w (now, sent) → TwinGoesOn service (ParcelComesAs service parcel bytes v) v w'
+  brings_loggers grammar (One log) now sent parcel way bytes are leads is heard e = not_one st.loggers (sym are ∙ st.double)
+  brings_loggers grammar (Marked both) now sent parcel way bytes are leads is heard e = not_marked both.store st.loggers (sym are ∙ st.double)
+  brings_loggers grammar (Two l) now sent parcel way bytes are leads is heard e =
       goes_by_parcel parcel way bytes leads is
       (e ∙ (ap (with_logs w) heard ∙ ap (λ x. heard_in w (pair_hears way bytes (x, w.packets))) (same_pair l st.loggers (sym are ∙ st.double))))
     where
@@ -227,17 +229,17 @@ tail_grows : (from : Side) (bytes : List ℕ) (l : Loggers) (packets : Carried) 
 tail_grows from bytes l packets =
     holds_either_way (Grows packets) l.head.alone (l, packets) _ (le_refl (length packets.bytes)) (datagrams_grow parts.Tail packets (kept_does from bytes l.tail).sent)
 
-log_grows : (r : Result Message BadMsg) (log : Log) (packets : Carried) → Grows packets (log_reads r (log, packets))
-log_grows (Ok message) log packets = answer_grows packets (answer_bytes (answer_to log message))
-log_grows (Err bad) log packets = le_refl (length packets.bytes)
+log_grows : (grammar : Grammar) (r : Result Message BadMsg) (log : Log) (packets : Carried) → Grows packets (log_reads grammar r (log, packets))
+log_grows grammar (Ok message) log packets = answer_grows packets (answer_bytes_by grammar (answer_to log message))
+log_grows grammar (Err bad) log packets = le_refl (length packets.bytes)
 
-one_grows : (log : Log) (way : Way) (bytes : List ℕ) (packets : Carried) → Grows packets (log_hears way bytes (log, packets))
-one_grows log ServerToLogger bytes packets = log_grows (reading bytes) log packets
-one_grows log (ClientToServer n) bytes packets = le_refl (length packets.bytes)
-one_grows log (ServerToClient n) bytes packets = le_refl (length packets.bytes)
-one_grows log LoggerToServer bytes packets = le_refl (length packets.bytes)
-one_grows log HeadToTail bytes packets = le_refl (length packets.bytes)
-one_grows log TailToHead bytes packets = le_refl (length packets.bytes)
+one_grows : (grammar : Grammar) (log : Log) (way : Way) (bytes : List ℕ) (packets : Carried) → Grows packets (log_hears grammar way bytes (log, packets))
+one_grows grammar log ServerToLogger bytes packets = log_grows grammar (reading_by grammar bytes) log packets
+one_grows grammar log (ClientToServer n) bytes packets = le_refl (length packets.bytes)
+one_grows grammar log (ServerToClient n) bytes packets = le_refl (length packets.bytes)
+one_grows grammar log LoggerToServer bytes packets = le_refl (length packets.bytes)
+one_grows grammar log HeadToTail bytes packets = le_refl (length packets.bytes)
+one_grows grammar log TailToHead bytes packets = le_refl (length packets.bytes)
 
 pair_grows : (l : Loggers) (way : Way) (bytes : List ℕ) (packets : Carried) → Grows packets (pair_hears way bytes (l, packets))
 pair_grows l ServerToLogger bytes packets =
@@ -248,7 +250,7 @@ pair_grows l LoggerToServer bytes packets = le_refl (length packets.bytes)
 pair_grows l HeadToTail bytes packets = tail_grows sides.Other bytes l packets
 pair_grows l TailToHead bytes packets = head_grows sides.Other bytes l packets
 
-pub logs_grow : (logs now : Logs) (way : Way) (bytes : List ℕ) (packets sent : Carried) → HearsIn logs way bytes packets now sent → length packets.bytes ≤ length sent.bytes
-logs_grow (One log) now way bytes packets sent h = subst (λ (x : Logs × Carried). length packets.bytes ≤ length x.1.bytes) (sym h) (one_grows log way bytes packets)
-logs_grow (Two l) now way bytes packets sent h = subst (λ (x : Logs × Carried). length packets.bytes ≤ length x.1.bytes) (sym h) (pair_grows l way bytes packets)
-logs_grow (Marked both) now way bytes packets sent h = h.2.grew
+pub logs_grow : (grammar : Grammar) (logs now : Logs) (way : Way) (bytes : List ℕ) (packets sent : Carried) → HearsIn grammar logs way bytes packets now sent → length packets.bytes ≤ length sent.bytes
+logs_grow grammar (One log) now way bytes packets sent h = subst (λ (x : Logs × Carried). length packets.bytes ≤ length x.1.bytes) (sym h) (one_grows grammar log way bytes packets)
+logs_grow grammar (Two l) now way bytes packets sent h = subst (λ (x : Logs × Carried). length packets.bytes ≤ length x.1.bytes) (sym h) (pair_grows l way bytes packets)
+logs_grow grammar (Marked both) now way bytes packets sent h = h.2.grew

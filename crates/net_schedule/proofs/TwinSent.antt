@@ -1,6 +1,8 @@
 -- With two loggers: what the code's world keeps at the end of a trace is what was sent in it.
 use Rattle.std.proofs.Common.{◌≡◌, ◌∙◌, sym, ap, refl, ℕ, Some, List, [], ◌∷◌, map}
 use Rattle.server_trait.specs.Service.{Machine}
+use Rattle.tcp_rules.specs.Profile.{grammar_of}
+use Rattle.tcp_rules.specs.Profiles.{profile_of}
 use Rattle.ft_model.specs.Client.{Client}
 use Rattle.ft_model.specs.Legal.{start_of}
 use Rattle.ft_model.specs.Schedule.{kind_of, clients_of}
@@ -14,9 +16,9 @@ use Rattle.twin_laws.specs.TwinReport.{way_of_parcel}
 use Rattle.twin_laws.specs.TwinWorld.{Parcel, TwinMoment, seen, twin_after}
 use Rattle.twin_laws.specs.TwinWorld.Parcel.{Outside, Inside}
 use Rattle.schedule_network.specs.AtNumber.{at_number}
-use Rattle.net_schedule.specs.SentPackets.{parcels_of, KeepsAllParcels, ParcelSentAs}
+use Rattle.net_schedule.specs.SentPackets.{run_grammar, parcels_of, KeepsAllParcels, ParcelSentAs}
 use Rattle.net_schedule.specs.Refinement.{Kept}
-use Rattle.net_schedule.specs.TwinRefinement.{stored_way}
+use Rattle.net_schedule.specs.TwinRefinement.{stored_way, carried_parcels}
 use Rattle.net_schedule.specs.TwinStep.{TwinStandsAfter}
 use Rattle.net_schedule.proofs.Parcels.{FoundParcel, found_parcel}
 use Rattle.net_schedule.proofs.Sent.{way_is}
@@ -47,6 +49,12 @@ module _ {State : Type 0} (services : ℕ → Machine State) (twins : AreTwinLaw
       s.stands.actors.keys ∙ ap (λ (u : Seen). keys_in u.clients) (sym at)
       ∙ keys_after (services (kind_of schedule.service)) (start_of schedule) (flat (twin_start schedule) trace).trace legal.joint
 
+  -- the parcels are stored in the grammar of the schedule's profile
+  twin_stored_by : (schedule : Schedule) (events : List Event) (trace : List TwinMoment) (w : Kept State) → TwinStandsAfter services schedule events trace w
+      → w.packets ≡ carried_parcels (run_grammar schedule) w.keys (parcels_of schedule trace)
+  twin_stored_by schedule events trace w s =
+      s.stands.packets ∙ ap (λ p. carried_parcels (grammar_of p) w.keys (parcels_of schedule trace)) (sym s.stands.actors.profile ∙ ap profile_of s.profile)
+
   pub twin_keys_are : (schedule : Schedule) (events : List Event) (trace : List TwinMoment) (w : Kept State) → TwinStandsAfter services schedule events trace w
       → w.keys ≡ map (λ line. line.key) schedule.clients
   twin_keys_are schedule events trace w s = twin_keys_stand schedule events trace w s ∙ sym (keys_begin schedule.server schedule.clients)
@@ -54,9 +62,9 @@ module _ {State : Type 0} (services : ℕ → Machine State) (twins : AreTwinLaw
   pub keeps_all_parcels : (schedule : Schedule) (events : List Event) (trace : List TwinMoment) (w : Kept State) → TwinStandsAfter services schedule events trace w
       → KeepsAllParcels schedule trace w.packets
   keeps_all_parcels schedule events trace w s = record {
-    ways = ap (λ c. c.ways) s.stands.packets ∙ ap (λ ks. map (stored_way ks) (parcels_of schedule trace)) (twin_keys_stand schedule events trace w s)
+    ways = ap (λ c. c.ways) (twin_stored_by schedule events trace w s) ∙ ap (λ ks. map (stored_way ks) (parcels_of schedule trace)) (twin_keys_stand schedule events trace w s)
         ∙ parcel_ways_are (clients_of schedule.server schedule.clients) (parcels_of schedule trace);
-    bytes = ap (λ c. c.bytes) s.stands.packets;
+    bytes = ap (λ c. c.bytes) (twin_stored_by schedule events trace w s);
     written = twins.written (kind_of schedule.service) (twin_start schedule) trace s.legal.joint;
   }
 
@@ -64,11 +72,12 @@ module _ {State : Type 0} (services : ℕ → Machine State) (twins : AreTwinLaw
       → TwinStandsAfter services schedule events trace w → at_number w.packets.ways number ≡ Some way → at_number w.packets.bytes number ≡ Some bytes
       → ParcelSentAs schedule trace number way bytes
   parcel_sent_as schedule events trace w number way bytes s e f =
-      let x : FoundParcel w.keys (parcels_of schedule trace) number way bytes = found_parcel w.keys w.packets (parcels_of schedule trace) number way bytes s.stands.packets e f in
+      let x : FoundParcel (run_grammar schedule) w.keys (parcels_of schedule trace) number way bytes =
+      found_parcel (run_grammar schedule) w.keys w.packets (parcels_of schedule trace) number way bytes (twin_stored_by schedule events trace w s) e f in
       record {
         parcel = x.parcel;
         is = x.is;
-        written = written_at (parcels_of schedule trace) number x.parcel (twins.written (kind_of schedule.service) (twin_start schedule) trace s.legal.joint) x.is;
+        written = written_at (run_grammar schedule) (parcels_of schedule trace) number x.parcel (twins.written (kind_of schedule.service) (twin_start schedule) trace s.legal.joint) x.is;
         goes = x.goes ∙ ap (λ ks. stored_way ks x.parcel) (twin_keys_stand schedule events trace w s) ∙ parcel_way_is (clients_of schedule.server schedule.clients) x.parcel;
         spells = x.spells;
       }

@@ -4,6 +4,8 @@ use Rattle.std.specs.List.{AllByRecursion}
 use Rattle.std.specs.Prelude.{IfOk, IfErr, OnOk}
 use Rattle.server_trait.specs.Service.{Machine}
 use Rattle.server_trait.specs.declared.Service.{Ghosts}
+use Rattle.tcp_rules.specs.Profile.{grammar_of}
+use Rattle.tcp_rules.specs.Profiles.{profile_of}
 use Rattle.ft_model.specs.Legal.{IsLegalFor, IsScripted, start_of}
 use Rattle.ft_model.specs.Network.{Packet}
 use Rattle.ft_model.specs.Schedule.{kind_of}
@@ -44,7 +46,7 @@ pub record AreTwinLaws {State : Type 0} (services : ℕ → Machine State) : Typ
       → parcel_at (twin_after start trace).parcels number ≡ Some (Outside packet) → WasSent (seen (twin_after start trace) (flat start trace).packets) packet
   pub pair : (kind : ℕ) (start : TwinWorld) (trace : List TwinMoment) → TwinJoint (services kind) start trace → IsPaired (twin_after start trace).pair
   pub written : (kind : ℕ) (start : TwinWorld) (trace : List TwinMoment) → TwinJoint (services kind) start trace
-      → AllByRecursion IsWritten (twin_after start trace).parcels
+      → AllByRecursion (IsWritten (grammar_of start.profile)) (twin_after start trace).parcels
 
 pub twin_laws_hold : {State : Type 0} (services : ℕ → Machine State) → AreLaws services → AreTwinLaws services
 twin_laws_hold services laws = record {
@@ -72,19 +74,21 @@ module _ {State : Type 0} (services : ℕ → Machine State) (laws : AreLaws ser
         premises = subst (λ k. Premises (services k) (seen (twin_after start trace) (flat start trace).packets)) (sym s.kind)
             (subst (Premises (services kind)) (twins.world kind start trace s.legal.joint) at_end);
         sent = λ number packet at. twins.sent kind number start trace packet s.legal.joint at;
-        written = twins.written kind start trace s.legal.joint;
+        written = subst (λ profile. AllByRecursion (IsWritten (grammar_of profile)) (twin_after start trace).parcels) (sym (sym s.stands.actors.profile ∙ ap profile_of s.profile))
+            (twins.written kind start trace s.legal.joint);
         paired = twins.pair kind start trace s.legal.joint;
       }
 
   -- what an event does extends the trace
   twin_extends : (schedule : Schedule) (events : List Event) (trace : List TwinMoment) (event : Event) (w w' : Kept State) → TwinStandsAfter services schedule events trace w
-      → w'.kind ≡ w.kind → TwinAdvances (services w.kind) (twin_after (twin_start schedule) trace) event w' → TwinExtends services schedule events trace event w'
-  twin_extends schedule events trace event w w' s same a =
+      → w'.kind ≡ w.kind → w'.profile ≡ w.profile → TwinAdvances (services w.kind) (twin_after (twin_start schedule) trace) event w' → TwinExtends services schedule events trace event w'
+  twin_extends schedule events trace event w w' s same as_before a =
       let v : TwinWorld = twin_after (twin_start schedule) trace in
       record {
         moment = record { event = a.turn; sent = a.happens.sent; world = a.happens.world };
         stands = record {
           kind = same ∙ s.kind;
+          profile = as_before ∙ s.profile;
           legal = record {
             joint = (s.legal.joint, subst (λ k. TwinHappens (services k) v a.turn a.happens.sent a.happens.world) s.kind a.happens.goes);
             events_are = ap (λ es. es ++ event_of a.turn ∷ []) s.legal.events_are ∙ ap (λ e. events ++ e ∷ []) a.is;
@@ -102,35 +106,35 @@ module _ {State : Type 0} (services : ℕ → Machine State) (laws : AreLaws ser
       }
 
   -- a step is what an event does, with the count of its parcels
-  pub twin_steps : (r : Result StepOut StepEnd) (w w' : Kept State) (event : Event) (before : ℕ) → before ≡ length w.packets.bytes → w'.kind ≡ w.kind
+  pub twin_steps : (r : Result StepOut StepEnd) (w w' : Kept State) (event : Event) (before : ℕ) → before ≡ length w.packets.bytes → w'.kind ≡ w.kind → w'.profile ≡ w.profile
       → ((v : TwinWorld) → TwinWorldStands (services w.kind) w v → TwinPremises (services w.kind) v → TwinAdvances (services w.kind) v event w')
       → IfOk r (λ out. out.first ≡ before + 1) → IfOk r (λ out. out.count ≡ length w'.packets.bytes - before) → OnOk r (length w'.packets.bytes ≤ 200000)
       → IfOk r (λ answer. (schedule : Schedule) (events : List Event) (trace : List TwinMoment) → TwinStandsAfter services schedule events trace w
       → TwinSteps services schedule events trace event answer w')
-  twin_steps (Err e) w w' event before b same advances f n l = tt
-  twin_steps (Ok out) w w' event before b same advances f n l = λ schedule events trace s.
+  twin_steps (Err e) w w' event before b same as_before advances f n l = tt
+  twin_steps (Ok out) w w' event before b same as_before advances f n l = λ schedule events trace s.
       let v : TwinWorld = twin_after (twin_start schedule) trace in
       let x : TwinExtends services schedule events trace event w' =
-      twin_extends schedule events trace event w w' s same (advances v s.stands (twin_premises schedule events trace w s)) in
-      let old : before ≡ length v.parcels = b ∙ as_many_parcels w.keys w.packets v.parcels s.stands.packets in
-      let now : length w'.packets.bytes ≡ length x.moment.world.parcels = as_many_parcels w'.keys w'.packets x.moment.world.parcels x.stands.stands.packets in
+      twin_extends schedule events trace event w w' s same as_before (advances v s.stands (twin_premises schedule events trace w s)) in
+      let old : before ≡ length v.parcels = b ∙ as_many_parcels (grammar_of v.profile) w.keys w.packets v.parcels s.stands.packets in
+      let now : length w'.packets.bytes ≡ length x.moment.world.parcels = as_many_parcels (grammar_of x.moment.world.profile) w'.keys w'.packets x.moment.world.parcels x.stands.stands.packets in
       let long : length x.moment.world.parcels ≡ length v.parcels + length x.moment.sent = ap length x.grew ∙ length-append v.parcels x.moment.sent in
       record { extends = x; first = f ∙ ap (λ k. k + 1) old; count = n ∙ omega arith; within = omega arith }
 
-  pub twin_limits : (r : Result StepOut StepEnd) (w w' : Kept State) (event : Event) → w'.kind ≡ w.kind
+  pub twin_limits : (r : Result StepOut StepEnd) (w w' : Kept State) (event : Event) → w'.kind ≡ w.kind → w'.profile ≡ w.profile
       → ((v : TwinWorld) → TwinWorldStands (services w.kind) w v → TwinPremises (services w.kind) v → TwinAdvances (services w.kind) v event w')
       → IfErr r (λ end. (end ≡ PacketLimit) × (200000 < length w'.packets.bytes))
       → IfErr r (λ end. (schedule : Schedule) (events : List Event) (trace : List TwinMoment) → TwinStandsAfter services schedule events trace w
       → TwinEndsStep services schedule events trace event w' end)
-  twin_limits (Ok out) w w' event same advances h = tt
-  twin_limits (Err end) w w' event same advances h =
+  twin_limits (Ok out) w w' event same as_before advances h = tt
+  twin_limits (Err end) w w' event same as_before advances h =
       subst (λ e. (schedule : Schedule) (events : List Event) (trace : List TwinMoment) → TwinStandsAfter services schedule events trace w
       → TwinEndsStep services schedule events trace event w' e) (sym h.0)
       (λ schedule events trace s.
       let v : TwinWorld = twin_after (twin_start schedule) trace in
       let x : TwinExtends services schedule events trace event w' =
-      twin_extends schedule events trace event w w' s same (advances v s.stands (twin_premises schedule events trace w s)) in
-      (x, subst (λ n. 200000 < n) (as_many_parcels w'.keys w'.packets x.moment.world.parcels x.stands.stands.packets) h.1))
+      twin_extends schedule events trace event w w' s same as_before (advances v s.stands (twin_premises schedule events trace w s)) in
+      (x, subst (λ n. 200000 < n) (as_many_parcels (grammar_of x.moment.world.profile) w'.keys w'.packets x.moment.world.parcels x.stands.stands.packets) h.1))
 
 -- an event that isn't done ends the step
 pub twin_ends_so : {State : Type 0} {ghosts : Ghosts State} (saved : Saving State) (w w' : World State ghosts) (event : Event) (end : StepEnd) → AreLaws (services_of w)

@@ -43,7 +43,8 @@ TwinEndsAlong event end before after =
 -- With marks, one after so many reads, by a service that can be saved: the step extends the trace by the event, ..
 abbrev pub StepsMarked : {State : Type 0} {ghosts : Ghosts State} → Saving State → (every : ℕ) → Event → StepOut → (before after : World State ghosts) → Type 0
 StepsMarked saved every event answer before after =
-    (schedule : Schedule) (events : List Event) (trace : List MarkedMoment) → MarkedStandsAfter (marker_for saved (services_of before) every) schedule events trace (kept before)
+    (schedule : Schedule) (events : List Event) (trace : List MarkedMoment)
+    → MarkedStandsAfter (marker_for saved (services_of before) every) schedule events trace (kept before)
     → MarkedSteps (marker_for saved (services_of before) every) schedule events trace event answer (kept after)
 
 abbrev pub MarkedStepsAlong : {State : Type 0} {ghosts : Ghosts State} → Saving State → Event → StepOut → (before after : World State ghosts) → Type 0
@@ -52,7 +53,8 @@ MarkedStepsAlong saved event answer before after = saved.savable ≡ true → (e
 -- .. or it fails for the reason that the definitions give
 abbrev pub EndsMarked : {State : Type 0} {ghosts : Ghosts State} → Saving State → (every : ℕ) → Event → StepEnd → (before after : World State ghosts) → Type 0
 EndsMarked saved every event end before after =
-    (schedule : Schedule) (events : List Event) (trace : List MarkedMoment) → MarkedStandsAfter (marker_for saved (services_of before) every) schedule events trace (kept before)
+    (schedule : Schedule) (events : List Event) (trace : List MarkedMoment)
+    → MarkedStandsAfter (marker_for saved (services_of before) every) schedule events trace (kept before)
     → MarkedEndsStep (marker_for saved (services_of before) every) schedule events trace event (kept after) end
 
 abbrev pub MarkedEndsAlong : {State : Type 0} {ghosts : Ghosts State} → Saving State → Event → StepEnd → (before after : World State ghosts) → Type 0

@@ -6,7 +6,9 @@ use Rattle.seq_arith.specs.Mark.{MarkMessage}
 use Rattle.seq_arith.specs.PacketGrammar as segments
 use Rattle.ft_io.specs.declared.Key.{Key}
 use Rattle.server_trait.specs.Service.{Machine}
+use Rattle.tcp_rules.specs.Profile.{grammar_of}
 use Rattle.tcp_rules.specs.Profiles.{profile_of}
+use Rattle.seq_arith.specs.declared.kinds.Grammar.{Grammar}
 use Rattle.ft_model.specs.Lawful.{IsNearInput, IsSoundInput, fence}
 use Rattle.ft_model.specs.Legal.{IsScripted}
 use Rattle.ft_model.specs.Network.Packet.{To_server, To_client, To_logger, From_logger}
@@ -28,7 +30,7 @@ use Rattle.server_node.specs.MarkedTurns.{NodeStandsAt}
 use Rattle.schedule_network.specs.StoredPackets.{Carried, way_along}
 use Rattle.schedule_network.specs.Journal.{StoreAndJournal, AreAt, HasDistinctKeys}
 use Rattle.schedule_network.specs.Logs.Keepers.{With_marks}
-use Rattle.net_schedule.specs.Refinement.{Kept, Server}
+use Rattle.net_schedule.specs.Refinement.{Kept, Server, RunsWith}
 
 -- how the server of a world makes marks, given how the states of its services are saved
 abbrev pub marker_for : {State : Type 0} → Saving State → (ℕ → Machine State) → (every kind : ℕ) → Marker State
@@ -41,8 +43,8 @@ way_of_parcel keys (Mark_sent message) = ServerToLogger
 way_of_parcel keys (Mark_answered message) = LoggerToServer
 
 -- parcels as the network stores them
-abbrev pub stored_parcels : List Key → List Parcel → Carried
-stored_parcels keys parcels = record { ways = map (way_of_parcel keys) parcels; bytes = map bytes_of parcels }
+abbrev pub stored_parcels : Grammar → List Key → List Parcel → Carried
+stored_parcels grammar keys parcels = record { ways = map (way_of_parcel keys) parcels; bytes = map (bytes_of grammar) parcels }
 
 -- the server runs the service of this kind, and corresponds to an incarnation that makes marks
 pub record IsMarkedAt {State : Type 0} (by : Marker State) (kind : ℕ) (now : Server State) (node : MarkedNode) : Type 0 where
@@ -56,13 +58,14 @@ MarkedNodeStands by kind None None = Unit {0}
 MarkedNodeStands by kind (Some now) (Some node) = IsMarkedAt by kind now node
 MarkedNodeStands by kind _ _ = ⊥
 
--- the server's address and profile, the clients, and the largest boot number are those of a world of the definitions
+-- the server's address and profile, the clients, and the largest boot number are those of a world of the definitions; a server that is up has that profile
 pub record PeersStand {State : Type 0} (w : Kept State) (v : Seen) : Type 0 where
   pub server : w.server ≡ v.server
   pub profile : profile_of w.profile ≡ v.profile
   pub keys : w.keys ≡ map (λ c. c.key) v.clients
   pub clients : w.clients ≡ v.clients
   pub boot : w.boot ≡ v.boot
+  pub runs : RunsWith w.profile w.node
 
 -- The code's world corresponds to a world of the definitions with marks: each parcel is stored as bytes, with its direction; the log is a store's journal.
 pub record MarkedWorldStands {State : Type 0} (by : Marker State) (w : Kept State) (v : MarkedWorld) : Type 0 where
@@ -73,7 +76,7 @@ pub record MarkedWorldStands {State : Type 0} (by : Marker State) (w : Kept Stat
   pub journal : w.log ≡ both.journal
   pub log : w.log ≡ v.log.log
   pub at : AreAt both v.log
-  pub packets : w.packets ≡ stored_parcels w.keys v.parcels
+  pub packets : w.packets ≡ stored_parcels (grammar_of v.profile) w.keys v.parcels
   pub every : w.every ≡ by.every
   pub marks : 0 < by.every
 
@@ -99,7 +102,7 @@ MayComeMarked v (Mark_comes message) = (number : ℕ) × (parcel_at v.parcels nu
 -- What every legal trace with marks guarantees of the world at its end: each parcel can be read, the clients have the keys with which they started, and
 -- whatever may arrive at the server is near, lets it fetch what is sound, and doesn't fence it.
 pub record MarkedPremises {State : Type 0} (by : Marker State) (v : MarkedWorld) : Type 0 where
-  pub readable : AllByRecursion CanBeRead v.parcels
+  pub readable : AllByRecursion (CanBeRead (grammar_of v.profile)) v.parcels
   pub keys : (start : Seen) × IsStart start × (map (λ c. c.key) v.clients ≡ map (λ c. c.key) start.clients)
   pub distinct : HasDistinctKeys v.log
   pub near : (node : MarkedNode) (input : Input) → v.node ≡ Some node → MayCome (seen v) input → IsNearInput node.plain.server input node.plain.stage
@@ -111,8 +114,8 @@ pub record MarkedPremises {State : Type 0} (by : Marker State) (v : MarkedWorld)
 -- what these bytes say may arrive at the addressee of a parcel
 abbrev pub MarkedComesAs : MarkedWorld → Parcel → List ℕ → Type 0
 MarkedComesAs v (Usual (To_server segment)) bytes = MayCome (seen v) (segment_or_noise (segments.reading bytes))
-MarkedComesAs v (Usual (From_logger message)) bytes = MayComeMarked v (input_of (said_by bytes))
-MarkedComesAs v (Mark_answered message) bytes = MayComeMarked v (input_of (said_by bytes))
+MarkedComesAs v (Usual (From_logger message)) bytes = MayComeMarked v (input_of (said_by (grammar_of v.profile) bytes))
+MarkedComesAs v (Mark_answered message) bytes = MayComeMarked v (input_of (said_by (grammar_of v.profile) bytes))
 MarkedComesAs v (Usual (To_client segment)) bytes = Unit {0}
 MarkedComesAs v (Usual (To_logger message)) bytes = Unit {0}
 MarkedComesAs v (Mark_sent message) bytes = Unit {0}

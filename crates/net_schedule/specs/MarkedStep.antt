@@ -16,6 +16,7 @@ use Rattle.schedule_network.specs.declared.step_out.StepOut.{StepOut}
 pub record MarkedStandsAfter {State : Type 0} (by : ℕ → Marker State) (schedule : Schedule) (events : List Event) (trace : List MarkedMoment)
     (w : Kept State) : Type 0 where
   pub kind : w.kind ≡ kind_of schedule.service
+  pub profile : w.profile ≡ schedule.profile
   pub legal : IsMarkedLegalFor by schedule events trace
   pub stands : MarkedWorldStands (by w.kind) w (marked_after (marked_start schedule) trace)
 

@@ -10,7 +10,8 @@ use Rattle.mark_laws.specs.MarkedNode.{Marker, MarkedInput}
 use Rattle.mark_laws.specs.MarkedWorld.{Parcel, MarkedWorld, ServerMoves, ComesAs}
 use Rattle.net_schedule.specs.WorldView.{kept, services_of}
 use Rattle.node_serving.specs.Markers.{Saving}
-use Rattle.net_schedule.specs.MarkedRefinement.{MarkedWorldStands, MarkedGoesOn, MarkedAdvances, MarkedPremises, MayComeMarked, MarkedComesAs, marker_for, way_of_parcel}
+use Rattle.net_schedule.specs.MarkedRefinement.{MarkedWorldStands, MarkedGoesOn, MarkedAdvances, MarkedPremises, MayComeMarked, MarkedComesAs}
+use Rattle.net_schedule.specs.MarkedRefinement.{marker_for, way_of_parcel}
 use Rattle.net_schedule.specs.declared.world.World.{World}
 
 -- how its server makes marks, if one is due after so many reads
@@ -21,7 +22,8 @@ marker_in saved every w = marker_for saved (services_of w) every w.kind
 abbrev pub MarkedServes : {State : Type 0} {ghosts : Ghosts State} → Saving State → MarkedInput → (before after : World State ghosts) → Type 0
 MarkedServes saved input before after =
     saved.savable ≡ true → (every : ℕ) (v : MarkedWorld) → MarkedWorldStands (marker_in saved every before) (kept before) v
-    → MarkedPremises (marker_in saved every before) v → MayComeMarked v input → MarkedGoesOn (marker_in saved every before) (ServerMoves (marker_in saved every before) input v) v (kept after)
+    → MarkedPremises (marker_in saved every before) v → MayComeMarked v input
+    → MarkedGoesOn (marker_in saved every before) (ServerMoves (marker_in saved every before) input v) v (kept after)
 
 -- bytes reach the addressee of a parcel that has this direction
 abbrev pub MarkedBrings : {State : Type 0} {ghosts : Ghosts State} → Saving State → Way → List ℕ → (before after : World State ghosts) → Type 0

@@ -3,13 +3,14 @@ use Rattle.std.specs.Prelude.{◌≡◌, ℕ, Option, None, Some, List, ◌++◌
 use Rattle.ft_io.specs.declared.Addr.{Addr}
 use Rattle.ft_io.specs.declared.Key.{Key}
 use Rattle.server_trait.specs.Service.{Machine}
+use Rattle.tcp_rules.specs.Profile.{grammar_of}
 use Rattle.tcp_rules.specs.Profiles.{profile_of}
 use Rattle.tcp_rules.specs.declared.profile.Profile.{Profile}
 use Rattle.ft_model.specs.Client.{Client}
 use Rattle.ft_model.specs.Log.{Log}
 use Rattle.ft_model.specs.Network.{Packet}
 use Rattle.ft_model.specs.Node.{Node, Stage}
-use Rattle.ft_model.specs.Wire.{wire_of}
+use Rattle.ft_model.specs.Wire.{wire_by}
 use Rattle.ft_model.specs.World.{World as Seen, Happens}
 use Rattle.ft_model.specs.Legal.{refusal, IsScripted}
 use Rattle.ft_model.specs.declared.event.Event.{Event}
@@ -55,7 +56,13 @@ NodeStands service kind None None = Unit {0}
 NodeStands service kind (Some now) (Some node) = IsAt service kind now node
 NodeStands service kind _ _ = ⊥
 
--- The code's world corresponds to a world of the definitions: each packet is stored in its one spelling, with its direction.
+-- a server that is up has this profile
+abbrev pub RunsWith : {State : Type 0} → Profile → Option (Server State) → Type 0
+RunsWith profile None = Unit {0}
+RunsWith profile (Some now) = now.who.profile ≡ profile
+
+-- The code's world corresponds to a world of the definitions: each packet is stored in its one spelling, with its direction. The profile says how messages are
+-- written.
 pub record WorldStands {State : Type 0} (service : Machine State) (w : Kept State) (v : Seen) : Type 0 where
   pub server : w.server ≡ v.server
   pub profile : profile_of w.profile ≡ v.profile
@@ -64,9 +71,10 @@ pub record WorldStands {State : Type 0} (service : Machine State) (w : Kept Stat
   pub single : w.keepers ≡ Single
   pub unmarked : w.every ≡ 0
   pub log : w.log ≡ v.log
-  pub packets : w.packets ≡ carried w.keys (map wire_of v.packets)
+  pub packets : w.packets ≡ carried w.keys (map (wire_by (grammar_of v.profile)) v.packets)
   pub boot : w.boot ≡ v.boot
   pub node : NodeStands service w.kind w.node v.node
+  pub runs : RunsWith w.profile w.node
 
 -- The world moves to a next one, with these packets sent, and the code's world corresponds to that.
 pub record ReachesNext {State : Type 0} (service : Machine State) (Goes : List Packet → Seen → Type 0) (v : Seen) (w : Kept State) : Type 0 where

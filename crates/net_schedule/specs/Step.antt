@@ -16,6 +16,7 @@ use Rattle.schedule_network.specs.declared.step_out.StepOut.{StepOut}
 pub record StandsAfter {State : Type 0} (services : ℕ → Machine State) (schedule : Schedule) (events : List Event) (trace : List Moment)
     (w : Kept State) : Type 0 where
   pub kind : w.kind ≡ kind_of schedule.service
+  pub profile : w.profile ≡ schedule.profile
   pub legal : IsLegalFor services schedule events trace
   pub stands : WorldStands (services w.kind) w (world_after (start_of schedule) trace)
 

@@ -2,6 +2,8 @@
 -- the code's world may correspond: one with one logger, with two, or with marks.
 use Rattle.std.specs.Prelude.{◌≡◌, ℕ, ◌≤◌, Some, List, length}
 use Rattle.server_trait.specs.declared.Service.{Ghosts}
+use Rattle.tcp_rules.specs.Profile.{grammar_of}
+use Rattle.tcp_rules.specs.Profiles.{profile_of}
 use Rattle.ft_model.specs.Legal.{refusal}
 use Rattle.ft_model.specs.Network.{Packet}
 use Rattle.ft_model.specs.Node.{Input}
@@ -27,13 +29,15 @@ use Rattle.schedule_network.specs.declared.end.StepEnd.{StepEnd}
 use Rattle.schedule_network.specs.declared.end.StepEnd.TheVariants.{NoMemory, BadEvent, PacketLimit}
 use Rattle.net_schedule.specs.declared.world.World.{World}
 
--- in every turn the service stays the same, and packets are only added
+-- in every turn the service and the profile stay the same, and packets are only added
 pub record Continues {State : Type 0} {ghosts : Ghosts State} (before after : World State ghosts) : Type 0 where
   pub same_kind : after.kind ≡ before.kind
+  pub same_profile : after.profile ≡ before.profile
   pub grew : length before.packets.bytes ≤ length after.packets.bytes
 
 -- the server takes its turn on what may arrive
-pub record Serves {State : Type 0} {ghosts : Ghosts State} (saved : Saving State) (input : Input) (heard : MarkedInput) (before after : World State ghosts) : Type 0 where
+pub record Serves {State : Type 0} {ghosts : Ghosts State} (saved : Saving State) (input : Input) (heard : MarkedInput)
+    (before after : World State ghosts) : Type 0 where
   pub continues : Continues before after
   pub moves : (v : Seen) → ActorsStand (service_of before) (kept before) v → Premises (service_of before) v → MayCome v input
       → ActorsGoOn (service_of before) (ServerMoves (service_of before) input v) v (kept before) (kept after)
@@ -47,7 +51,8 @@ pub record ActorsDo {State : Type 0} {ghosts : Ghosts State} (saved : Saving Sta
   pub marked : MarkedDoes saved event before after
 
 -- such an event is refused
-pub record IsRefusedToActors {State : Type 0} {ghosts : Ghosts State} (saved : Saving State) (event : Event) (before : World State ghosts) (why : EventWhy) : Type 0 where
+pub record IsRefusedToActors {State : Type 0} {ghosts : Ghosts State} (saved : Saving State) (event : Event) (before : World State ghosts)
+    (why : EventWhy) : Type 0 where
   pub usual : (v : Seen) → ActorsStand (service_of before) (kept before) v → Premises (service_of before) v → refusal v event ≡ Some why
   pub marked : MarkedRefuses saved event before why
 
@@ -60,10 +65,11 @@ ActorsDecline saved event before after PacketLimit = ⊥
 -- bytes of this direction arrive at what keeps the log, and what it sends is stored
 pub record TellsLogger {State : Type 0} {ghosts : Ghosts State} (way : Way) (bytes : List ℕ) (before after : World State ghosts) : Type 0 where
   pub is : kept after ≡ with_logs (kept before) (after.logs, after.packets)
-  pub heard : HearsIn before.logs way bytes before.packets after.logs after.packets
+  pub heard : HearsIn (grammar_of (profile_of before.profile)) before.logs way bytes before.packets after.logs after.packets
 
 -- bytes reach the addressee of a packet that has this direction
-pub record Brings {State : Type 0} {ghosts : Ghosts State} (saved : Saving State) (way : Way) (bytes : List ℕ) (before after : World State ghosts) : Type 0 where
+pub record Brings {State : Type 0} {ghosts : Ghosts State} (saved : Saving State) (way : Way) (bytes : List ℕ)
+    (before after : World State ghosts) : Type 0 where
   pub continues : Continues before after
   pub one : (v : Seen) (packet : Packet) → WorldStands (service_of before) (kept before) v → Premises (service_of before) v
       → way ≡ way_along (kept before).keys (wire_of packet) → ComesAs v packet bytes
@@ -83,7 +89,8 @@ pub record Does {State : Type 0} {ghosts : Ghosts State} (saved : Saving State) 
   pub marked : MarkedDoes saved event before after
 
 -- an event is refused
-pub record IsRefused {State : Type 0} {ghosts : Ghosts State} (saved : Saving State) (event : Event) (before : World State ghosts) (why : EventWhy) : Type 0 where
+pub record IsRefused {State : Type 0} {ghosts : Ghosts State} (saved : Saving State) (event : Event) (before : World State ghosts)
+    (why : EventWhy) : Type 0 where
   pub one : (v : Seen) → WorldStands (service_of before) (kept before) v → Premises (service_of before) v → refusal v event ≡ Some why
   pub two : (v : TwinWorld) → TwinWorldStands (service_of before) (kept before) v → TwinPremises (service_of before) v
       → twin_refusal v event ≡ Some why

@@ -4,6 +4,8 @@ use Rattle.std.specs.Prelude.{◌≡◌, ℕ, None, Some, List, [], ◌++◌, ma
 use Rattle.std.specs.List.{AllByRecursion}
 use Rattle.ft_io.specs.declared.Key.{Key}
 use Rattle.server_trait.specs.Service.{Machine}
+use Rattle.seq_arith.specs.declared.kinds.Grammar.{Grammar}
+use Rattle.tcp_rules.specs.Profile.{grammar_of}
 use Rattle.ft_model.specs.Legal.{IsScripted}
 use Rattle.ft_model.specs.Network.{Packet}
 use Rattle.ft_model.specs.Wire.{wire_of}
@@ -34,13 +36,13 @@ stored_way keys (Outside packet) = way_along keys (wire_of packet)
 stored_way keys (Inside between) = way_of_between between
 
 -- parcels as the network stores them
-abbrev pub carried_parcels : List Key → List Parcel → Carried
-carried_parcels keys parcels = record { ways = map (stored_way keys) parcels; bytes = map bytes_of_parcel parcels }
+abbrev pub carried_parcels : Grammar → List Key → List Parcel → Carried
+carried_parcels grammar keys parcels = record { ways = map (stored_way keys) parcels; bytes = map (bytes_of_parcel grammar) parcels }
 
 -- each logger has the stored state of its counterpart in the definitions
-pub record LoggersStand (l : Loggers) (p : Pair) : Type 0 where
-  pub head : l.head ≡ kept_head p.head
-  pub tail : l.tail ≡ kept_tail p.tail
+pub record LoggersStand (grammar : Grammar) (l : Loggers) (p : Pair) : Type 0 where
+  pub head : l.head ≡ kept_head grammar p.head
+  pub tail : l.tail ≡ kept_tail grammar p.tail
 
 -- The code's world corresponds to a world of the definitions with two loggers: each parcel is stored as bytes, with its direction.
 pub record TwinWorldStands {State : Type 0} (service : Machine State) (w : Kept State) (v : TwinWorld) : Type 0 where
@@ -48,8 +50,8 @@ pub record TwinWorldStands {State : Type 0} (service : Machine State) (w : Kept 
   pub loggers : Loggers
   pub double : w.keepers ≡ Paired loggers
   pub log : w.log ≡ serving v.pair
-  pub pair : LoggersStand loggers v.pair
-  pub packets : w.packets ≡ carried_parcels w.keys v.parcels
+  pub pair : LoggersStand (grammar_of v.profile) loggers v.pair
+  pub packets : w.packets ≡ carried_parcels (grammar_of v.profile) w.keys v.parcels
 
 -- The world moves to a next one, with these parcels sent, and the code's world corresponds to that.
 pub record TwinGoesOn {State : Type 0} (service : Machine State) (Goes : List Parcel → TwinWorld → Type 0) (v : TwinWorld) (w : Kept State) : Type 0 where
@@ -73,16 +75,16 @@ pub record TwinPremises {State : Type 0} (service : Machine State) (v : TwinWorl
   pub packets : List Packet
   pub premises : Premises service (seen v packets)
   pub sent : (number : ℕ) (packet : Packet) → parcel_at v.parcels number ≡ Some (Outside packet) → WasSent (seen v packets) packet
-  pub written : AllByRecursion IsWritten v.parcels
+  pub written : AllByRecursion (IsWritten (grammar_of v.profile)) v.parcels
   pub paired : IsPaired v.pair
 
 -- these bytes reach the addressee of a parcel in place of the parcel's own
 abbrev pub ParcelComesAs : {State : Type 0} → Machine State → Parcel → List ℕ → TwinWorld → List Parcel → TwinWorld → Type 0
 ParcelComesAs service (Outside (To_logger message)) bytes before sent after =
-    LoggerHas before.pair.head_stopped (comes_from sides.Server bytes) before sent after
+    LoggerHas before.pair.head_stopped (comes_from (grammar_of before.profile) sides.Server bytes) before sent after
 ParcelComesAs service (Outside packet) bytes before sent after = Elsewhere (λ w. DeliveredAs service w packet bytes) before sent after
-ParcelComesAs service (Inside (Forward number request)) bytes before sent after = TailHas (comes_from sides.Other bytes) before sent after
-ParcelComesAs service (Inside (Got number)) bytes before sent after = HeadHas (comes_from sides.Other bytes) before sent after
+ParcelComesAs service (Inside (Forward number request)) bytes before sent after = TailHas (comes_from (grammar_of before.profile) sides.Other bytes) before sent after
+ParcelComesAs service (Inside (Got number)) bytes before sent after = HeadHas (comes_from (grammar_of before.profile) sides.Other bytes) before sent after
 
 -- what these bytes say may arrive at the addressee of a parcel; between the two loggers anything may arrive
 abbrev pub MayComeAs : Seen → Parcel → List ℕ → Type 0

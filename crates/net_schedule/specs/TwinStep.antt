@@ -16,6 +16,7 @@ use Rattle.schedule_network.specs.declared.step_out.StepOut.{StepOut}
 pub record TwinStandsAfter {State : Type 0} (services : ℕ → Machine State) (schedule : Schedule) (events : List Event) (trace : List TwinMoment)
     (w : Kept State) : Type 0 where
   pub kind : w.kind ≡ kind_of schedule.service
+  pub profile : w.profile ≡ schedule.profile
   pub legal : IsTwinLegalFor services schedule events trace
   pub stands : TwinWorldStands (services w.kind) w (twin_after (twin_start schedule) trace)
 

@@ -28,7 +28,7 @@ kept w = record {
 
 -- the services that it can run, by their kinds
 abbrev pub services_of : {State : Type 0} {ghosts : Ghosts State} → World State ghosts → ℕ → Machine State
-services_of {ghosts = ghosts} w = machines ghosts.started ghosts.after
+services_of {ghosts = ghosts} w = machines ghosts.started ghosts.after ghosts.greeting
 
 abbrev pub service_of : {State : Type 0} {ghosts : Ghosts State} → World State ghosts → Machine State
 service_of w = services_of w w.kind

@@ -36,9 +36,9 @@ pub fn lines_depend_on_keys()
 /// The world's keys are those of the schedule's clients, in order, whatever was done.
 pub fn keys_are_the_schedules<S: Service>()
     ensures one { (schedule : Schedule) (events : List Event) (trace : List Moment) (w : Kept S)
-        → StandsAfter (machines S.started S.after) schedule events trace w → w.keys ≡ map (λ line. line.key) schedule.clients }
+        → StandsAfter (machines S.started S.after S.greeting) schedule events trace w → w.keys ≡ map (λ line. line.key) schedule.clients }
     ensures two { (schedule : Schedule) (events : List Event) (trace : List TwinMoment) (w : Kept S)
-        → TwinStandsAfter (machines S.started S.after) schedule events trace w → w.keys ≡ map (λ line. line.key) schedule.clients }
+        → TwinStandsAfter (machines S.started S.after S.greeting) schedule events trace w → w.keys ≡ map (λ line. line.key) schedule.clients }
 {
     legal_traces_are_masked::<S>();
     flat_traces_show_all::<S>();
@@ -48,14 +48,14 @@ pub fn keys_are_the_schedules<S: Service>()
 /// The world stores the packets of its trace, each in its one spelling and with the direction that the report names.
 pub fn worlds_keep_what_was_sent<S: Service>()
     ensures all { (schedule : Schedule) (events : List Event) (trace : List Moment) (w : Kept S)
-        → StandsAfter (machines S.started S.after) schedule events trace w → KeepsAllSent schedule trace w.packets }
+        → StandsAfter (machines S.started S.after S.greeting) schedule events trace w → KeepsAllSent schedule trace w.packets }
     ensures each { (schedule : Schedule) (events : List Event) (trace : List Moment) (w : Kept S) (number : ℕ) (way : Way)
-        (bytes : List ℕ) → StandsAfter (machines S.started S.after) schedule events trace w → at_number w.packets.ways number ≡ Some way
+        (bytes : List ℕ) → StandsAfter (machines S.started S.after S.greeting) schedule events trace w → at_number w.packets.ways number ≡ Some way
         → at_number w.packets.bytes number ≡ Some bytes → WasSentAs schedule trace number way bytes }
     ensures twin_all { (schedule : Schedule) (events : List Event) (trace : List TwinMoment) (w : Kept S)
-        → TwinStandsAfter (machines S.started S.after) schedule events trace w → KeepsAllParcels schedule trace w.packets }
+        → TwinStandsAfter (machines S.started S.after S.greeting) schedule events trace w → KeepsAllParcels schedule trace w.packets }
     ensures twin_each { (schedule : Schedule) (events : List Event) (trace : List TwinMoment) (w : Kept S) (number : ℕ) (way : Way)
-        (bytes : List ℕ) → TwinStandsAfter (machines S.started S.after) schedule events trace w → at_number w.packets.ways number ≡ Some way
+        (bytes : List ℕ) → TwinStandsAfter (machines S.started S.after S.greeting) schedule events trace w → at_number w.packets.ways number ≡ Some way
         → at_number w.packets.bytes number ≡ Some bytes → ParcelSentAs schedule trace number way bytes }
 {
     packets_have_wires::<S>();
@@ -67,7 +67,8 @@ pub fn worlds_keep_what_was_sent<S: Service>()
 /// In a trace with marks, no two entries of the log have the same key.
 pub fn marked_logs_have_distinct_keys<S: Saved>()
     ensures { (kind every : ℕ) (start : MarkedWorld) (trace : List MarkedMoment)
-        → MarkedJoint (markers (machines S.started S.after) S.form S.state_of every kind) start trace → HasDistinctKeys (marked_after start trace).log }
+        → MarkedJoint (markers (machines S.started S.after S.greeting) S.form S.state_of every kind) start trace
+        → HasDistinctKeys (marked_after start trace).log }
 {
     marks_stay_true::<S>();
     marks_that_go_out_are_true::<S>();
@@ -77,12 +78,13 @@ pub fn marked_logs_have_distinct_keys<S: Saved>()
 /// marks), each in its one spelling and with its direction. The service is one that can be saved: with any other, no schedule is played with marks.
 pub fn marked_worlds_keep_what_was_sent<S: Saved>()
     ensures keys { (every : ℕ) (schedule : Schedule) (events : List Event) (trace : List MarkedMoment) (w : Kept S)
-        → MarkedStandsAfter (markers (machines S.started S.after) S.form S.state_of every) schedule events trace w
+        → MarkedStandsAfter (markers (machines S.started S.after S.greeting) S.form S.state_of every) schedule events trace w
         → w.keys ≡ map (λ line. line.key) schedule.clients }
     ensures all { S.is_savable ≡ true → (every : ℕ) (schedule : Schedule) (events : List Event) (trace : List MarkedMoment) (w : Kept S)
-        → MarkedStandsAfter (markers (machines S.started S.after) S.form S.state_of every) schedule events trace w → KeepsAllMarked schedule trace w.packets }
+        → MarkedStandsAfter (markers (machines S.started S.after S.greeting) S.form S.state_of every) schedule events trace w
+        → KeepsAllMarked schedule trace w.packets }
     ensures each { S.is_savable ≡ true → (every : ℕ) (schedule : Schedule) (events : List Event) (trace : List MarkedMoment) (w : Kept S) (number : ℕ)
-        (way : Way) (bytes : List ℕ) → MarkedStandsAfter (markers (machines S.started S.after) S.form S.state_of every) schedule events trace w
+        (way : Way) (bytes : List ℕ) → MarkedStandsAfter (markers (machines S.started S.after S.greeting) S.form S.state_of every) schedule events trace w
         → at_number w.packets.ways number ≡ Some way → at_number w.packets.bytes number ≡ Some bytes → MarkedSentAs schedule trace number way bytes }
 {
     marked_parcels_are_written::<S>();

@@ -13,7 +13,7 @@ use limits::PACKET;
 use logger_store::LogStore;
 use peer_client::Client;
 use schedule_network::{Logs, Packets, StepEnd, StepOut, keys_of, new_clients};
-use seq_arith::flip;
+use seq_arith::{Grammar, flip};
 use server_node::{Input, Node, TurnEnd};
 use server_trait::{Saved, Service};
 use std::alloc::Global;
@@ -95,6 +95,8 @@ impl<S: Saved> World<S> {
     ghost use Rattle.ft_model.specs.World.{client_at};
     ghost use Rattle.ft_model.specs.declared.event.Event.TheVariants.{Boot, Crash, Tick, Deliver, Flip, Stop};
     ghost use Rattle.server_node.specs.Inputs.{input_of};
+    ghost use Rattle.tcp_rules.specs.Profile.{grammar_of};
+    ghost use Rattle.tcp_rules.specs.Profiles.{profile_of};
     ghost use Rattle.net_schedule.specs.Delivery.{delivered_to};
     ghost use Rattle.net_schedule.specs.Refinement.{KeepsAtRefusal};
     ghost use Rattle.net_schedule.specs.Step.{StandsAfter};
@@ -105,12 +107,15 @@ impl<S: Saved> World<S> {
     ghost use Rattle.net_schedule.specs.MarkedStep.{MarkedStandsAfter};
     ghost use Rattle.server_node.specs.MarkedTurns.{marked_input_of};
 
-    /// Creates the world in which a schedule starts: nothing was sent, nothing is logged, and the server is down. Each of its boots has the schedule's profile.
+    /// Creates the world in which a schedule starts whose server doesn't last: nothing was sent, nothing is logged, and the server is down. Each of its boots
+    /// has the schedule's profile.
     pub fn new(alloc: Global, schedule: &Schedule) -> Result<World<S>, NoMemory>
         requires playable { IsPlayable schedule.now }
+        requires fleeting { schedule.now.lasting ≡ None }
         requires few { length schedule.now.clients ≤ 16 }
         ensures one { IfOk result (λ w. schedule.now.twin ≡ false → schedule.now.marks ≡ None → StandsAfter (services_of w) schedule.now [] [] (kept w)) }
-        ensures unmarked { IfOk result (λ w. schedule.now.twin ≡ false → every_in S.is_savable schedule.now ≡ 0 → StandsAfter (services_of w) schedule.now [] [] (kept w)) }
+        ensures unmarked { IfOk result (λ w. schedule.now.twin ≡ false → every_in S.is_savable schedule.now ≡ 0
+            → StandsAfter (services_of w) schedule.now [] [] (kept w)) }
         ensures two { IfOk result (λ w. schedule.now.twin ≡ true → TwinStandsAfter (services_of w) schedule.now [] [] (kept w)) }
         ensures marked { IfOk result (λ w. (every : ℕ) → S.is_savable ≡ true → schedule.now.twin ≡ false → schedule.now.marks ≡ Some every → 0 < every
             → MarkedStandsAfter (marker_for (saving S.form S.state_of S.is_savable) (services_of w) every) schedule.now [] [] (kept w)) }
@@ -123,7 +128,7 @@ impl<S: Saved> World<S> {
             profile: schedule.profile,
             keys: keys_of(alloc, lines)?,
             clients: new_clients(alloc, schedule.server, lines)?,
-            logs: Logs::new(alloc, schedule.twin, every > 0)?,
+            logs: Logs::new(alloc, schedule.profile.grammar(), schedule.twin, every > 0)?,
             packets: Packets::new(alloc),
             every,
             boot: 0,
@@ -162,6 +167,13 @@ impl<S: Saved> World<S> {
         ensures { result.now ≡ (kept self.now).log }
     {
         self.logs.log()
+    }
+
+    /// Returns how the messages between server and log are written.
+    pub fn grammar(&self) -> Grammar
+        ensures { result ≡ grammar_of (profile_of self.now.profile) }
+    {
+        self.profile.grammar()
     }
 
     /// Returns the server, or `None` while it is down.
@@ -215,7 +227,8 @@ impl<S: Saved> World<S> {
 
     /// Gives the server its turn on an input, if it is up. A fenced server stops; no server of a legal trace is fenced.
     fn serve(&mut self, alloc: Global, input: Input<'_>) -> Result<(), NoMemory>
-        ensures { OnOk result (Serves (saving S.form S.state_of S.is_savable) (input_of input.entry) (marked_input_of input.entry) self.old self.new) }
+        ensures { OnOk result (Serves (saving S.form S.state_of S.is_savable) (input_of (grammar_of (profile_of self.old.profile)) input.entry)
+            (marked_input_of (grammar_of (profile_of self.old.profile)) input.entry) self.old self.new) }
     {
         let Some(node) = &mut self.node else {
             return Ok(());
@@ -243,7 +256,7 @@ impl<S: Saved> World<S> {
     }
 
     /// Delivers bytes to the client with this number, if there is one.
-    fn tell_client(&mut self, alloc: Global, number: u8, bytes: &[u8]) -> Result<(), NoMemory>
+    fn deliver_to_client(&mut self, alloc: Global, number: u8, bytes: &[u8]) -> Result<(), NoMemory>
         ensures { OnOk result (kept self.new ≡ record (kept self.old) { clients = delivered_to number bytes.now self.old.clients.items }) }
     {
         if number == 0 {
@@ -258,10 +271,10 @@ impl<S: Saved> World<S> {
     }
 
     /// Passes bytes of this direction to a logger, and stores what it sends.
-    fn tell_logger(&mut self, alloc: Global, way: Way, bytes: &[u8]) -> Result<(), NoMemory>
+    fn deliver_to_logger(&mut self, alloc: Global, way: Way, bytes: &[u8]) -> Result<(), NoMemory>
         ensures { OnOk result (TellsLogger way bytes.now self.old self.new) }
     {
-        self.logs.hear(alloc, way, bytes, &mut self.packets)
+        self.logs.receive(alloc, self.profile.grammar(), way, bytes, &mut self.packets)
     }
 
     /// Passes bytes to the addressee of a packet with this direction.
@@ -269,12 +282,12 @@ impl<S: Saved> World<S> {
         ensures { OnOk result (Brings (saving S.form S.state_of S.is_savable) way bytes.now self.old self.new) }
     {
         match way {
-            Way::ServerToClient(number) => self.tell_client(alloc, number, bytes),
+            Way::ServerToClient(number) => self.deliver_to_client(alloc, number, bytes),
             Way::ClientToServer(_) => self.serve(alloc, Input::Packet(bytes)),
             Way::LoggerToServer => self.serve(alloc, Input::Message(bytes)),
-            Way::ServerToLogger => self.tell_logger(alloc, Way::ServerToLogger, bytes),
-            Way::HeadToTail => self.tell_logger(alloc, Way::HeadToTail, bytes),
-            Way::TailToHead => self.tell_logger(alloc, Way::TailToHead, bytes),
+            Way::ServerToLogger => self.deliver_to_logger(alloc, Way::ServerToLogger, bytes),
+            Way::HeadToTail => self.deliver_to_logger(alloc, Way::HeadToTail, bytes),
+            Way::TailToHead => self.deliver_to_logger(alloc, Way::TailToHead, bytes),
         }
     }
 

@@ -5,6 +5,7 @@ use Rattle.std.specs.List.{AllByRecursion}
 use Rattle.net_schedule.specs.Refinement.{Kept}
 use Rattle.net_schedule.specs.Step.{Steps}
 use Rattle.schedule_network.specs.declared.step_out.StepOut.{StepOut}
+use Rattle.server_trait.specs.Service.{no_greeting}
 use Rattle.ft_model.specs.Client.{Client}
 use Rattle.ft_model.specs.Growth.{logged_lengths}
 use Rattle.ft_model.specs.Legal.{machines, start_of}
@@ -41,12 +42,12 @@ all_see law schedule events w played =
 -- a step plays one event more
 pub plays_next : (schedule : Schedule) (items : List Event) (i : ℕ) (d : Event) (w after : Kept Counter) (answer : StepOut)
     → items ≡ schedule.events → i < length items → (played : IsPlayed schedule (take i schedule.events) w)
-    → Steps (machines (λ _. counter_started) counter_after) schedule (take i schedule.events) played.trace (get_or items i d) answer after
+    → Steps (machines (λ _. counter_started) counter_after no_greeting) schedule (take i schedule.events) played.trace (get_or items i d) answer after
     → IsPlayed schedule (take (i + 1) schedule.events) after
 plays_next schedule items i d w after answer same within played steps =
-    let next : Steps (machines (λ _. counter_started) counter_after) schedule (take i schedule.events) played.trace (get_or schedule.events i d)
+    let next : Steps (machines (λ _. counter_started) counter_after no_greeting) schedule (take i schedule.events) played.trace (get_or schedule.events i d)
     answer after =
-    subst (λ es. Steps (machines (λ _. counter_started) counter_after) schedule (take i schedule.events) played.trace (get_or es i d) answer after)
+    subst (λ es. Steps (machines (λ _. counter_started) counter_after no_greeting) schedule (take i schedule.events) played.trace (get_or es i d) answer after)
     same steps in
     subst (λ es. IsPlayed schedule es after) (sym (take_more schedule.events i d (subst (λ es. i < length es) same within)))
     (record { trace = next.extends.moment ∷ played.trace; stands = next.extends.stands })

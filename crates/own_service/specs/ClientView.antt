@@ -1,5 +1,6 @@
 -- What clients of Counter see in the world of a schedule.
 use Rattle.std.specs.Prelude.{List}
+use Rattle.server_trait.specs.Service.{no_greeting}
 use Rattle.ft_model.specs.Client.{Client}
 use Rattle.ft_model.specs.Growth.{IsPrefix}
 use Rattle.ft_model.specs.Legal.{machines}
@@ -18,4 +19,4 @@ SeesAnswers client = IsPrefix client.accepted (answers 0 client.script)
 -- the world is at the end of a legal trace of these events of a schedule, whose server runs Counter
 pub record IsPlayed (schedule : Schedule) (events : List Event) (w : Kept Counter) : Type 0 where
   pub trace : List Moment
-  pub stands : StandsAfter (machines (λ _. counter_started) counter_after) schedule events trace w
+  pub stands : StandsAfter (machines (λ _. counter_started) counter_after no_greeting) schedule events trace w

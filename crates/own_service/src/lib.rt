@@ -1,5 +1,5 @@
-//! A service of your own in the world of a schedule: `run` plays a schedule with its crashes, and writes what each client has accepted, next to what a server that
-//! never failed would have answered.
+//! A service of your own in the world of a schedule: `run` plays a schedule with its crashes, and writes what each client has accepted, next to what a server
+//! that never failed would have answered.
 #![tactic(auto)]
 
 ghost use Rattle.std.specs.Prelude.{◌≡◌, ◌≤◌, [], length, IfOk, IfSome, OnOk};
@@ -47,12 +47,12 @@ pub fn run(alloc: Global, text: &[u8], lines: &mut String) -> Result<(), End> {
     }
 }
 
-/// Plays a schedule with one logger in a world of its own.
+/// Plays a schedule with one logger, without marks, whose server doesn't last, in a world of its own.
 fn play_schedule(alloc: Global, schedule: &Schedule, lines: &mut String) -> Result<(), End>
     requires playable { IsPlayable schedule.now }
     requires few { length schedule.now.clients ≤ 16 }
 {
-    if schedule.twin || schedule.marks.is_some() {
+    if schedule.twin || schedule.marks.is_some() || schedule.lasting.is_some() {
         return Err(End::NotPlayed);
     }
     match World::new(alloc, schedule) {
@@ -73,7 +73,7 @@ fn play_in(
     if play(alloc, schedule, world).is_err() {
         return Err(End::NotPlayed);
     }
-    match tell(alloc, schedule, world, lines) {
+    match write_clients(alloc, schedule, world, lines) {
         Ok(()) => Ok(()),
         Err(NoMemory) => Err(End::NoMemory),
     }
@@ -84,6 +84,7 @@ fn read(alloc: Global, text: &[u8]) -> Option<Schedule>
     ensures playable { IfSome result IsPlayable }
     ensures few { IfSome result (λ schedule. length schedule.clients ≤ 16) }
 {
+    // Theorems for the proof. They do nothing when they are called.
     accepted_schedules_can_be_played();
     accepted_schedules_keep_the_limits();
     match read_schedule(alloc, text) {
@@ -99,6 +100,7 @@ pub fn play(alloc: Global, schedule: &Schedule, world: &mut World<Counter>) -> R
     ensures played { OnOk result (IsPlayed schedule.now schedule.now.events (kept world.new)) }
     ensures seen { OnOk result (AllByRecursion SeesAnswers (kept world.new).clients) }
 {
+    // A theorem for the proof. It does nothing when it is called.
     clients_see_an_unfailing_server::<Counter>();
     for event in schedule.events.as_slice() {
         world.step(alloc, event)?;
@@ -122,7 +124,7 @@ fn unfailing(alloc: Global, script: &[u8]) -> Result<Vec<u8>, NoMemory>
 }
 
 /// Writes what a client has accepted, and below it the answers to its script without a crash.
-fn tell_client(
+fn write_client(
     alloc: Global,
     n: u8,
     accepted: &[u8],
@@ -138,7 +140,7 @@ fn tell_client(
 }
 
 /// Writes two lines for each client whose script is given as bytes.
-fn tell(
+fn write_clients(
     alloc: Global,
     schedule: &Schedule,
     world: &World<Counter>,
@@ -146,7 +148,7 @@ fn tell(
 ) -> Result<(), NoMemory> {
     for (n, line) in (1..=16).zip(schedule.clients.as_slice()) {
         if let (Some(client), Script::Bytes(script)) = (world.client(n), &line.script) {
-            tell_client(alloc, n, client.accepted(), script.as_slice(), lines)?;
+            write_client(alloc, n, client.accepted(), script.as_slice(), lines)?;
         }
     }
     Ok(())

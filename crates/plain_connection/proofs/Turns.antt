@@ -44,7 +44,7 @@ unfolding sent_after sent_at_once timing_after interval_after rest_after must_ru
 live_turn service server boot news p reads live makes =
     let after : Point = point_after service news p reads in
     record {
-      same = record { key = refl; cisn = refl; sisn = refl; mss = refl; fetched = refl; fetched_output = refl; delays = refl };
+      same = record { key = refl; cisn = refl; sisn = refl; mss = refl; fetched = refl; fetched_output = refl; delays = refl; batches = refl };
       taken = refl;
       fin = refl;
       early = refl;

@@ -1,5 +1,5 @@
 -- What a service has made of its reads: the run, and the end of its output after each number of reads.
-use Rattle.std.specs.Prelude.{ℕ, false, List, [], ◌∷◌, ◌++◌, length}
+use Rattle.std.specs.Prelude.{ℕ, List, [], ◌∷◌, ◌++◌, length}
 use Rattle.server_trait.specs.Service.{Machine, Run, begun, fed, cut}
 use Rattle.plain_connection.specs.declared.made_output.End.{End}
 
@@ -11,7 +11,7 @@ abbrev pub end_of : {State : Type 0} → Run State → End
 end_of run = record { output = length run.output; closed = run.closed }
 
 abbrev pub nothing_made : {State : Type 0} → Machine State → Made State
-nothing_made service = record { run = begun service; ends = record { output = 0; closed = false } ∷ [] }
+nothing_made service = record { run = begun service; ends = end_of (begun service) ∷ [] }
 
 -- after one more read, of this chunk
 abbrev pub after_read : {State : Type 0} → Machine State → Made State → List ℕ → Made State

@@ -31,7 +31,8 @@ resent_since service server before p =
 unfoldable pub full_segments_since : {State : Type 0} → Machine State → Addr → Before → Point → List Segment
 full_segments_since service server before p =
     syn_acks_since server before p
-    ++ (resent_since service server before p ++ (new_texts service server (having_sent before.sent p) p ++ new_fin service server (having_sent before.sent p) p))
+    ++ (resent_since service server before p ++ (new_texts service server (having_sent before.sent p) p
+    ++ new_fin service server (having_sent before.sent p) p))
 
 -- the ACK of what is taken waits for the log: nothing is held after a gap, and the ACK would repeat the last acknowledgement and the last window
 abbrev pub is_delayed_since : Before → Point → Bool

@@ -15,7 +15,8 @@ use Rattle.plain_packets.specs.Sent.{Appends}
 use Rattle.plain_point.specs.Turn.{timing_since}
 
 -- the turn is lawful, and what it sends is appended to the packets from before
-pub record TakesTurn {State : Type 0} (service : Machine State) (server : Addr) (boot : ℕ) (news : News) (before after : Point) (old new : List Wire) : Type 0 where
+pub record TakesTurn {State : Type 0} (service : Machine State) (server : Addr) (boot : ℕ) (news : News) (before after : Point)
+    (old new : List Wire) : Type 0 where
   pub sent : List Packet
   pub lawful : ConnectionTurn service server boot news before after sent
   pub packets : Appends old new sent

@@ -65,16 +65,16 @@ impl<S: Service> PlainConnection<S> {
 
     /// Returns whether the connection is over: the client's FIN is taken, and the server's is acknowledged.
     pub fn is_over(&self) -> bool
-        requires { IsServed (machine (S.started self.now.kind) S.after) self.now }
-        ensures { result ≡ over_lem (machine (S.started self.now.kind) S.after) self.now.point }
+        requires { IsServed (machine (S.started self.now.kind) S.after S.greeting) self.now }
+        ensures { result ≡ over_lem (machine (S.started self.now.kind) S.after S.greeting) self.now.point }
     {
         self.point.fin() && self.released() < self.point.una()
     }
 
     /// Returns whether the news requires a segment.
     fn asks(&self, news: &News<'_>) -> bool
-        requires { IsServed (machine (S.started self.now.kind) S.after) self.now }
-        ensures { result ≡ asks_lem (machine (S.started self.now.kind) S.after) (news_in news.now) self.now.point }
+        requires { IsServed (machine (S.started self.now.kind) S.after S.greeting) self.now }
+        ensures { result ≡ asks_lem (machine (S.started self.now.kind) S.after S.greeting) (news_in news.now) self.now.point }
     {
         match news {
             News::Segment(segment) => {
@@ -131,8 +131,8 @@ impl<S: Service> PlainConnection<S> {
 
     /// Returns what a turn with this news compares with the connection before it, which is this one.
     pub(crate) fn before(&self, news: &News<'_>) -> Before
-        requires { IsServed (machine (S.started self.now.kind) S.after) self.now }
-        ensures value { IsBefore (machine (S.started self.now.kind) S.after) (news_in news.now) self.now.point result }
+        requires { IsServed (machine (S.started self.now.kind) S.after S.greeting) self.now }
+        ensures value { IsBefore (machine (S.started self.now.kind) S.after S.greeting) (news_in news.now) self.now.point result }
         ensures within { result.taken ≤ 2 ^ 63 }
     {
         Before {

@@ -41,8 +41,8 @@ impl<S: Service> PlainConnection<S> {
     /// Returns how far the output of the answered reads extends, and whether the service has closed by then.
     #[tactic(auto, using(crate::proofs::Served::answered))]
     pub fn answered_end(&self) -> End
-        requires { IsServed (machine (S.started self.now.kind) S.after) self.now }
-        ensures { result ≡ end_of (answered_run (machine (S.started self.now.kind) S.after) self.now.point) }
+        requires { IsServed (machine (S.started self.now.kind) S.after S.greeting) self.now }
+        ensures { result ≡ end_of (answered_run (machine (S.started self.now.kind) S.after S.greeting) self.now.point) }
     {
         let Some(end) = self.made.end(self.point.reads_answered()) else {
             unreachable!()
@@ -52,8 +52,8 @@ impl<S: Service> PlainConnection<S> {
 
     /// Returns how many bytes of output may be sent: those of the answered reads.
     pub fn released(&self) -> u64
-        requires { IsServed (machine (S.started self.now.kind) S.after) self.now }
-        ensures { result ≡ released_lem (machine (S.started self.now.kind) S.after) self.now.point }
+        requires { IsServed (machine (S.started self.now.kind) S.after S.greeting) self.now }
+        ensures { result ≡ released_lem (machine (S.started self.now.kind) S.after S.greeting) self.now.point }
     {
         self.answered_end().output
     }
@@ -61,8 +61,8 @@ impl<S: Service> PlainConnection<S> {
     /// Returns the output that may be sent.
     #[tactic(auto, using(crate::proofs::Served::released_output))]
     pub fn output(&self) -> &[u8]
-        requires { IsServed (machine (S.started self.now.kind) S.after) self.now }
-        ensures { result.now ≡ (answered_run (machine (S.started self.now.kind) S.after) self.now.point).output }
+        requires { IsServed (machine (S.started self.now.kind) S.after S.greeting) self.now }
+        ensures { result.now ≡ (answered_run (machine (S.started self.now.kind) S.after S.greeting) self.now.point).output }
     {
         part(self.made.output(), 0, self.released())
     }
@@ -70,8 +70,8 @@ impl<S: Service> PlainConnection<S> {
     /// Returns how many bytes of output all reads make.
     #[tactic(auto, using(crate::proofs::Served::whole_output))]
     pub fn made(&self) -> u64
-        requires { IsServed (machine (S.started self.now.kind) S.after) self.now }
-        ensures { result ≡ made_lem (machine (S.started self.now.kind) S.after) self.now.point }
+        requires { IsServed (machine (S.started self.now.kind) S.after S.greeting) self.now }
+        ensures { result ≡ made_lem (machine (S.started self.now.kind) S.after S.greeting) self.now.point }
     {
         self.made.output().len() as u64
     }
@@ -79,9 +79,9 @@ impl<S: Service> PlainConnection<S> {
     /// Returns how many units of output all reads make: the bytes, and the FIN after them if the reads close the service.
     #[tactic(auto, using(crate::proofs::Served::whole_units))]
     pub(crate) fn made_units(&self) -> u64
-        requires { IsServed (machine (S.started self.now.kind) S.after) self.now }
-        ensures { result ≡ made_lem (machine (S.started self.now.kind) S.after) self.now.point
-            + one_if (whole_run (machine (S.started self.now.kind) S.after) self.now.point).closed }
+        requires { IsServed (machine (S.started self.now.kind) S.after S.greeting) self.now }
+        ensures { result ≡ made_lem (machine (S.started self.now.kind) S.after S.greeting) self.now.point
+            + one_if (whole_run (machine (S.started self.now.kind) S.after S.greeting) self.now.point).closed }
     {
         self.made.units()
     }

@@ -13,8 +13,8 @@ use server_trait::Service;
 /// The timer after a turn, and the test for one more read, are the model's.
 pub fn plain_turns_are_the_models<S: Service>()
     ensures interval { (news : News) (before after : Point) → interval_after news before after ≡ interval_since (is_tick news) (timer_of before) after }
-    ensures rest { (kind : ℕ) (news : News) (before after : Point) → rest_after (machine (S.started kind) S.after) news before after
-        ≡ rest_since (must_run (machine (S.started kind) S.after) after) (is_tick news) (timer_of before) after }
-    ensures reads { (kind : ℕ) (p : Point) → may_read (machine (S.started kind) S.after) p
-        ≡ may_read_at (made (machine (S.started kind) S.after) p) (released (machine (S.started kind) S.after) p) p }
+    ensures rest { (kind : ℕ) (news : News) (before after : Point) → rest_after (machine (S.started kind) S.after S.greeting) news before after
+        ≡ rest_since (must_run (machine (S.started kind) S.after S.greeting) after) (is_tick news) (timer_of before) after }
+    ensures reads { (kind : ℕ) (p : Point) → may_read (machine (S.started kind) S.after S.greeting) p
+        ≡ may_read_at (made (machine (S.started kind) S.after S.greeting) p) (released (machine (S.started kind) S.after S.greeting) p) p }
 {}

@@ -2,7 +2,7 @@
 //! sent: one whose offset, acknowledged units or read index is past its field's range.
 
 ghost use Rattle.limits.specs.Limits.{largest_segment};
-ghost use Rattle.std.specs.Prelude.{◌≡◌, ◌≤◌, ◌+◌, ◌^◌, ◌||◌, nat_lt, [], ◌∷◌, length, map, drop, OnOk};
+ghost use Rattle.std.specs.Prelude.{◌≡◌, ◌≤◌, ◌+◌, ◌^◌, ◌&&◌, ◌||◌, nat_lt, Bool, [], ◌∷◌, length, map, drop, OnOk};
 ghost use Rattle.server_trait.specs.Service.{machine};
 ghost use Rattle.seq_arith.specs.Message.Body.{DataMsg, ReadMsg, DoneMsg};
 ghost use Rattle.ft_model.specs.Connection.{told_by};
@@ -13,7 +13,7 @@ ghost use Rattle.plain_point.specs.Values.{data_in};
 ghost use Rattle.plain_packets.specs.Sent.{Appends};
 ghost use Rattle.plain_connection.specs.News.{news_in};
 ghost use Rattle.plain_connection.specs.Before.{IsBefore};
-ghost use Rattle.plain_connection.specs.Copying.{datas_of};
+ghost use Rattle.plain_connection.specs.Copying.{batched, datas_of, followed};
 
 use crate::before::Before;
 use crate::connection::PlainConnection;
@@ -27,15 +27,17 @@ use segment_codec::PacketRef;
 use server_trait::Service;
 use std::alloc::Global;
 
-/// Sends a part of the client's stream. After `NoMemory` the packets may only be dropped.
+/// Sends a part of the client's stream. `more` says that a later part of the turn is answered in place of this one. After `NoMemory` the packets may only be
+/// dropped.
 #[tactic(auto, using(crate::proofs::Spelled::far_data, crate::proofs::Spelled::high_data))]
 fn send_data(
     alloc: Global,
     boot: u64,
     part: &Data<'_>,
+    more: bool,
     sent: &mut PlainPackets,
 ) -> Result<(), NoMemory>
-    ensures { OnOk result (Appends sent.old sent.new (told_by boot (DataMsg (data_in part.now)) ∷ [])) }
+    ensures { OnOk result (Appends sent.old sent.new (told_by boot (DataMsg (followed more (data_in part.now))) ∷ [])) }
 {
     if part.offset > u64::from(STREAM) || part.acked > u64::from(UNITS) {
         return Ok(());
@@ -44,7 +46,8 @@ fn send_data(
         key: part.key,
         offset: part.offset as u32,
         acked: part.acked as u32,
-        fin: part.fin,
+        fin: !more && part.fin,
+        more,
         bytes: part.bytes,
     });
     sent.send_to_logger(alloc, &Msg { boot, body })
@@ -57,6 +60,13 @@ fn has_any(part: &Data<'_>) -> bool
     !part.bytes.is_empty() || part.fin
 }
 
+/// Returns whether the part before this one is answered by it: this one has text or the FIN, and the turn's Data are a batch.
+fn follows(part: &Data<'_>, batches: bool) -> bool
+    ensures { result ≡ ((nat_lt 0 (length part.now.bytes.now) || part.now.fin) && batches) }
+{
+    has_any(part) && batches
+}
+
 /// Sends the last part of a text, at most 1,460 bytes, if it has text or the FIN. After `NoMemory` the packets may only be dropped.
 #[tactic(auto, using(crate::proofs::Copies::last_sent, crate::proofs::Copies::none_sent))]
 fn send_last(
@@ -66,25 +76,27 @@ fn send_last(
     sent: &mut PlainPackets,
 ) -> Result<(), NoMemory>
     requires { length part.now.bytes.now ≤ largest_segment }
-    ensures { OnOk result (Appends sent.old sent.new (map (told_by boot) (datas_of (data_in part.now)))) }
+    ensures { (batches : Bool) → OnOk result (Appends sent.old sent.new (map (told_by boot) (batched batches (datas_of (data_in part.now))))) }
 {
     if has_any(part) {
-        send_data(alloc, boot, part, sent)
+        send_data(alloc, boot, part, false, sent)
     } else {
         Ok(())
     }
 }
 
-/// Sends a part of the client's stream, in messages of 1,460 bytes each except the last, which has the FIN. After `NoMemory` the packets may only be dropped.
+/// Sends a part of the client's stream, in messages of 1,460 bytes each except the last, which has the FIN. In a batch only the last is answered. After
+/// `NoMemory` the packets may only be dropped.
 #[tactic(auto, using(crate::proofs::Telling::telling_begins))]
 fn send_datas(
     alloc: Global,
     boot: u64,
     part: &Data<'_>,
+    batches: bool,
     sent: &mut PlainPackets,
 ) -> Result<(), NoMemory>
     requires { part.now.offset + length part.now.bytes.now ≤ 2 ^ 63 }
-    ensures { OnOk result (Appends sent.old sent.new (map (told_by boot) (datas_of (data_in part.now)))) }
+    ensures { OnOk result (Appends sent.old sent.new (map (told_by boot) (batched batches (datas_of (data_in part.now))))) }
 {
     let mut rest = *part;
     while rest.bytes.len() > TEXT {
@@ -94,7 +106,7 @@ fn send_datas(
             bytes,
             ..rest
         };
-        send_data(alloc, boot, &full, sent)?;
+        send_data(alloc, boot, &full, batches, sent)?;
         rest = Data {
             offset: rest.offset + TEXT as u64,
             bytes: behind,
@@ -151,8 +163,9 @@ impl<S: Service> PlainConnection<S> {
     ghost use Rattle.ft_model.specs.Reads.{first_told, reads_told};
     ghost use Rattle.ft_model.specs.ResetAndEnd.{dones, tells_done};
 
-    /// Sends what is copied because of a segment, given the connection after the turn: the segment's own part, then what was held. Each message reports
-    /// SND.UNA. If there is no part, and SND.UNA rose, one message reports it alone. After `NoMemory` the packets may only be dropped.
+    /// Sends what is copied because of a segment, given the connection after the turn: the segment's own part, then what was held, as a batch if the log
+    /// answers only the last Data of a turn. Each message reports SND.UNA. If there is no part, and SND.UNA rose, one message reports it alone. After
+    /// `NoMemory` the packets may only be dropped.
     fn send_copied(
         &self,
         alloc: Global,
@@ -165,18 +178,20 @@ impl<S: Service> PlainConnection<S> {
         ensures { (p : Point) → before.now.taken ≡ length p.taken → before.now.fin ≡ p.fin → before.now.una ≡ p.una
             → OnOk result (Appends sent.old sent.new (map (told_by boot) (copies (Comes (segment_of segment.now)) p self.now.point))) }
     {
+        let batches = self.point.batches();
         let further = self.point.further_data(before.taken, before.fin, segment);
         match self.point.own_data(segment) {
             Some(own) => {
-                send_data(alloc, boot, &own, sent)?;
-                send_datas(alloc, boot, &further, sent)
+                let more = follows(&further, batches);
+                send_data(alloc, boot, &own, more, sent)?;
+                send_datas(alloc, boot, &further, batches, sent)
             }
             None => {
                 if has_any(&further) {
-                    return send_datas(alloc, boot, &further, sent);
+                    return send_datas(alloc, boot, &further, batches, sent);
                 }
                 if before.una < self.point.una() {
-                    return send_data(alloc, boot, &self.point.una_data(), sent);
+                    return send_data(alloc, boot, &self.point.una_data(), false, sent);
                 }
                 Ok(())
             }
@@ -194,7 +209,7 @@ impl<S: Service> PlainConnection<S> {
         sent: &mut PlainPackets,
     ) -> Result<(), NoMemory>
         requires { before.now.taken ≤ 2 ^ 63 }
-        ensures { (p : Point) → IsBefore (machine (S.started self.now.kind) S.after) (news_in news.now) p before.now
+        ensures { (p : Point) → IsBefore (machine (S.started self.now.kind) S.after S.greeting) (news_in news.now) p before.now
             → OnOk result (Appends sent.old sent.new (map (told_by boot) (copies (news_in news.now) p self.now.point))) }
     {
         match news {
@@ -205,7 +220,7 @@ impl<S: Service> PlainConnection<S> {
 
     /// Returns the first read whose length is sent: a new one, or at a tick the first unanswered one.
     pub(crate) fn first_told(&self, news: &News<'_>, before: &Before) -> usize
-        ensures { (p : Point) → IsBefore (machine (S.started self.now.kind) S.after) (news_in news.now) p before.now
+        ensures { (p : Point) → IsBefore (machine (S.started self.now.kind) S.after S.greeting) (news_in news.now) p before.now
             → result ≡ first_told (news_in news.now) p self.now.point }
     {
         match news {
@@ -224,7 +239,7 @@ impl<S: Service> PlainConnection<S> {
         before: &Before,
         sent: &mut PlainPackets,
     ) -> Result<(), NoMemory>
-        ensures { (p : Point) → IsBefore (machine (S.started self.now.kind) S.after) (news_in news.now) p before.now
+        ensures { (p : Point) → IsBefore (machine (S.started self.now.kind) S.after S.greeting) (news_in news.now) p before.now
             → OnOk result (Appends sent.old sent.new (map (told_by boot) (reads_told (news_in news.now) p self.now.point))) }
     {
         let first = self.first_told(news, before);

@@ -18,7 +18,7 @@ pub struct End {
     pub closed: bool,
 }
 
-/// A service with its output, and with the end after each number of reads, beginning with none.
+/// A service with its output, and with the end after each number of reads, beginning with none, where the output is the greeting.
 #[derive(Drop)]
 pub struct Made<S: Service> {
     service: S,
@@ -36,18 +36,21 @@ impl<S: Service> Model for Made<S> {
 }
 
 impl<S: Service> Made<S> {
-    /// Creates a service of this kind that has read nothing.
+    /// Creates a service of this kind that has read nothing, and has written its greeting.
     pub fn new(alloc: Global, kind: u8) -> Result<Made<S>, NoMemory>
-        ensures { IfOk result (λ m. m ≡ nothing_made (machine (S.started kind) S.after)) }
+        ensures { IfOk result (λ m. m ≡ nothing_made (machine (S.started kind) S.after S.greeting)) }
     {
+        let service = S::fresh(alloc, kind);
+        let mut output = Vec::new(alloc);
+        output.extend_from_slice(service.greeting())?;
         let mut ends = Vec::new(alloc);
         ends.push(End {
-            output: 0,
+            output: output.len() as u64,
             closed: false,
         })?;
         Ok(Made {
-            service: S::fresh(alloc, kind),
-            output: Vec::new(alloc),
+            service,
+            output,
             closed: false,
             ends,
         })
@@ -56,7 +59,7 @@ impl<S: Service> Made<S> {
     /// Makes one more read. A service that has closed adds nothing to its output.
     pub fn read(&mut self, chunk: &[u8]) -> Result<(), NoMemory>
         requires { length chunk.now ≤ 2048 }
-        ensures { (kind : ℕ) → OnOk result (self.new ≡ after_read (machine (S.started kind) S.after) self.old chunk.now) }
+        ensures { (kind : ℕ) → OnOk result (self.new ≡ after_read (machine (S.started kind) S.after S.greeting) self.old chunk.now) }
     {
         if !self.closed {
             self.closed = self.service.take(chunk, &mut self.output)? == Next::Close;
@@ -94,15 +97,17 @@ impl<S: Service> Made<S> {
 /// After reads of these lengths, the kth end is that of the reference run over the first k of them, whose output is a prefix of the whole.
 pub fn ends_are_the_references<S: Service>()
     ensures ends { (kind k : ℕ) (bytes lengths : List ℕ) → k ≤ length lengths
-        → slice_get (made_of (machine (S.started kind) S.after) bytes lengths).ends k
-        ≡ Some (end_of (reference (machine (S.started kind) S.after) bytes (take k lengths))) }
+        → slice_get (made_of (machine (S.started kind) S.after S.greeting) bytes lengths).ends k
+        ≡ Some (end_of (reference (machine (S.started kind) S.after S.greeting) bytes (take k lengths))) }
     ensures prefixes { (kind k : ℕ) (bytes lengths : List ℕ)
-        → take (end_of (reference (machine (S.started kind) S.after) bytes (take k lengths))).output (made_of (machine (S.started kind) S.after) bytes lengths).run.output
-        ≡ (reference (machine (S.started kind) S.after) bytes (take k lengths)).output }
+        → take (end_of (reference (machine (S.started kind) S.after S.greeting) bytes (take k lengths))).output
+        (made_of (machine (S.started kind) S.after S.greeting) bytes lengths).run.output
+        ≡ (reference (machine (S.started kind) S.after S.greeting) bytes (take k lengths)).output }
     ensures whole { (kind : ℕ) (bytes lengths : List ℕ)
-        → (made_of (machine (S.started kind) S.after) bytes lengths).run ≡ reference (machine (S.started kind) S.after) bytes lengths }
+        → (made_of (machine (S.started kind) S.after S.greeting) bytes lengths).run ≡ reference (machine (S.started kind) S.after S.greeting) bytes lengths }
     // One more read is one more call of `read`.
     ensures one_more { (kind n : ℕ) (bytes lengths : List ℕ)
-        → made_of (machine (S.started kind) S.after) bytes (lengths ++ n ∷ [])
-        ≡ after_read (machine (S.started kind) S.after) (made_of (machine (S.started kind) S.after) bytes lengths) (take n (drop (sum lengths) bytes)) }
+        → made_of (machine (S.started kind) S.after S.greeting) bytes (lengths ++ n ∷ [])
+        ≡ after_read (machine (S.started kind) S.after S.greeting) (made_of (machine (S.started kind) S.after S.greeting) bytes lengths)
+        (take n (drop (sum lengths) bytes)) }
 {}

@@ -29,7 +29,7 @@ impl<S: Service> PlainConnection<S> {
     ) -> Result<PlainConnection<S>, NoMemory>
         ensures point { IfOk result (λ c. c.point ≡ point_opened (profile_of profile) (numbers_said numbers.now)) }
         ensures kind { IfOk result (λ c. c.kind ≡ kind) }
-        ensures served { IfOk result (λ c. IsServed (machine (S.started kind) S.after) c) }
+        ensures served { IfOk result (λ c. IsServed (machine (S.started kind) S.after S.greeting) c) }
     {
         Ok(PlainConnection {
             kind,
@@ -40,13 +40,13 @@ impl<S: Service> PlainConnection<S> {
 
     /// Makes the service repeat the fetched reads. After `NoMemory` the connection may only be dropped.
     fn read_again(&mut self, lengths: &[u16]) -> Result<(), NoMemory>
-        requires served { IsServed (machine (S.started self.old.kind) S.after) self.old }
+        requires served { IsServed (machine (S.started self.old.kind) S.after S.greeting) self.old }
         requires unread { self.old.point.lengths ≡ [] }
         requires enough { sum lengths.now ≤ length self.old.point.taken }
         requires short { list_all (λ n. nat_le n 2048) lengths.now ≡ true }
         ensures point { OnOk result (self.new.point ≡ record self.old.point { lengths = lengths.now }) }
         ensures kind { self.new.kind ≡ self.old.kind }
-        ensures served { OnOk result (IsServed (machine (S.started self.old.kind) S.after) self.new) }
+        ensures served { OnOk result (IsServed (machine (S.started self.old.kind) S.after S.greeting) self.new) }
     {
         for len in lengths {
             self.read(*len)?;
@@ -64,9 +64,9 @@ impl<S: Service> PlainConnection<S> {
     ) -> Result<PlainConnection<S>, NoMemory>
         requires whole { is_whole entry ≡ true }
         requires live { entry.head.done ≡ false }
-        ensures point { IfOk result (λ c. c.point ≡ point_of (machine (S.started kind) S.after) (profile_of profile) (entry_in entry)) }
+        ensures point { IfOk result (λ c. c.point ≡ point_of (machine (S.started kind) S.after S.greeting) (profile_of profile) (entry_in entry)) }
         ensures kind { IfOk result (λ c. c.kind ≡ kind) }
-        ensures served { IfOk result (λ c. IsServed (machine (S.started kind) S.after) c) }
+        ensures served { IfOk result (λ c. IsServed (machine (S.started kind) S.after S.greeting) c) }
     {
         let EntryParts {
             head,

@@ -10,7 +10,8 @@ ghost use Rattle.ft_model.specs.Point.{Point};
 ghost use Rattle.plain_packets.specs.Sent.{Appends};
 ghost use Rattle.plain_connection.specs.State.{IsServed};
 ghost use Rattle.plain_connection.specs.Before.{IsBefore};
-ghost use Rattle.plain_connection.specs.Since.{Sends, having_sent, syn_acks_since, resent_since, full_segments_since, is_delayed_since, is_ack_due_since, is_ack_pending_since};
+ghost use Rattle.plain_connection.specs.Since.{Sends, having_sent, syn_acks_since, resent_since, full_segments_since, is_delayed_since};
+ghost use Rattle.plain_connection.specs.Since.{is_ack_due_since, is_ack_pending_since};
 
 use crate::before::Before;
 use crate::connection::PlainConnection;
@@ -32,12 +33,14 @@ fn send(alloc: Global, segment: &PacketRef<'_>, sent: &mut PlainPackets) -> Resu
 impl<S: Service> PlainConnection<S> {
     ghost use Rattle.ft_model.specs.Point.{target as target_lem};
     ghost use Rattle.ft_model.specs.Sending.{sent_at_once as at_once_lem};
-    ghost use Rattle.ft_model.specs.Segments.{segments_of, text_at as text_lem, texts as texts_lem, fin_segment as fin_lem, fin_if_closed, resent_length as resent_lem, first_unacknowledged, probe, is_unacknowledged as unacknowledged_lem, new_texts, new_fin};
+    ghost use Rattle.ft_model.specs.Segments.{segments_of, text_at as text_lem, texts as texts_lem, fin_segment as fin_lem, fin_if_closed};
+    ghost use Rattle.ft_model.specs.Segments.{resent_length as resent_lem, first_unacknowledged, probe, is_unacknowledged as unacknowledged_lem};
+    ghost use Rattle.ft_model.specs.Segments.{new_texts, new_fin};
 
     /// Returns how many units may be sent: the output of the answered reads, and the FIN after it if they have closed the service.
     pub fn target(&self) -> u64
-        requires { IsServed (machine (S.started self.now.kind) S.after) self.now }
-        ensures { result ≡ target_lem (machine (S.started self.now.kind) S.after) self.now.point }
+        requires { IsServed (machine (S.started self.now.kind) S.after S.greeting) self.now }
+        ensures { result ≡ target_lem (machine (S.started self.now.kind) S.after S.greeting) self.now.point }
     {
         self.output().len() as u64 + u64::from(self.answered_end().closed)
     }
@@ -45,18 +48,19 @@ impl<S: Service> PlainConnection<S> {
     /// Returns SND.NXT after the turn, not counting a probe.
     #[tactic(auto, using(crate::proofs::Sends::at_once_since), unfolding(ft_model::specs::Sending::sent_at_once))]
     pub(crate) fn sent_at_once(&self, before: &Before) -> u64
-        requires { IsServed (machine (S.started self.now.kind) S.after) self.now }
-        ensures value { result ≡ at_once_lem (machine (S.started self.now.kind) S.after) (having_sent before.now.sent self.now.point) self.now.point }
-        ensures turn { (news : News) (p : Point) → IsBefore (machine (S.started self.now.kind) S.after) news p before.now
-            → result ≡ at_once_lem (machine (S.started self.now.kind) S.after) p self.now.point }
+        requires { IsServed (machine (S.started self.now.kind) S.after S.greeting) self.now }
+        ensures value { result ≡ at_once_lem (machine (S.started self.now.kind) S.after S.greeting)
+            (having_sent before.now.sent self.now.point) self.now.point }
+        ensures turn { (news : News) (p : Point) → IsBefore (machine (S.started self.now.kind) S.after S.greeting) news p before.now
+            → result ≡ at_once_lem (machine (S.started self.now.kind) S.after S.greeting) p self.now.point }
     {
         before.sent.max(self.target().min(self.point.send_edge()))
     }
 
     /// Returns a segment with `n` bytes of output, from an offset on.
     fn text_at(&self, server: Addr, offset: u64, n: u64) -> PacketRef<'_>
-        requires { IsServed (machine (S.started self.now.kind) S.after) self.now }
-        ensures { segment_of result ≡ text_lem (machine (S.started self.now.kind) S.after) server self.now.point offset n }
+        requires { IsServed (machine (S.started self.now.kind) S.after S.greeting) self.now }
+        ensures { segment_of result ≡ text_lem (machine (S.started self.now.kind) S.after S.greeting) server self.now.point offset n }
     {
         let text = part(self.output(), offset, n);
         self.point.segment_at(server, offset, ACK, text)
@@ -85,8 +89,9 @@ impl<S: Service> PlainConnection<S> {
         server: Addr,
         sent: &mut PlainPackets,
     ) -> Result<bool, NoMemory>
-        requires { IsServed (machine (S.started self.now.kind) S.after) self.now }
-        ensures { IfOk result (λ any. Sends any sent.old sent.new (fin_if_closed (machine (S.started self.now.kind) S.after) server self.now.point)) }
+        requires { IsServed (machine (S.started self.now.kind) S.after S.greeting) self.now }
+        ensures { IfOk result (λ any. Sends any sent.old sent.new
+            (fin_if_closed (machine (S.started self.now.kind) S.after S.greeting) server self.now.point)) }
     {
         if !self.answered_end().closed {
             return Ok(false);
@@ -99,8 +104,8 @@ impl<S: Service> PlainConnection<S> {
 
     /// Returns how many bytes are retransmitted: at most a segment of what was sent, and at most the client's room, which counts as at least one byte.
     fn resent_length(&self, before: &Before) -> u64
-        requires { IsServed (machine (S.started self.now.kind) S.after) self.now }
-        ensures { result ≡ resent_lem (machine (S.started self.now.kind) S.after) (having_sent before.now.sent self.now.point) self.now.point }
+        requires { IsServed (machine (S.started self.now.kind) S.after S.greeting) self.now }
+        ensures { result ≡ resent_lem (machine (S.started self.now.kind) S.after S.greeting) (having_sent before.now.sent self.now.point) self.now.point }
     {
         let una = self.point.una();
         let unacknowledged = before.sent.min(self.released()).saturating_sub(una);
@@ -117,9 +122,9 @@ impl<S: Service> PlainConnection<S> {
         before: &Before,
         sent: &mut PlainPackets,
     ) -> Result<bool, NoMemory>
-        requires { IsServed (machine (S.started self.now.kind) S.after) self.now }
+        requires { IsServed (machine (S.started self.now.kind) S.after S.greeting) self.now }
         ensures { IfOk result (λ any. Sends any sent.old sent.new
-            (first_unacknowledged (machine (S.started self.now.kind) S.after) server (having_sent before.now.sent self.now.point) self.now.point)) }
+            (first_unacknowledged (machine (S.started self.now.kind) S.after S.greeting) server (having_sent before.now.sent self.now.point) self.now.point)) }
     {
         if !self.point.syn_acked() {
             return send(alloc, &self.point.syn_ack(server), sent);
@@ -140,9 +145,9 @@ impl<S: Service> PlainConnection<S> {
         before: &Before,
         sent: &mut PlainPackets,
     ) -> Result<bool, NoMemory>
-        requires { IsServed (machine (S.started self.now.kind) S.after) self.now }
+        requires { IsServed (machine (S.started self.now.kind) S.after S.greeting) self.now }
         ensures { IfOk result (λ any. Sends any sent.old sent.new
-            (probe (machine (S.started self.now.kind) S.after) server (having_sent before.now.sent self.now.point) self.now.point)) }
+            (probe (machine (S.started self.now.kind) S.after S.greeting) server (having_sent before.now.sent self.now.point) self.now.point)) }
     {
         if before.sent >= self.released() {
             return self.send_fin_if_closed(alloc, server, sent);
@@ -167,8 +172,9 @@ impl<S: Service> PlainConnection<S> {
         before: &Before,
         sent: &mut PlainPackets,
     ) -> Result<bool, NoMemory>
-        requires { IsServed (machine (S.started self.now.kind) S.after) self.now }
-        ensures { IfOk result (λ any. Sends any sent.old sent.new (resent_since (machine (S.started self.now.kind) S.after) server before.now self.now.point)) }
+        requires { IsServed (machine (S.started self.now.kind) S.after S.greeting) self.now }
+        ensures { IfOk result (λ any. Sends any sent.old sent.new
+            (resent_since (machine (S.started self.now.kind) S.after S.greeting) server before.now self.now.point)) }
     {
         if !before.resends {
             return Ok(false);
@@ -189,9 +195,10 @@ impl<S: Service> PlainConnection<S> {
         len: u64,
         sent: &mut PlainPackets,
     ) -> Result<(), NoMemory>
-        requires served { IsServed (machine (S.started self.now.kind) S.after) self.now }
+        requires served { IsServed (machine (S.started self.now.kind) S.after S.greeting) self.now }
         requires within { from + len < 2 ^ 64 }
-        ensures { OnOk result (Appends sent.old sent.new (map To_client (texts_lem (machine (S.started self.now.kind) S.after) server self.now.point len from len))) }
+        ensures { OnOk result (Appends sent.old sent.new
+            (map To_client (texts_lem (machine (S.started self.now.kind) S.after S.greeting) server self.now.point len from len))) }
     {
         let size = u64::from(self.point.mss());
         let (mut offset, mut left) = (from, len);
@@ -215,9 +222,9 @@ impl<S: Service> PlainConnection<S> {
         before: &Before,
         sent: &mut PlainPackets,
     ) -> Result<bool, NoMemory>
-        requires { IsServed (machine (S.started self.now.kind) S.after) self.now }
+        requires { IsServed (machine (S.started self.now.kind) S.after S.greeting) self.now }
         ensures { IfOk result (λ any. Sends any sent.old sent.new
-            (new_texts (machine (S.started self.now.kind) S.after) server (having_sent before.now.sent self.now.point) self.now.point)) }
+            (new_texts (machine (S.started self.now.kind) S.after S.greeting) server (having_sent before.now.sent self.now.point) self.now.point)) }
     {
         let end = self.sent_at_once(before).min(self.released());
         let len = end.saturating_sub(before.sent);
@@ -234,9 +241,9 @@ impl<S: Service> PlainConnection<S> {
         before: &Before,
         sent: &mut PlainPackets,
     ) -> Result<bool, NoMemory>
-        requires { IsServed (machine (S.started self.now.kind) S.after) self.now }
+        requires { IsServed (machine (S.started self.now.kind) S.after S.greeting) self.now }
         ensures { IfOk result (λ any. Sends any sent.old sent.new
-            (new_fin (machine (S.started self.now.kind) S.after) server (having_sent before.now.sent self.now.point) self.now.point)) }
+            (new_fin (machine (S.started self.now.kind) S.after S.greeting) server (having_sent before.now.sent self.now.point) self.now.point)) }
     {
         let released = self.released();
         if released >= self.sent_at_once(before) || before.sent > released {
@@ -291,8 +298,9 @@ impl<S: Service> PlainConnection<S> {
         before: &Before,
         sent: &mut PlainPackets,
     ) -> Result<bool, NoMemory>
-        requires { IsServed (machine (S.started self.now.kind) S.after) self.now }
-        ensures { IfOk result (λ any. Sends any sent.old sent.new (full_segments_since (machine (S.started self.now.kind) S.after) server before.now self.now.point)) }
+        requires { IsServed (machine (S.started self.now.kind) S.after S.greeting) self.now }
+        ensures { IfOk result (λ any. Sends any sent.old sent.new
+            (full_segments_since (machine (S.started self.now.kind) S.after S.greeting) server before.now self.now.point)) }
     {
         let opens = self.send_syn_ack(alloc, server, before, sent)?;
         let resends = self.resend(alloc, server, before, sent)?;
@@ -309,9 +317,10 @@ impl<S: Service> PlainConnection<S> {
         before: &Before,
         sent: &mut PlainPackets,
     ) -> Result<(), NoMemory>
-        requires { IsServed (machine (S.started self.now.kind) S.after) self.now }
-        ensures { (news : News) (p : Point) → IsBefore (machine (S.started self.now.kind) S.after) news p before.now
-            → OnOk result (Appends sent.old sent.new (map To_client (segments_of (machine (S.started self.now.kind) S.after) server news p self.now.point))) }
+        requires { IsServed (machine (S.started self.now.kind) S.after S.greeting) self.now }
+        ensures { (news : News) (p : Point) → IsBefore (machine (S.started self.now.kind) S.after S.greeting) news p before.now
+            → OnOk result (Appends sent.old sent.new
+            (map To_client (segments_of (machine (S.started self.now.kind) S.after S.greeting) server news p self.now.point))) }
     {
         let any = self.send_full_segments(alloc, server, before, sent)?;
         if !self.is_bare_due(any, before) {

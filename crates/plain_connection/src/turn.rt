@@ -56,8 +56,8 @@ impl<S: Service> PlainConnection<S> {
 
     /// Returns whether the turn is an end tick: the connection is over, and all that is taken is known to be logged.
     fn is_end_tick(&self, news: &News<'_>) -> bool
-        requires { IsServed (machine (S.started self.now.kind) S.after) self.now }
-        ensures { result ≡ end_lem (machine (S.started self.now.kind) S.after) (news_in news.now) self.now.point }
+        requires { IsServed (machine (S.started self.now.kind) S.after S.greeting) self.now }
+        ensures { result ≡ end_lem (machine (S.started self.now.kind) S.after S.greeting) (news_in news.now) self.now.point }
     {
         match news {
             News::Tick => self.is_over() && self.point.is_all_answered(),
@@ -67,9 +67,9 @@ impl<S: Service> PlainConnection<S> {
 
     /// Returns SND.NXT after the turn. If it doesn't fit its type, the result is `NoMemory`: no memory could hold so many units.
     fn sent_after(&self, before: &Before) -> Result<u64, NoMemory>
-        requires { IsServed (machine (S.started self.now.kind) S.after) self.now }
-        ensures { (news : model) (p : Point) → IsBefore (machine (S.started self.now.kind) S.after) news p before.now
-            → IfOk result (λ sent. sent ≡ sent_lem (machine (S.started self.now.kind) S.after) news p self.now.point) }
+        requires { IsServed (machine (S.started self.now.kind) S.after S.greeting) self.now }
+        ensures { (news : model) (p : Point) → IsBefore (machine (S.started self.now.kind) S.after S.greeting) news p before.now
+            → IfOk result (λ sent. sent ≡ sent_lem (machine (S.started self.now.kind) S.after S.greeting) news p self.now.point) }
     {
         let at_once = self.sent_at_once(before);
         match at_once.checked_add(u64::from(before.probes)) {
@@ -81,10 +81,13 @@ impl<S: Service> PlainConnection<S> {
     /// Settles what is sent, the measurement of a round trip, the timer and the end ticks, once the service has read on. After `NoMemory` the connection may
     /// only be dropped.
     fn settle(&mut self, news: &News<'_>, before: &Before) -> Result<(), NoMemory>
-        requires { IsServed (machine (S.started self.old.kind) S.after) self.old }
+        requires { IsServed (machine (S.started self.old.kind) S.after S.greeting) self.old }
         ensures kind { self.new.kind ≡ self.old.kind }
-        ensures settled { (p : Point) → IsBefore (machine (S.started self.old.kind) S.after) (news_in news.now) p before.now
-            → OnOk result (self.new ≡ record self.old { point = settled_since (machine (S.started self.old.kind) S.after) (news_in news.now) p self.old.point }) }
+        ensures settled { (p : Point) → IsBefore (machine (S.started self.old.kind) S.after S.greeting) (news_in news.now) p before.now
+            → OnOk result (self.new ≡ record self.old {
+              point = settled_since (machine (S.started self.old.kind) S.after S.greeting)
+                  (news_in news.now) p self.old.point;
+            }) }
     {
         let sent = self.sent_after(before)?;
         let at_once = self.sent_at_once(before);
@@ -99,13 +102,14 @@ impl<S: Service> PlainConnection<S> {
 
     /// Takes the news of a connection that its client hasn't reset. It sends no packets. After `NoMemory` the connection may only be dropped.
     fn advance(&mut self, alloc: Global, news: &News<'_>, before: &Before) -> Result<(), NoMemory>
-        requires served { IsServed (machine (S.started self.old.kind) S.after) self.old }
-        requires before { IsBefore (machine (S.started self.old.kind) S.after) (news_in news.now) self.old.point before.now }
+        requires served { IsServed (machine (S.started self.old.kind) S.after S.greeting) self.old }
+        requires before { IsBefore (machine (S.started self.old.kind) S.after S.greeting) (news_in news.now) self.old.point before.now }
         requires live { before.now.reset ≡ false }
         ensures kind { self.new.kind ≡ self.old.kind }
-        ensures served { OnOk result (IsServed (machine (S.started self.old.kind) S.after) self.new) }
-        ensures turn { (server : Addr) (boot : ℕ) → OnOk result (LiveTurn (machine (S.started self.old.kind) S.after) server boot (news_in news.now) self.old.point self.new.point
-            (sent_by (machine (S.started self.old.kind) S.after) server boot (news_in news.now) self.old.point self.new.point)) }
+        ensures served { OnOk result (IsServed (machine (S.started self.old.kind) S.after S.greeting) self.new) }
+        ensures turn { (server : Addr) (boot : ℕ)
+            → OnOk result (LiveTurn (machine (S.started self.old.kind) S.after S.greeting) server boot (news_in news.now) self.old.point self.new.point
+            (sent_by (machine (S.started self.old.kind) S.after S.greeting) server boot (news_in news.now) self.old.point self.new.point)) }
     {
         self.note(alloc, news)?;
         self.read_on()?;
@@ -122,10 +126,11 @@ impl<S: Service> PlainConnection<S> {
         before: &Before,
         sent: &mut PlainPackets,
     ) -> Result<(), NoMemory>
-        requires served { IsServed (machine (S.started self.now.kind) S.after) self.now }
+        requires served { IsServed (machine (S.started self.now.kind) S.after S.greeting) self.now }
         requires taken { before.now.taken ≤ 2 ^ 63 }
-        ensures { (p : Point) → p.reset ≡ false → IsBefore (machine (S.started self.now.kind) S.after) (news_in news.now) p before.now
-            → OnOk result (Appends sent.old sent.new (sent_by (machine (S.started self.now.kind) S.after) who.server who.boot (news_in news.now) p self.now.point)) }
+        ensures { (p : Point) → p.reset ≡ false → IsBefore (machine (S.started self.now.kind) S.after S.greeting) (news_in news.now) p before.now
+            → OnOk result (Appends sent.old sent.new
+            (sent_by (machine (S.started self.now.kind) S.after S.greeting) who.server who.boot (news_in news.now) p self.now.point)) }
     {
         let Incarnation { server, boot } = who;
         self.send_segments(alloc, server, before, sent)?;
@@ -157,10 +162,11 @@ impl<S: Service> PlainConnection<S> {
         news: &News<'_>,
         sent: &mut PlainPackets,
     ) -> Result<(), NoMemory>
-        requires { IsServed (machine (S.started self.old.kind) S.after) self.old }
+        requires { IsServed (machine (S.started self.old.kind) S.after S.greeting) self.old }
         ensures kind { self.new.kind ≡ self.old.kind }
-        ensures served { OnOk result (IsServed (machine (S.started self.old.kind) S.after) self.new) }
-        ensures turn { OnOk result (TakesTurn (machine (S.started self.old.kind) S.after) server boot (news_in news.now) self.old.point self.new.point sent.old sent.new) }
+        ensures served { OnOk result (IsServed (machine (S.started self.old.kind) S.after S.greeting) self.new) }
+        ensures turn { OnOk result (TakesTurn (machine (S.started self.old.kind) S.after S.greeting) server boot
+            (news_in news.now) self.old.point self.new.point sent.old sent.new) }
     {
         let before = self.before(news);
         if before.reset {

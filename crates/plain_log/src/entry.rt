@@ -4,7 +4,8 @@ ghost use Rattle.limits.specs.Limits.{longest_stream};
 ghost use Rattle.std.specs.Prelude.{◌≡◌, ◌≤◌, ◌+◌, ◌^◌, ◌++◌, OnOk, IfSome, length, take, drop, option_map, true};
 ghost use Rattle.seq_arith.specs.Message.Body.{EntryMsg, OpenedMsg, StableMsg, ReadsMsg};
 ghost use Rattle.seq_arith.specs.MessageGrammar.{lens_in};
-ghost use Rattle.ft_model.specs.Log.{new_entry, with_bytes, with_its_fin, with_part, with_read, is_next_read, numbers_of_entry, kept_of, head_of, part_of, lens_of};
+ghost use Rattle.ft_model.specs.Log.{new_entry, with_bytes, with_its_fin, with_part, with_read, is_next_read, numbers_of_entry, kept_of, head_of};
+ghost use Rattle.ft_model.specs.Log.{part_of, lens_of};
 ghost use Rattle.logger_wire.specs.Records.{numbers_said, kept_said, part_said};
 ghost use Rattle.logger_wire.specs.Value.{body_of};
 

@@ -1,10 +1,11 @@
-//! Wrong results that the contracts of this crate exclude. Each function calls another one of the crate, and promises of its result what a wrong body would make
-//! false. It is proved from the other's contract alone, so it is no longer proved once that contract lets the wrong body pass.
+//! Wrong results that the contracts of this crate exclude. Each function calls another one of the crate, and promises of its result what a wrong body would
+//! make false. It is proved from the other's contract alone, so it is no longer proved once that contract lets the wrong body pass.
 
 ghost use Rattle.std.specs.Prelude.{◌≡◌, ◌<◌, IfOk, OnOk, Some, length, option_map, true, false};
 ghost use Rattle.ft_model.specs.Restart.{lacks_read_bytes, lacks_lengths};
 ghost use Rattle.ft_model.specs.Restart.Wanted.{Its_lengths};
-ghost use Rattle.logger_wire.specs.Value.{IsSendable};
+ghost use Rattle.seq_arith.specs.declared.kinds.Grammar.TheVariants.{Wide};
+ghost use Rattle.logger_wire.specs.Value.{IsSendableBy};
 ghost use Rattle.plain_log.specs.Values.{wanted_in};
 
 use crate::fetched::PlainFetched;
@@ -47,7 +48,7 @@ fn keeps_an_older_boots_message(
     alloc: Global,
     msg: &Msg<'_>,
 ) -> Result<(), NoMemory>
-    requires sendable { IsSendable msg.now }
+    requires sendable { IsSendableBy Wide msg.now }
     requires older { msg.now.boot < log.old.boot }
     ensures { OnOk result (log.new ≡ log.old) }
 {

@@ -54,7 +54,8 @@ impl Model for PlainFetched {
 }
 
 impl PlainFetched {
-    ghost use Rattle.ft_model.specs.Restart.{lacks_read_bytes as read_bytes_lem, lacks_lengths as lengths_lem, lacks_bytes as bytes_lem, is_whole as whole_lem, all_follow};
+    ghost use Rattle.ft_model.specs.Restart.{lacks_read_bytes as read_bytes_lem, lacks_lengths as lengths_lem, lacks_bytes as bytes_lem};
+    ghost use Rattle.ft_model.specs.Restart.{is_whole as whole_lem, all_follow};
     ghost use Rattle.ft_model.specs.Log.{may_follow};
 
     /// Creates an entry of which only the head is fetched. Allocates nothing.

@@ -8,7 +8,8 @@ ghost use Rattle.seq_arith.specs.Message.Body.{HelloMsg};
 ghost use Rattle.seq_arith.specs.MessageGrammar.{lens_in};
 ghost use Rattle.ft_model.specs.Log.{Log, empty_log, entry_of, opened, opened_answer, with_body, is_hello as hello_lem, log_after, answer_from, answer_to};
 ghost use Rattle.logger_wire.specs.Records.{numbers_said};
-ghost use Rattle.logger_wire.specs.Value.{body_of, message_of, IsSendable};
+ghost use Rattle.seq_arith.specs.declared.kinds.Grammar.TheVariants.{Wide};
+ghost use Rattle.logger_wire.specs.Value.{body_of, message_of, IsSendableBy};
 ghost use Rattle.plain_log.specs.Parts.{logged_in, StaysInStream};
 ghost use Rattle.plain_log.specs.Reply.{reply, lengths_asked};
 
@@ -156,10 +157,11 @@ impl PlainLog {
         }
     }
 
-    /// Takes a message that may be sent. Each message that a codec reads may. After `NoMemory` the log may only be dropped.
+    /// Takes a message that may be sent in the wide grammar, as each of the plain one may. Each message that a codec reads may. After `NoMemory` the log may only
+    /// be dropped.
     #[tactic(auto, using(crate::proofs::Ranges::stays_in_stream), unfolding(ft_model::specs::Log::log_after))]
     pub fn take(&mut self, alloc: Global, msg: &Msg<'_>) -> Result<(), NoMemory>
-        requires { IsSendable msg.now }
+        requires { IsSendableBy Wide msg.now }
         ensures { OnOk result (self.new ≡ log_after self.old (message_of msg.now)) }
     {
         if msg.body.is_answer() || msg.boot < self.boot {
@@ -208,6 +210,7 @@ impl PlainLog {
             Body::Bytes { key, offset } => self.find(key)?.part(offset),
             Body::Cuts { key, first } => self.find(key)?.lens(first, lens),
             Body::Open(numbers) => Some(self.opened(numbers.key)),
+            Body::Data(part) if part.more => None,
             Body::Data(part) => Some(self.find(part.key)?.stable()),
             Body::Read { key, .. } => Some(self.find(key)?.reads_told()),
             Body::Done { key } => {
@@ -236,7 +239,8 @@ impl PlainLog {
     pub fn answer<'a>(&'a self, msg: &Msg<'_>, lens: &'a [u8]) -> Option<Msg<'a>>
         requires { lens_in lens.now ≡ lengths_asked (body_of msg.now.body) self.now }
         ensures reply { option_map message_of result ≡ reply self.now (message_of msg.now) }
-        ensures answer { (before : Log) → self.now ≡ log_after before (message_of msg.now) → option_map message_of result ≡ answer_to before (message_of msg.now) }
+        ensures answer { (before : Log) → self.now ≡ log_after before (message_of msg.now)
+            → option_map message_of result ≡ answer_to before (message_of msg.now) }
     {
         let boot = msg.boot;
         if msg.body.is_answer() {

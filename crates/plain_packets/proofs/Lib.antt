@@ -4,3 +4,4 @@ pub mod Sent
 pub mod Fins
 pub mod FirstPlace
 pub mod Laying
+pub mod Kept

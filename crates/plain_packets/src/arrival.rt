@@ -3,7 +3,8 @@
 
 ghost use Rattle.std.specs.Prelude.{◌≡◌, ◌+◌, ◌^◌, ◌<◌, ◌≤◌, MatchOption, pos, ◌+ℤ◌, ◌<ℤ◌, length, take, drop};
 ghost use Rattle.seq_arith.specs.Number.{number_at, offset_of as offset_lem};
-ghost use Rattle.tcp_rules.specs.Arrival.{int_eq, is_acceptable as acceptable_lem, is_acceptable_or_at_edge, is_at_right_edge, is_allowed_at_zero, is_usable as usable_lem, lies_in as lies_lem};
+ghost use Rattle.tcp_rules.specs.Arrival.{int_eq, is_acceptable as acceptable_lem, is_acceptable_or_at_edge, is_at_right_edge, is_allowed_at_zero};
+ghost use Rattle.tcp_rules.specs.Arrival.{is_usable as usable_lem, lies_in as lies_lem};
 
 use seq_arith::Seq;
 

@@ -1,18 +1,20 @@
-//! A message as its bytes.
+//! A message as its bytes, in the wide grammar.
 
 ghost use Rattle.limits.specs.Limits.{largest_segment, least_segment, longest_stream};
-ghost use Rattle.std.specs.Prelude.{◌≡◌, ◌≤◌, ◌<◌, ◌+◌, ◌^◌, ◌%◌, ◌&&◌, true, IfOk, IfSome, IfNone, length, nat_le};
+ghost use Rattle.std.specs.Prelude.{◌≡◌, ◌≤◌, ◌<◌, ◌+◌, ◌^◌, ◌%◌, ◌&&◌, true, IfOk, if◌then◌else◌, IfSome, IfNone, length, nat_le};
 ghost use Rattle.std.specs.List.{list_all};
+ghost use Rattle.seq_arith.specs.declared.kinds.Grammar.TheVariants.{Wide};
 ghost use Rattle.seq_arith.specs.declared.kinds.Kind.TheVariants as kinds;
 ghost use Rattle.seq_arith.specs.Message.Body.{EntryMsg};
-ghost use Rattle.seq_arith.specs.MessageGrammar.{kind_of, behind_at, behind_of, message_length, has_length, fields_of, numbers_of, all_in_range, is_sound, lens_of, lens_in, spelling, IsSpellable};
+ghost use Rattle.seq_arith.specs.MessageGrammar.{kind_of, behind_at, behind_of, message_length, has_length, fields_of, numbers_of, flag};
+ghost use Rattle.seq_arith.specs.MessageGrammar.{all_in_range_by, is_sound_by, lens_of, lens_in, spelling_by, IsSpellableBy};
 ghost use Rattle.logger_wire.specs.Records.{head_said};
-ghost use Rattle.logger_wire.specs.Value.{body_of, message_of, left_over, IsSendable};
+ghost use Rattle.logger_wire.specs.Value.{body_of, message_of, left_over, IsSendableBy};
 
 use crate::number_ranges::fit_numbers;
 use ft_io::NoMemory;
 use limits::{ENTRIES, SEGMENT, SHORTEST_SEGMENT, STREAM, TEXT, UNITS};
-use logger_wire::{Body, EntryHead, Msg, len_at, put_msg};
+use logger_wire::{Body, EntryHead, Grammar, Msg, len_at, put_msg_by};
 use std::alloc::Global;
 
 /// Returns lengths of two bytes each, without a last byte that is left over.
@@ -128,10 +130,18 @@ fn offset_fits(offset: u32, behind: usize) -> bool
     offset as usize + behind <= STREAM as usize
 }
 
+/// Returns whether a part ends in one way: no FIN follows it where a later part does.
+#[tactic(auto, using(crate::proofs::Ranges::ending_fits))]
+fn ending_fits(fin: bool, more: bool) -> bool
+    ensures { result ≡ nat_le (flag fin + (if more then 2 else 0)) 2 }
+{
+    !(fin && more)
+}
+
 /// Returns whether each number of an Entry is in its field's range.
 #[tactic(auto, using(crate::proofs::Ranges::flag_fits))]
 fn head_fits(index: u16, head: &EntryHead) -> bool
-    ensures { result ≡ all_in_range 0 0 (fields_of kinds.Entry) (numbers_of (EntryMsg index (head_said head.now))) }
+    ensures { result ≡ all_in_range_by Wide 0 0 (fields_of kinds.Entry) (numbers_of (EntryMsg index (head_said head.now))) }
 {
     index <= 63
         && mss_fits(head.mss)
@@ -144,7 +154,7 @@ fn head_fits(index: u16, head: &EntryHead) -> bool
 #[tactic(auto, using(crate::proofs::Ranges::flag_fits))]
 fn numbers_fit(boot: u64, body: &Body<'_>, behind: usize) -> bool
     requires { behind < 2 ^ 63 }
-    ensures { result ≡ all_in_range boot behind (fields_of (kind_of (body_of body.now))) (numbers_of (body_of body.now)) }
+    ensures { result ≡ all_in_range_by Wide boot behind (fields_of (kind_of (body_of body.now))) (numbers_of (body_of body.now)) }
 {
     match *body {
         Body::Summary { count } => count <= ENTRIES,
@@ -153,7 +163,11 @@ fn numbers_fit(boot: u64, body: &Body<'_>, behind: usize) -> bool
         Body::Bytes { offset, .. } | Body::Part { offset, .. } => offset_fits(offset, behind),
         Body::Cuts { first, .. } | Body::Lens { first, .. } => first <= UNITS,
         Body::Open(numbers) | Body::Opened(numbers) => mss_fits(numbers.mss),
-        Body::Data(part) => offset_fits(part.offset, behind) && part.acked <= UNITS,
+        Body::Data(part) => {
+            offset_fits(part.offset, behind)
+                && part.acked <= UNITS
+                && ending_fits(part.fin, part.more)
+        }
         Body::Stable(kept) | Body::Reads(kept) => { kept.length <= STREAM && kept.reads <= UNITS }
         Body::Read { index, length, .. } => index <= UNITS && length <= 2_048,
         Body::Stale { newer } => boot < newer,
@@ -187,10 +201,12 @@ fn lens_fit(body: &Body<'_>) -> bool
 }
 
 /// Returns whether a message has a spelling: each number is in its field's range, and the message has one of its kind's lengths.
-#[tactic(auto, unfolding(seq_arith::specs::MessageGrammar::is_sound))]
+#[tactic(auto, unfolding(seq_arith::specs::MessageGrammar::is_sound_by))]
 fn is_spellable(msg: &Msg<'_>) -> bool
     requires { left_over msg.now.body ≡ 0 }
-    ensures { result ≡ (is_sound (kind_of (body_of msg.now.body)) msg.now.boot (length (behind_of (body_of msg.now.body))) (numbers_of (body_of msg.now.body)) (lens_of (body_of msg.now.body)) && has_length (kind_of (body_of msg.now.body)) (message_length (body_of msg.now.body))) }
+    ensures { result ≡ (is_sound_by Wide (kind_of (body_of msg.now.body)) msg.now.boot (length (behind_of (body_of msg.now.body)))
+        (numbers_of (body_of msg.now.body)) (lens_of (body_of msg.now.body))
+        && has_length (kind_of (body_of msg.now.body)) (message_length (body_of msg.now.body))) }
 {
     let behind = behind(&msg.body);
     1 <= msg.boot
@@ -202,20 +218,20 @@ fn is_spellable(msg: &Msg<'_>) -> bool
 /// Returns the bytes of a message.
 #[tactic(auto, using(crate::proofs::Lengths::none_left))]
 fn message_bytes(alloc: Global, msg: &Msg<'_>) -> Result<Vec<u8>, NoMemory>
-    requires { IsSendable msg.now }
-    ensures { IfOk result (λ bytes. bytes.items ≡ spelling (message_of msg.now)) }
+    requires { IsSendableBy Wide msg.now }
+    ensures { IfOk result (λ bytes. bytes.items ≡ spelling_by Wide (message_of msg.now)) }
 {
     let len = fields_end(&msg.body) + behind(&msg.body);
     let mut bytes = Vec::with_capacity(alloc, len)?;
     bytes.resize(len, 0)?;
-    put_msg(msg, &mut bytes);
+    put_msg_by(Grammar::Wide, msg, &mut bytes);
     Ok(bytes)
 }
 
 /// Returns the bytes of a message, or `None` if it has no spelling.
 pub(crate) fn spelled(alloc: Global, msg: &Msg<'_>) -> Result<Option<Vec<u8>>, NoMemory>
-    ensures some { IfOk result (λ bytes. IfSome bytes (λ b. b.items ≡ spelling (message_of msg.now))) }
-    ensures none { IfOk result (λ bytes. IfNone bytes (¬ (IsSpellable (message_of msg.now)))) }
+    ensures some { IfOk result (λ bytes. IfSome bytes (λ b. b.items ≡ spelling_by Wide (message_of msg.now))) }
+    ensures none { IfOk result (λ bytes. IfNone bytes (¬ (IsSpellableBy Wide (message_of msg.now)))) }
 {
     let msg = plain_message(msg);
     if !is_spellable(&msg) {

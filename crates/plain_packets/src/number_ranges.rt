@@ -71,7 +71,7 @@ fn fit_head(index: u16, head: &EntryHead)
 }
 
 /// Each number of a message is in range by its type.
-#[tactic(auto, using(crate::proofs::Ranges::flag_small))]
+#[tactic(auto, using(crate::proofs::Ranges::flag_small, crate::proofs::Ranges::ending_small))]
 pub(crate) fn fit_numbers(body: &Body<'_>)
     ensures { AllFit (fields_of (kind_of (body_of body.now))) (numbers_of (body_of body.now)) }
 {

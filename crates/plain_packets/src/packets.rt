@@ -2,6 +2,7 @@
 
 ghost use Rattle.std.specs.Prelude.{◌≡◌, [], ◌∷◌, ◌++◌, length, option_copied, OnOk};
 ghost use Rattle.ft_model.specs.Network.Packet.{To_server, To_client, To_logger, From_logger};
+ghost use Rattle.seq_arith.specs.declared.kinds.Grammar.TheVariants.{Wide};
 ghost use Rattle.logger_wire.specs.Value.{message_of};
 ghost use Rattle.segment_codec.specs.Value.{segment_of};
 ghost use Rattle.seq_arith.specs.MessageGrammar as messages;
@@ -92,7 +93,8 @@ impl PlainPackets {
         path: Path,
         segment: &PacketRef<'_>,
     ) -> Result<(), NoMemory>
-        ensures { OnOk result (segments.IsSpellable (segment_of segment.now) → self.new ≡ self.old ++ record { from = from_of path; to = to_of path; bytes = segments.spelling (segment_of segment.now) } ∷ []) }
+        ensures { OnOk result (segments.IsSpellable (segment_of segment.now)
+            → self.new ≡ self.old ++ record { from = from_of path; to = to_of path; bytes = segments.spelling (segment_of segment.now) } ∷ []) }
     {
         if !fits_packet(segment) {
             return Ok(());
@@ -103,7 +105,8 @@ impl PlainPackets {
 
     /// Appends a message in its spelling, if it has one.
     fn push_message(&mut self, alloc: Global, path: Path, msg: &Msg<'_>) -> Result<(), NoMemory>
-        ensures { OnOk result (messages.IsSpellable (message_of msg.now) → self.new ≡ self.old ++ record { from = from_of path; to = to_of path; bytes = messages.spelling (message_of msg.now) } ∷ []) }
+        ensures { OnOk result (messages.IsSpellableBy Wide (message_of msg.now)
+            → self.new ≡ self.old ++ record { from = from_of path; to = to_of path; bytes = messages.spelling_by Wide (message_of msg.now) } ∷ []) }
     {
         match spelled(alloc, msg)? {
             Some(bytes) => self.push(path, bytes),

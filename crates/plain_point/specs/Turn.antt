@@ -44,7 +44,8 @@ pub record IsSendingAfter (news : News) (p : Point) (sending : Sending) : Type 0
 
 -- whether the service may read on, after all its reads have made `made` bytes of output, and the answered ones `released` bytes
 abbrev pub may_read_at : (made released : ℕ) → Point → Bool
-may_read_at made released p = nat_le made (min released (p.una + buffer_size)) && nat_le made (longest_stream - 2 ^ 20) && nat_lt (length p.lengths - p.reads_answered) 32
+may_read_at made released p = nat_le made (min released (p.una + buffer_size)) && nat_le made (longest_stream - 2 ^ 20)
+    && nat_lt (length p.lengths - p.reads_answered) 32
 
 -- the timer before a turn
 abbrev pub timer_of : Point → Timer
@@ -58,7 +59,8 @@ expires_since ticks timer = ticks && timer.rest == 1
 
 -- the interval of the timer and the remaining ticks after a turn, given whether the turn is a tick and whether the timer must run
 abbrev pub interval_since : (ticks : Bool) → Timer → Point → ℕ
-interval_since ticks timer p = if is_set_anew_since timer p then p.timing.base else (if expires_since ticks timer then min 64 (2 * timer.interval) else timer.interval)
+interval_since ticks timer p = if is_set_anew_since timer p then p.timing.base
+    else (if expires_since ticks timer then min 64 (2 * timer.interval) else timer.interval)
 
 abbrev pub rest_since : (must_run ticks : Bool) → Timer → Point → ℕ
 rest_since must_run ticks timer p =

@@ -30,7 +30,7 @@ timing_in t = record {
 }
 
 abbrev pub data_in : Data → said.Part
-data_in d = record { key = d.key; offset = d.offset; acked = d.acked; fin = d.fin; bytes = d.bytes.now }
+data_in d = record { key = d.key; offset = d.offset; acked = d.acked; fin = d.fin; more = false; bytes = d.bytes.now }
 
 -- a Data, or none
 abbrev pub bodies_of : Option Data → List said.Body

@@ -16,8 +16,10 @@ use std::mem;
 impl PlainPoint {
     ghost use Rattle.ft_model.specs.News.News.{Comes};
     ghost use Rattle.ft_model.specs.Offset.{first_of, ack_of};
-    ghost use Rattle.ft_model.specs.Taken.{accepts as accepts_lem, uses as uses_lem, acknowledges_unsent as unsent_lem, counts as counts_lem, taken_after, early_after, fin_after};
-    ghost use Rattle.ft_model.specs.PendingAck.{is_refused as refused_lem, is_unsent_ack as unsent_ack_lem, needs_ack_if_acceptable as acceptable_lem, needs_ack as needs_lem};
+    ghost use Rattle.ft_model.specs.Taken.{accepts as accepts_lem, uses as uses_lem, acknowledges_unsent as unsent_lem, counts as counts_lem};
+    ghost use Rattle.ft_model.specs.Taken.{taken_after, early_after, fin_after};
+    ghost use Rattle.ft_model.specs.PendingAck.{is_refused as refused_lem, is_unsent_ack as unsent_ack_lem};
+    ghost use Rattle.ft_model.specs.PendingAck.{needs_ack_if_acceptable as acceptable_lem, needs_ack as needs_lem};
     ghost use Rattle.ft_model.specs.Segments.{repeats_syn as repeats_lem};
     ghost use Rattle.ft_model.specs.ResetAndEnd.{reset_after};
 

@@ -1,7 +1,9 @@
 //! Congestion control (RFC 5681, 3.1 and 3.2; RFC 6582, 3.2), in bytes.
 
 ghost use Rattle.std.specs.Prelude.{◌≡◌, ◌≤◌, ◌+◌, min, nat_le, if◌then◌else◌};
-ghost use Rattle.tcp_rules.specs.Congestion.{most_window, initial_congestion, initial_window as initial_lem, growth as growth_lem, is_recovering as recovering_lem, is_partial as partial_lem, deflated as deflated_lem, lowered_threshold as lowered_lem, with_new_data, with_duplicate, with_expiry, is_third};
+ghost use Rattle.tcp_rules.specs.Congestion.{most_window, initial_congestion, initial_window as initial_lem, growth as growth_lem};
+ghost use Rattle.tcp_rules.specs.Congestion.{is_recovering as recovering_lem, is_partial as partial_lem, deflated as deflated_lem};
+ghost use Rattle.tcp_rules.specs.Congestion.{lowered_threshold as lowered_lem, with_new_data, with_duplicate, with_expiry, is_third};
 ghost use Rattle.plain_point.specs.Values.{congestion_in};
 
 use limits::BUFFER;

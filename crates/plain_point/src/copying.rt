@@ -28,7 +28,8 @@ pub struct Data<'a> {
 }
 
 impl PlainPoint {
-    ghost use Rattle.ft_model.specs.Copy.{copy_start as start_lem, copied_text as text_lem, copies_fin as fin_lem, una_part as una_lem, own_data as own_lem, further_start};
+    ghost use Rattle.ft_model.specs.Copy.{copy_start as start_lem, copied_text as text_lem, copies_fin as fin_lem, una_part as una_lem};
+    ghost use Rattle.ft_model.specs.Copy.{own_data as own_lem, further_start};
 
     /// Returns where the part of a segment's text that isn't known to be logged begins.
     fn copy_start(&self, segment: &PacketRef<'_>) -> u64

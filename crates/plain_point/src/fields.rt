@@ -87,6 +87,13 @@ impl PlainPoint {
         self.delays
     }
 
+    /// Returns whether the log answers only the last of the Data that a turn sends.
+    pub fn batches(&self) -> bool
+        ensures { result ≡ self.now.batches }
+    {
+        self.batches
+    }
+
     /// Returns whether no text is held after a gap.
     pub fn holds_no_text(&self) -> bool
         ensures { result ≡ (length self.now.early.text == 0) }

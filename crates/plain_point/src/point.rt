@@ -51,6 +51,8 @@ pub struct PlainPoint {
     pub(crate) timing: Timing,
     /// Whether the ACK of text that isn't logged yet waits for the log.
     pub(crate) delays: bool,
+    /// Whether the log answers only the last of the Data that a turn sends.
+    pub(crate) batches: bool,
     /// The timer's interval, in ticks.
     pub(crate) interval: u64,
     /// The ticks until the timer expires; 0 while it doesn't run.
@@ -95,6 +97,7 @@ impl Model for PlainPoint {
       syn_acked = p.syn_acked;
       timing = timing_in p.timing;
       delays = p.delays;
+      batches = p.batches;
       interval = p.interval;
       rest = p.rest;
       end_ticks = p.end_ticks;
@@ -106,7 +109,8 @@ impl Model for PlainPoint {
 }
 
 impl PlainPoint {
-    ghost use Rattle.ft_model.specs.Point.{taken_units as units_lem, acknowledgement as acknowledgement_lem, receive_edge as edge_lem, advertised_edge as advertised_lem, room as room_lem, window as window_lem};
+    ghost use Rattle.ft_model.specs.Point.{taken_units as units_lem, acknowledgement as acknowledgement_lem, receive_edge as edge_lem};
+    ghost use Rattle.ft_model.specs.Point.{advertised_edge as advertised_lem, room as room_lem, window as window_lem};
     ghost use Rattle.ft_model.specs.Opening.{point_opened};
     ghost use Rattle.tcp_rules.specs.Profiles.{profile_of};
 
@@ -134,6 +138,7 @@ impl PlainPoint {
             syn_acked: false,
             timing,
             delays: profile.delays(),
+            batches: profile.batches(),
             interval: timing.base,
             rest: 0,
             end_ticks: 0,

@@ -38,7 +38,10 @@ pub(crate) struct Acknowledged {
 impl PlainPoint {
     ghost use Rattle.tcp_rules.specs.Arrival.{updates_window as updates_lem};
     ghost use Rattle.ft_model.specs.News.News.{Comes, Ticks};
-    ghost use Rattle.ft_model.specs.Sending.{acknowledges, acknowledges_new, acknowledged_by, moves_edge, is_duplicate as duplicate_lem, is_third_duplicate as third_lem, is_partial_ack as partial_lem, resends as resends_lem, is_lost as lost_lem, is_first_expiry as first_lem, flight as flight_lem, send_edge as send_edge_lem, acknowledged_after, edge_after, wl1_after, wl2_after, congestion_after};
+    ghost use Rattle.ft_model.specs.Sending.{acknowledges, acknowledges_new, acknowledged_by, moves_edge, is_duplicate as duplicate_lem};
+    ghost use Rattle.ft_model.specs.Sending.{is_third_duplicate as third_lem, is_partial_ack as partial_lem, resends as resends_lem};
+    ghost use Rattle.ft_model.specs.Sending.{is_lost as lost_lem, is_first_expiry as first_lem, flight as flight_lem, send_edge as send_edge_lem};
+    ghost use Rattle.ft_model.specs.Sending.{acknowledged_after, edge_after, wl1_after, wl2_after, congestion_after};
     ghost use Rattle.plain_point.specs.Values.{IsAcknowledged};
     ghost use Rattle.plain_point.specs.Turn.{noted, timing_by, IsSendingAfter};
 

@@ -1,7 +1,8 @@
 //! The estimate of the round-trip time, and the interval that the timer starts with (RFC 6298, in ticks).
 
 ghost use Rattle.std.specs.Prelude.{◌≡◌};
-ghost use Rattle.tcp_rules.specs.Timing.{initial_timing, apart as apart_lem, smoothed_by, variation_by, computed_base, with_sample, with_acknowledged, with_tick, without_trip, with_backoff, with_sent};
+ghost use Rattle.tcp_rules.specs.Timing.{initial_timing, apart as apart_lem, smoothed_by, variation_by, computed_base, with_sample};
+ghost use Rattle.tcp_rules.specs.Timing.{with_acknowledged, with_tick, without_trip, with_backoff, with_sent};
 ghost use Rattle.plain_point.specs.Values.{timing_in};
 
 /// The shortest interval of a timer that follows measured round trips, in ticks.

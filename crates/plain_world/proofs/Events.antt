@@ -3,6 +3,7 @@ use Rattle.std.proofs.Common.{◌≡◌, ◌∙◌, sym, ap, ap₂, subst, refl,
 use Rattle.std.proofs.Math.ListN.{set}
 use Rattle.std.proofs.lemmas.Bool.{leb-false}
 use Rattle.server_trait.specs.Service.{Machine}
+use Rattle.tcp_rules.specs.Profile.{grammar_of}
 use Rattle.ft_model.specs.Client.{Client, Move, move_asked, mover_of, move_of, window_of, refusal_of_move, segment_of, moved}
 use Rattle.ft_model.specs.Client.{Move as moves}
 use Rattle.ft_model.specs.Lawful.{hello}
@@ -11,7 +12,7 @@ use Rattle.ft_model.specs.Network.{Packet, packet_at}
 use Rattle.ft_model.specs.Network.Packet.{To_server, To_client, To_logger, From_logger}
 use Rattle.ft_model.specs.Node.{booted}
 use Rattle.ft_model.specs.Node.Input.{Packet_comes, Message_comes, Tick_comes}
-use Rattle.ft_model.specs.Wire.{Wire, wire_of, HasWire}
+use Rattle.ft_model.specs.Wire.{Wire, HasWireBy}
 use Rattle.ft_model.specs.World.{World, Delivered, Flipped, Moves, Happens, client_at, with_client}
 use Rattle.ft_model.specs.declared.event.Event.{Event}
 use Rattle.ft_model.specs.declared.event.Event.TheVariants.{Boot, Crash, Tick, Deliver, Flip, Begin, Send, Fin, Ack, Reset, Stop}
@@ -20,7 +21,8 @@ use Rattle.ft_model.proofs.AskedMoves.{quiet_event, scripted}
 use Rattle.ft_model.proofs.Happened.{all_sent}
 use Rattle.ft_model.proofs.Lists.{none_is_some, some_is}
 use Rattle.ft_model.proofs.SomeOutcome.{move_may, is_none, asks, asks_for, is_up, mover_there, named, named_with_bit, window_fits}
-use Rattle.plain_packets.specs.Sent.{Appends, wire_at}
+use Rattle.plain_packets.specs.Sent.{Appends, wire_at, kept_wire}
+use Rattle.plain_packets.proofs.Kept.{can_be_kept}
 use Rattle.plain_packets.proofs.Sent.{wire_numbered, appends_same}
 use Rattle.plain_world.specs.Served.{IsServedNode}
 use Rattle.plain_world.specs.NodeTurns.{SendsBy}
@@ -46,15 +48,15 @@ may_start false true e = none_is_some why.Boot (sym e)
 may_start false false e = (refl, refl)
 
 -- the wire with a packet's number is the packet's
-wire_named : (wires : List Wire) (packets : List Packet) (number : ℕ) (wire : Wire) (packet : Packet) → Some wire ≡ wire_at wires number → wires ≡ map wire_of packets
-    → packet_at packets number ≡ Some packet → wire ≡ wire_of packet
+wire_named : (wires : List Wire) (packets : List Packet) (number : ℕ) (wire : Wire) (packet : Packet) → Some wire ≡ wire_at wires number → wires ≡ map kept_wire packets
+    → packet_at packets number ≡ Some packet → wire ≡ kept_wire packet
 wire_named wires packets number wire packet at is e =
-    some_is wire (wire_of packet) (at ∙ ap (λ ws. wire_at ws number) is ∙ wire_numbered packets number ∙ ap (option_map wire_of) e)
+    some_is wire (kept_wire packet) (at ∙ ap (λ ws. wire_at ws number) is ∙ wire_numbered packets number ∙ ap (option_map kept_wire) e)
 
-none_named : (wires : List Wire) (packets : List Packet) (number : ℕ) (packet : Packet) → None ≡ wire_at wires number → wires ≡ map wire_of packets
+none_named : (wires : List Wire) (packets : List Packet) (number : ℕ) (packet : Packet) → None ≡ wire_at wires number → wires ≡ map kept_wire packets
     → packet_at packets number ≡ Some packet → ⊥
 none_named wires packets number packet at is e =
-    none_is_some (wire_of packet) (at ∙ ap (λ ws. wire_at ws number) is ∙ wire_numbered packets number ∙ ap (option_map wire_of) e)
+    none_is_some (kept_wire packet) (at ∙ ap (λ ws. wire_at ws number) is ∙ wire_numbered packets number ∙ ap (option_map kept_wire) e)
 
 -- no packet that was sent fences
 passes : (w : World) → Premises w → (number : ℕ) (packet : Packet) → packet_at w.packets number ≡ Some packet → PassesBy packet w.node
@@ -90,7 +92,7 @@ module _ {State : Type 0} where
 module _ {State : Type 0} (service : ℕ → Machine State) (before after : WorldState State) where
   -- nothing changes where the event isn't allowed
   pub rests : (event : Event) → after ≡ before → IsServedUp service before.node
-      → ((packets : List Packet) → before.packets ≡ map wire_of packets → refusal (world_of before packets) event ≡ None → ⊥) → Does service event before after
+      → ((packets : List Packet) → before.packets ≡ map kept_wire packets → refusal (world_of before packets) event ≡ None → ⊥) → Does service event before after
   rests event same served never = record {
     kind = ap (λ w. w.kind) same;
     turns = ap (λ w. w.turns) same;
@@ -113,7 +115,7 @@ module _ {State : Type 0} (service : ℕ → Machine State) (before after : Worl
   pub nothing_flipped : (number bit : ℕ) → after ≡ before → IsServedUp service before.node → None ≡ wire_at before.packets number → Does service (Flip number bit) before after
   nothing_flipped number bit same served none =
       rests (Flip number bit) same served
-      (λ packets is free. let p = named_with_bit (packet_at packets number) bit free in none_named before.packets packets number p.0 none is p.1)
+      (λ packets is free. let p = named_with_bit (grammar_of before.profile) (packet_at packets number) bit free in none_named before.packets packets number p.0 none is p.1)
 
   -- a packet is delivered
   pub delivers : (number : ℕ) (wire : Wire) (sent : List Wire) → Some wire ≡ wire_at before.packets number → Keeps before after → after.boot ≡ before.boot
@@ -128,7 +130,7 @@ module _ {State : Type 0} (service : ℕ → Machine State) (before after : Worl
         let w : World = world_of before packets in
         let p = named (packet_at packets number) why.Packet free in
         let s = brings.reaches before.kind before.server before.profile before.boot packets p.0 of (wire_named before.packets packets number wire p.0 at is p.1)
-        (all_sent HasWire w p.0 premises.wires (number, p.1)) (passes w premises number p.0 p.1) in
+        (can_be_kept (grammar_of w.profile) p.0 (all_sent (HasWireBy (grammar_of w.profile)) w p.0 premises.wires (number, p.1))) (passes w premises number p.0 p.1) in
         follows (Advances (service before.kind) (Deliver number) w after) before.packets after.packets sent follow
         (record {
           sent = s.sent;
@@ -151,9 +153,9 @@ module _ {State : Type 0} (service : ℕ → Machine State) (before after : Worl
     few = brings.ready.few;
     advances = λ packets of is premises free fits.
         let w : World = world_of before packets in
-        let p = named_with_bit (packet_at packets number) bit free in
+        let p = named_with_bit (grammar_of before.profile) (packet_at packets number) bit free in
         let s = brings.reaches before.kind before.server before.profile before.boot packets p.0 bit of (wire_named before.packets packets number wire p.0 at is p.1)
-        (all_sent HasWire w p.0 premises.wires (number, p.1)) p.2 in
+        (all_sent (HasWireBy (grammar_of w.profile)) w p.0 premises.wires (number, p.1)) p.2 in
         follows (Advances (service before.kind) (Flip number bit) w after) before.packets after.packets sent follow
         (record {
           sent = s.sent;

@@ -6,9 +6,10 @@ use Rattle.std.proofs.lemmas.Bool.{false≢true, and_parts}
 use Rattle.ft_io.proofs.Choices.{some_if}
 use Rattle.seq_arith.specs.Message.{Body}
 use Rattle.seq_arith.specs.Message.Body.{EntryMsg, PartMsg, LensMsg}
-use Rattle.seq_arith.specs.MessageGrammar.{lens_of, is_sound}
+use Rattle.seq_arith.specs.declared.kinds.Grammar.{Grammar}
+use Rattle.seq_arith.specs.MessageGrammar.{lens_of, is_sound_by}
 use Rattle.logger_wire.specs.declared.Msg.{Msg}
-use Rattle.logger_wire.specs.Value.{body_of, IsSendable}
+use Rattle.logger_wire.specs.Value.{body_of, IsSendableBy}
 use Rattle.ft_model.specs.Restart.{Fetched, Wanted, wanted, next_entry, fetched_by, fetched_after, is_whole, lacks_read_bytes, lacks_lengths, lacks_bytes}
 use Rattle.ft_model.specs.Restart.Wanted.{An_entry, Its_bytes, Its_lengths}
 use Rattle.ft_model.proofs.Lists.{none_is_some, some_is}
@@ -16,9 +17,9 @@ use Rattle.plain_log.specs.Values.{IsTakenAs}
 use Rattle.plain_world.specs.Served.{AreWhole, IsFetchedOf}
 
 -- no length of a read is longer than a message may bring
-pub lens_are_short : (msg : Msg) → IsSendable msg → list_all (λ len. nat_le len 2048) (lens_of (body_of msg.body)) ≡ true
-unfolding is_sound
-lens_are_short msg s = (and_parts _ _ s.spellable.sound).1
+pub lens_are_short : {grammar : Grammar} (msg : Msg) → IsSendableBy grammar msg → list_all (λ len. nat_le len 2048) (lens_of (body_of msg.body)) ≡ true
+unfolding is_sound_by
+lens_are_short {grammar} msg s = (and_parts _ _ s.spellable.sound).1
 
 is_entry : Wanted → Bool
 is_entry (An_entry index) = true

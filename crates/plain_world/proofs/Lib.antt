@@ -1,3 +1,4 @@
+pub mod Refusing
 pub mod Distinct
 pub mod Reaching
 pub mod Events

@@ -9,11 +9,13 @@ use Rattle.seq_arith.specs.MessageGrammar as messages
 use Rattle.seq_arith.specs.Damage.{flipped}
 use Rattle.seq_arith.specs.declared.BadPacket.{BadPacket}
 use Rattle.seq_arith.specs.declared.kinds.BadMsg.{BadMsg}
+use Rattle.seq_arith.specs.declared.kinds.Grammar.{Grammar}
+use Rattle.seq_arith.specs.declared.kinds.Grammar.TheVariants.{Wide}
 use Rattle.seq_arith.proofs.Spelling.{spelling_is_read}
 use Rattle.seq_arith.proofs.MessageSpelling.{message_is_read}
-use Rattle.seq_arith.proofs.Refused.{flipped_packet_is_refused, flipped_message_is_refused}
+use Rattle.seq_arith.proofs.Refused.{flipped_packet_is_refused, flipped_is_refused_by}
 use Rattle.server_trait.specs.Service.{Machine}
-use Rattle.tcp_rules.specs.Profile.{Profile}
+use Rattle.tcp_rules.specs.Profile.{Profile, grammar_of}
 use Rattle.ft_model.specs.Client.{Client, received}
 use Rattle.ft_model.specs.Lawful.{fence}
 use Rattle.ft_model.specs.Log.{Log, log_after, answer_to}
@@ -21,10 +23,10 @@ use Rattle.ft_model.specs.Network.{Packet, source_of, destination_of}
 use Rattle.ft_model.specs.Network.Packet.{To_server, To_client, To_logger, From_logger}
 use Rattle.ft_model.specs.Node.{Input}
 use Rattle.ft_model.specs.Node.Input.{Packet_comes, Message_comes, Noise_comes}
-use Rattle.ft_model.specs.Wire.{Wire, wire_of, HasWire, CanBeSent, CanBeTold}
+use Rattle.ft_model.specs.Wire.{Wire, wire_by, HasWireBy, CanBeSent, CanBeToldBy}
 use Rattle.ft_model.specs.Wire.Party.{A_client, The_server, The_logger}
 use Rattle.ft_model.specs.World.{World, ServerTurn, ServerMoves, ClientReads, LogReads, Delivered, DeliveredAs, Flipped, segment_or_noise, message_or_noise, with_client}
-use Rattle.plain_packets.specs.Sent.{Appends}
+use Rattle.plain_packets.specs.Sent.{Appends, kept_wire, CanBeKept}
 use Rattle.plain_packets.proofs.Sent.{appends_same}
 use Rattle.plain_world.specs.NodeTurns.{SendsBy}
 use Rattle.plain_world.specs.Values.{NodeState, node_in}
@@ -33,30 +35,30 @@ use Rattle.plain_world.specs.Turns.{StaysReady, Serves, Brings, BringsFlipped}
 use Rattle.plain_world.specs.WorldState.{ActorsState, node_of, world_with, OfKind, IsServedUp}
 
 -- whose sender is a client is a segment to the server
-sent_by_client : (P : Packet → Type 0) (wire : Wire) (key : Key) (packet : Packet) → A_client key ≡ wire.from → wire ≡ wire_of packet
-    → ((s : Segment) → wire ≡ wire_of (To_server s) → P (To_server s)) → P packet
+sent_by_client : (P : Packet → Type 0) (wire : Wire) (key : Key) (packet : Packet) → A_client key ≡ wire.from → wire ≡ kept_wire packet
+    → ((s : Segment) → wire ≡ kept_wire (To_server s) → P (To_server s)) → P packet
 sent_by_client P wire key (To_server s) from is f = f s is
 sent_by_client P wire key (To_client s) from is f = let e : A_client key ≡ The_server = from ∙ ap (λ w. w.from) is in absurd (cc)
 sent_by_client P wire key (To_logger m) from is f = let e : A_client key ≡ The_server = from ∙ ap (λ w. w.from) is in absurd (cc)
 sent_by_client P wire key (From_logger m) from is f = let e : A_client key ≡ The_logger = from ∙ ap (λ w. w.from) is in absurd (cc)
 
 -- whose receiver is a client is a segment to it
-goes_to_client : (P : Packet → Type 0) (wire : Wire) (key : Key) (packet : Packet) → A_client key ≡ wire.to → wire ≡ wire_of packet
-    → ((s : Segment) → wire ≡ wire_of (To_client s) → P (To_client s)) → P packet
+goes_to_client : (P : Packet → Type 0) (wire : Wire) (key : Key) (packet : Packet) → A_client key ≡ wire.to → wire ≡ kept_wire packet
+    → ((s : Segment) → wire ≡ kept_wire (To_client s) → P (To_client s)) → P packet
 goes_to_client P wire key (To_server s) to is f = let e : A_client key ≡ The_server = to ∙ ap (λ w. w.to) is in absurd (cc)
 goes_to_client P wire key (To_client s) to is f = f s is
 goes_to_client P wire key (To_logger m) to is f = let e : A_client key ≡ The_logger = to ∙ ap (λ w. w.to) is in absurd (cc)
 goes_to_client P wire key (From_logger m) to is f = let e : A_client key ≡ The_server = to ∙ ap (λ w. w.to) is in absurd (cc)
 
-goes_to_logger : (P : Packet → Type 0) (wire : Wire) (packet : Packet) → The_logger ≡ wire.to → wire ≡ wire_of packet
-    → ((m : Message) → wire ≡ wire_of (To_logger m) → P (To_logger m)) → P packet
+goes_to_logger : (P : Packet → Type 0) (wire : Wire) (packet : Packet) → The_logger ≡ wire.to → wire ≡ kept_wire packet
+    → ((m : Message) → wire ≡ kept_wire (To_logger m) → P (To_logger m)) → P packet
 goes_to_logger P wire (To_server s) to is f = let e : The_logger ≡ The_server = to ∙ ap (λ w. w.to) is in absurd (cc)
 goes_to_logger P wire (To_client s) to is f = let e : The_logger ≡ A_client (destination_of s) = to ∙ ap (λ w. w.to) is in absurd (cc)
 goes_to_logger P wire (To_logger m) to is f = f m is
 goes_to_logger P wire (From_logger m) to is f = let e : The_logger ≡ The_server = to ∙ ap (λ w. w.to) is in absurd (cc)
 
-sent_by_logger : (P : Packet → Type 0) (wire : Wire) (packet : Packet) → The_logger ≡ wire.from → wire ≡ wire_of packet
-    → ((m : Message) → wire ≡ wire_of (From_logger m) → P (From_logger m)) → P packet
+sent_by_logger : (P : Packet → Type 0) (wire : Wire) (packet : Packet) → The_logger ≡ wire.from → wire ≡ kept_wire packet
+    → ((m : Message) → wire ≡ kept_wire (From_logger m) → P (From_logger m)) → P packet
 sent_by_logger P wire (To_server s) from is f = let e : The_logger ≡ A_client (source_of s) = from ∙ ap (λ w. w.from) is in absurd (cc)
 sent_by_logger P wire (To_client s) from is f = let e : The_logger ≡ The_server = from ∙ ap (λ w. w.from) is in absurd (cc)
 sent_by_logger P wire (To_logger m) from is f = let e : The_logger ≡ The_server = from ∙ ap (λ w. w.from) is in absurd (cc)
@@ -72,8 +74,8 @@ ok_message x y e = cc
 segment_read : (wire : Wire) (segment s : Segment) → segments.reading wire.bytes ≡ Ok segment → wire.bytes ≡ segments.spelling s → CanBeSent s → segment ≡ s
 segment_read wire segment s read is can = ok_segment segment s (sym read ∙ ap segments.reading is ∙ spelling_is_read s can.0)
 
-message_read : (wire : Wire) (message m : Message) → messages.reading wire.bytes ≡ Ok message → wire.bytes ≡ messages.spelling m → CanBeTold m → message ≡ m
-message_read wire message m read is can = ok_message message m (sym read ∙ ap messages.reading is ∙ message_is_read m can.0)
+message_read : (wire : Wire) (message m : Message) → messages.reading_by Wide wire.bytes ≡ Ok message → wire.bytes ≡ messages.spelling_by Wide m → CanBeToldBy Wide m → message ≡ m
+message_read wire message m read is can = ok_message message m (sym read ∙ ap (messages.reading_by Wide) is ∙ message_is_read m can.0)
 
 -- the world in which only these are other
 others_stay : {State : Type 0} (server : Addr) (profile : Profile) (boot : ℕ) (ps : List Packet) (before after : ActorsState State) → after.clients ≡ before.clients → after.log ≡ before.log
@@ -111,7 +113,7 @@ module _ {State : Type 0} (service : ℕ → Machine State) (wire : Wire) (befor
     ready = serves.ready;
     reaches = λ kind server profile boot packets packet of is can passes.
         sent_by_client
-        (λ p. HasWire p → PassesBy p (node_of before.node) → SendsBy (λ sent. Delivered (service kind) (world_with server profile boot packets before) p sent (world_with server profile boot (packets ++ sent) after)) old new)
+        (λ p. CanBeKept p → PassesBy p (node_of before.node) → SendsBy (λ sent. Delivered (service kind) (world_with server profile boot packets before) p sent (world_with server profile boot (packets ++ sent) after)) old new)
         wire key packet from is
         (λ s same sendable free.
         let e : segment ≡ s = segment_read wire segment s read (ap (λ w. w.bytes) same) sendable in
@@ -120,13 +122,13 @@ module _ {State : Type 0} (service : ℕ → Machine State) (wire : Wire) (befor
         can passes;
   }
 
-  pub from_logger : (message : Message) → The_logger ≡ wire.from → messages.reading wire.bytes ≡ Ok message → after.clients ≡ before.clients → after.log ≡ before.log
+  pub from_logger : (message : Message) → The_logger ≡ wire.from → messages.reading_by Wide wire.bytes ≡ Ok message → after.clients ≡ before.clients → after.log ≡ before.log
       → Serves service (Message_comes message) before.node after.node old new → Brings service wire before after old new
   from_logger message from read clients log serves = record {
     ready = serves.ready;
     reaches = λ kind server profile boot packets packet of is can passes.
         sent_by_logger
-        (λ p. HasWire p → PassesBy p (node_of before.node) → SendsBy (λ sent. Delivered (service kind) (world_with server profile boot packets before) p sent (world_with server profile boot (packets ++ sent) after)) old new)
+        (λ p. CanBeKept p → PassesBy p (node_of before.node) → SendsBy (λ sent. Delivered (service kind) (world_with server profile boot packets before) p sent (world_with server profile boot (packets ++ sent) after)) old new)
         wire packet from is
         (λ m same sendable free.
         let e : message ≡ m = message_read wire message m read (ap (λ w. w.bytes) same) sendable in
@@ -140,7 +142,7 @@ module _ {State : Type 0} (service : ℕ → Machine State) (wire : Wire) (befor
   to_client key segment to read clients log node served same = record {
     ready = stays_ready service before.node after.node node served;
     reaches = λ kind server profile boot packets packet of is can passes.
-        goes_to_client (λ p. HasWire p → SendsBy (λ sent. Delivered (service kind) (world_with server profile boot packets before) p sent (world_with server profile boot (packets ++ sent) after)) old new) wire key packet to is
+        goes_to_client (λ p. CanBeKept p → SendsBy (λ sent. Delivered (service kind) (world_with server profile boot packets before) p sent (world_with server profile boot (packets ++ sent) after)) old new) wire key packet to is
         (λ s here sendable.
         let e : segment ≡ s = segment_read wire segment s read (ap (λ w. w.bytes) here) sendable in
         let whose : A_client key ≡ A_client (destination_of s) = to ∙ ap (λ w. w.to) here in
@@ -160,12 +162,12 @@ module _ {State : Type 0} (service : ℕ → Machine State) (wire : Wire) (befor
           ap₂ (λ xs y. let w : World = record { server = server; profile = profile; clients = xs; log = y; packets = ps; boot = boot; node = node_of after.node } in w) c l
           ∙ ap (λ z. let w : World = record { server = server; profile = profile; clients = cs; log = before.log; packets = ps; boot = boot; node = z } in w) n
 
-  pub to_logger : (message : Message) → The_logger ≡ wire.to → messages.reading wire.bytes ≡ Ok message → after.log ≡ log_after before.log message → after.clients ≡ before.clients
+  pub to_logger : (message : Message) → The_logger ≡ wire.to → messages.reading_by Wide wire.bytes ≡ Ok message → after.log ≡ log_after before.log message → after.clients ≡ before.clients
       → after.node ≡ before.node → IsServedUp service before.node → Appends old new (option_to_list (option_map From_logger (answer_to before.log message))) → Brings service wire before after old new
   to_logger message to read log clients node served answers = record {
     ready = stays_ready service before.node after.node node served;
     reaches = λ kind server profile boot packets packet of is can passes.
-        goes_to_logger (λ p. HasWire p → SendsBy (λ sent. Delivered (service kind) (world_with server profile boot packets before) p sent (world_with server profile boot (packets ++ sent) after)) old new) wire packet to is
+        goes_to_logger (λ p. CanBeKept p → SendsBy (λ sent. Delivered (service kind) (world_with server profile boot packets before) p sent (world_with server profile boot (packets ++ sent) after)) old new) wire packet to is
         (λ m here sendable.
         let e : message ≡ m = message_read wire message m read (ap (λ w. w.bytes) here) sendable in
         record {
@@ -183,7 +185,7 @@ module _ {State : Type 0} (service : ℕ → Machine State) (wire : Wire) (befor
           ∙ ap (λ z. let w : World = record { server = server; profile = profile; clients = before.clients; log = l; packets = ps; boot = boot; node = z } in w) n
 
   -- what can't be read was never sent
-  never : ((packet : Packet) → wire ≡ wire_of packet → HasWire packet → ⊥) → after ≡ before → IsServedUp service before.node → Brings service wire before after old new
+  never : ((packet : Packet) → wire ≡ kept_wire packet → CanBeKept packet → ⊥) → after ≡ before → IsServedUp service before.node → Brings service wire before after old new
   never out same served = record {
     ready = stays_ready service before.node after.node (ap (λ a. a.node) same) served;
     reaches = λ kind server profile boot packets packet of is can passes. absurd (out packet is can);
@@ -192,26 +194,26 @@ module _ {State : Type 0} (service : ℕ → Machine State) (wire : Wire) (befor
   pub no_segment_from : (key : Key) (bad : BadPacket) → A_client key ≡ wire.from → segments.reading wire.bytes ≡ Err bad → after ≡ before → IsServedUp service before.node
       → Brings service wire before after old new
   no_segment_from key bad from read same served =
-      never (λ packet is can. sent_by_client (λ p. HasWire p → ⊥) wire key packet from is
+      never (λ packet is can. sent_by_client (λ p. CanBeKept p → ⊥) wire key packet from is
       (λ s here sendable. let e : ◌≡◌ {A = Result Segment BadPacket} (Err bad) (Ok s) = sym read ∙ ap (λ w. segments.reading w.bytes) here ∙ spelling_is_read s sendable.0 in absurd (cc)) can) same served
 
   pub no_segment_to : (key : Key) (bad : BadPacket) → A_client key ≡ wire.to → segments.reading wire.bytes ≡ Err bad → after ≡ before → IsServedUp service before.node
       → Brings service wire before after old new
   no_segment_to key bad to read same served =
-      never (λ packet is can. goes_to_client (λ p. HasWire p → ⊥) wire key packet to is
+      never (λ packet is can. goes_to_client (λ p. CanBeKept p → ⊥) wire key packet to is
       (λ s here sendable. let e : ◌≡◌ {A = Result Segment BadPacket} (Err bad) (Ok s) = sym read ∙ ap (λ w. segments.reading w.bytes) here ∙ spelling_is_read s sendable.0 in absurd (cc)) can) same served
 
-  pub no_message_from : (bad : BadMsg) → The_logger ≡ wire.from → messages.reading wire.bytes ≡ Err bad → after ≡ before → IsServedUp service before.node
+  pub no_message_from : (bad : BadMsg) → The_logger ≡ wire.from → messages.reading_by Wide wire.bytes ≡ Err bad → after ≡ before → IsServedUp service before.node
       → Brings service wire before after old new
   no_message_from bad from read same served =
-      never (λ packet is can. sent_by_logger (λ p. HasWire p → ⊥) wire packet from is
-      (λ m here sendable. let e : ◌≡◌ {A = Result Message BadMsg} (Err bad) (Ok m) = sym read ∙ ap (λ w. messages.reading w.bytes) here ∙ message_is_read m sendable.0 in absurd (cc)) can) same served
+      never (λ packet is can. sent_by_logger (λ p. CanBeKept p → ⊥) wire packet from is
+      (λ m here sendable. let e : ◌≡◌ {A = Result Message BadMsg} (Err bad) (Ok m) = sym read ∙ ap (λ w. messages.reading_by Wide w.bytes) here ∙ message_is_read m sendable.0 in absurd (cc)) can) same served
 
-  pub no_message_to : (bad : BadMsg) → The_logger ≡ wire.to → messages.reading wire.bytes ≡ Err bad → after ≡ before → IsServedUp service before.node
+  pub no_message_to : (bad : BadMsg) → The_logger ≡ wire.to → messages.reading_by Wide wire.bytes ≡ Err bad → after ≡ before → IsServedUp service before.node
       → Brings service wire before after old new
   no_message_to bad to read same served =
-      never (λ packet is can. goes_to_logger (λ p. HasWire p → ⊥) wire packet to is
-      (λ m here sendable. let e : ◌≡◌ {A = Result Message BadMsg} (Err bad) (Ok m) = sym read ∙ ap (λ w. messages.reading w.bytes) here ∙ message_is_read m sendable.0 in absurd (cc)) can) same served
+      never (λ packet is can. goes_to_logger (λ p. CanBeKept p → ⊥) wire packet to is
+      (λ m here sendable. let e : ◌≡◌ {A = Result Message BadMsg} (Err bad) (Ok m) = sym read ∙ ap (λ w. messages.reading_by Wide w.bytes) here ∙ message_is_read m sendable.0 in absurd (cc)) can) same served
 
   -- With a changed bit: nothing can be read
   segment_is_noise : (r : Result Segment BadPacket) → IsErr r → segment_or_noise r ≡ Noise_comes
@@ -225,11 +227,13 @@ module _ {State : Type 0} (service : ℕ → Machine State) (wire : Wire) (befor
   segment_lost : (s : Segment) (bit : ℕ) → CanBeSent s → bit < 8 * length (segments.spelling s) → IsErr (segments.reading (flipped bit (segments.spelling s)))
   segment_lost s bit can within = flipped_packet_is_refused bit (segments.spelling s) s (spelling_is_read s can.0) within
 
-  message_lost : (m : Message) (bit : ℕ) → CanBeTold m → bit < 8 * length (messages.spelling m) → IsErr (messages.reading (flipped bit (messages.spelling m)))
-  message_lost m bit can within = flipped_message_is_refused bit (messages.spelling m) m (message_is_read m can.0) within
+  message_lost : (grammar : Grammar) (m : Message) (bit : ℕ) → CanBeToldBy grammar m → bit < 8 * length (messages.spelling_by grammar m)
+      → IsErr (messages.reading_by grammar (flipped bit (messages.spelling_by grammar m)))
+  message_lost grammar m bit can within = flipped_is_refused_by grammar bit (messages.spelling_by grammar m) m (message_is_read m can.0) within
 
-  flips_so : (kind : ℕ) (server : Addr) (profile : Profile) (boot : ℕ) (packets : List Packet) (packet : Packet) (bit : ℕ) → HasWire packet → bit < 8 * length (wire_of packet).bytes
-      → SendsBy (λ sent. DeliveredAs (service kind) (world_with server profile boot packets before) packet (flipped bit (wire_of packet).bytes) sent (world_with server profile boot (packets ++ sent) after)) old new
+  flips_so : (kind : ℕ) (server : Addr) (profile : Profile) (boot : ℕ) (packets : List Packet) (packet : Packet) (bit : ℕ)
+      → HasWireBy (grammar_of profile) packet → bit < 8 * length (wire_by (grammar_of profile) packet).bytes
+      → SendsBy (λ sent. DeliveredAs (service kind) (world_with server profile boot packets before) packet (flipped bit (wire_by (grammar_of profile) packet).bytes) sent (world_with server profile boot (packets ++ sent) after)) old new
       → SendsBy (λ sent. Flipped (service kind) (world_with server profile boot packets before) packet bit sent (world_with server profile boot (packets ++ sent) after)) old new
   flips_so kind server profile boot packets packet bit can within s = record { sent = s.sent; lawful = record { wire = can; within = within; comes = s.lawful }; packets = s.packets }
 
@@ -246,7 +250,7 @@ module _ {State : Type 0} (service : ℕ → Machine State) (wire : Wire) (befor
     ready = serves.ready;
     reaches = λ kind server profile boot packets packet bit of is can within.
         sent_by_client
-        (λ p. HasWire p → bit < 8 * length (wire_of p).bytes → SendsBy (λ sent. Flipped (service kind) (world_with server profile boot packets before) p bit sent (world_with server profile boot (packets ++ sent) after)) old new)
+        (λ p. HasWireBy (grammar_of profile) p → bit < 8 * length (wire_by (grammar_of profile) p).bytes → SendsBy (λ sent. Flipped (service kind) (world_with server profile boot packets before) p bit sent (world_with server profile boot (packets ++ sent) after)) old new)
         wire key packet from is
         (λ s here sendable inside.
         flips_so kind server profile boot packets (To_server s) bit sendable inside
@@ -260,11 +264,11 @@ module _ {State : Type 0} (service : ℕ → Machine State) (wire : Wire) (befor
     ready = serves.ready;
     reaches = λ kind server profile boot packets packet bit of is can within.
         sent_by_logger
-        (λ p. HasWire p → bit < 8 * length (wire_of p).bytes → SendsBy (λ sent. Flipped (service kind) (world_with server profile boot packets before) p bit sent (world_with server profile boot (packets ++ sent) after)) old new)
+        (λ p. HasWireBy (grammar_of profile) p → bit < 8 * length (wire_by (grammar_of profile) p).bytes → SendsBy (λ sent. Flipped (service kind) (world_with server profile boot packets before) p bit sent (world_with server profile boot (packets ++ sent) after)) old new)
         wire packet from is
         (λ m here sendable inside.
         flips_so kind server profile boot packets (From_logger m) bit sendable inside
-        (noise_moves kind server profile boot packets (message_or_noise (messages.reading (flipped bit (messages.spelling m)))) (message_is_noise _ (message_lost m bit sendable inside)) clients log of serves))
+        (noise_moves kind server profile boot packets (message_or_noise (messages.reading_by (grammar_of profile) (flipped bit (messages.spelling_by (grammar_of profile) m)))) (message_is_noise _ (message_lost (grammar_of profile) m bit sendable inside)) clients log of serves))
         can within;
   }
 
@@ -283,7 +287,7 @@ module _ {State : Type 0} (service : ℕ → Machine State) (wire : Wire) (befor
     ready = stays_ready service before.node after.node (ap (λ a. a.node) same) served;
     reaches = λ kind server profile boot packets packet bit of is can within.
         goes_to_client
-        (λ p. HasWire p → bit < 8 * length (wire_of p).bytes → SendsBy (λ sent. Flipped (service kind) (world_with server profile boot packets before) p bit sent (world_with server profile boot (packets ++ sent) after)) old new)
+        (λ p. HasWireBy (grammar_of profile) p → bit < 8 * length (wire_by (grammar_of profile) p).bytes → SendsBy (λ sent. Flipped (service kind) (world_with server profile boot packets before) p bit sent (world_with server profile boot (packets ++ sent) after)) old new)
         wire key packet to is
         (λ s here sendable inside.
         flips_so kind server profile boot packets (To_client s) bit sendable inside
@@ -296,10 +300,10 @@ module _ {State : Type 0} (service : ℕ → Machine State) (wire : Wire) (befor
     ready = stays_ready service before.node after.node (ap (λ a. a.node) same) served;
     reaches = λ kind server profile boot packets packet bit of is can within.
         goes_to_logger
-        (λ p. HasWire p → bit < 8 * length (wire_of p).bytes → SendsBy (λ sent. Flipped (service kind) (world_with server profile boot packets before) p bit sent (world_with server profile boot (packets ++ sent) after)) old new)
+        (λ p. HasWireBy (grammar_of profile) p → bit < 8 * length (wire_by (grammar_of profile) p).bytes → SendsBy (λ sent. Flipped (service kind) (world_with server profile boot packets before) p bit sent (world_with server profile boot (packets ++ sent) after)) old new)
         wire packet to is
         (λ m here sendable inside.
         flips_so kind server profile boot packets (To_logger m) bit sendable inside
-        (record { sent = []; lawful = log_lost kind server profile boot packets _ (message_lost m bit sendable inside) same; packets = appends_same old new quiet }))
+        (record { sent = []; lawful = log_lost kind server profile boot packets _ (message_lost (grammar_of profile) m bit sendable inside) same; packets = appends_same old new quiet }))
         can within;
   }

@@ -3,6 +3,7 @@ use Rattle.std.proofs.Common.{◌≡◌, ◌∙◌, sym, ap, ap₂, subst, refl,
 use Rattle.std.specs.List.{AllByRecursion}
 use Rattle.std.proofs.lemmas.List.{map-append}
 use Rattle.server_trait.specs.Service.{Machine}
+use Rattle.tcp_rules.specs.Profile.{grammar_of}
 use Rattle.tcp_rules.specs.Profiles.{profile_of}
 use Rattle.ft_model.specs.Image.{HasWires}
 use Rattle.ft_model.specs.Lawful.{fence}
@@ -12,10 +13,12 @@ use Rattle.ft_model.specs.Network.{Packet}
 use Rattle.ft_model.specs.Node.{Node, Input}
 use Rattle.ft_model.specs.Readable.{FitsEvent}
 use Rattle.ft_model.specs.Schedule.{kind_of, clients_of}
-use Rattle.ft_model.specs.Wire.{wire_of, HasWire}
+use Rattle.ft_model.specs.Wire.{HasWireBy}
 use Rattle.ft_model.specs.World.{World, Moment, MayCome, Happens, Joint, IsStart, world_after}
 use Rattle.ft_model.specs.declared.event.Event.{Event}
 use Rattle.ft_model.specs.declared.schedule.Schedule.{Schedule}
+use Rattle.plain_packets.specs.Sent.{kept_wire, CanBeKept}
+use Rattle.plain_packets.proofs.Kept.{all_kept}
 use Rattle.plain_world.specs.Premises.{Premises}
 use Rattle.plain_world.specs.Turns.{Does}
 use Rattle.plain_world.specs.WorldState.{WorldState, world_of, Represents, OfKind, IsReady, IsServedUp, IsAt, Steps, opened_of}
@@ -23,8 +26,9 @@ use Rattle.plain_world.proofs.Distinct.{distinct_after}
 
 -- the laws of every joint trace
 pub record AreLaws {State : Type 0} (service : ℕ → Machine State) : Type 0 where
-  pub sent : (kind : ℕ) (start : World) (trace : List Moment) → Joint (service kind) start trace → AllByRecursion HasWires trace
-  pub all : (kind : ℕ) (start : World) (trace : List Moment) → Joint (service kind) start trace → AllByRecursion HasWire (world_after start trace).packets
+  pub sent : (kind : ℕ) (start : World) (trace : List Moment) → Joint (service kind) start trace → AllByRecursion (HasWires (grammar_of start.profile)) trace
+  pub all : (kind : ℕ) (start : World) (trace : List Moment) → Joint (service kind) start trace
+      → AllByRecursion (HasWireBy (grammar_of (world_after start trace).profile)) (world_after start trace).packets
   pub unfenced : (kind : ℕ) (start : World) (trace : List Moment) (node : Node) (input : Input) → Joint (service kind) start trace
       → (world_after start trace).node ≡ Some node → MayCome (world_after start trace) input → fence node input ≡ None
 
@@ -38,7 +42,7 @@ same_world state w r =
 
 module _ {State : Type 0} (service : ℕ → Machine State) where
   -- why an event may not happen is seen in the plain world
-  pub refusal_seen : (state : WorldState State) (event : Event) (o : Option _) → ((packets : List Packet) → state.packets ≡ map wire_of packets → o ≡ refusal (world_of state packets) event)
+  pub refusal_seen : (state : WorldState State) (event : Event) (o : Option _) → ((packets : List Packet) → state.packets ≡ map kept_wire packets → o ≡ refusal (world_of state packets) event)
       → (schedule : Schedule) (trace : List Moment) → IsAt service schedule trace state → o ≡ refusal (world_after (start_of schedule) trace) event
   refusal_seen state event o seen schedule trace at =
       let w : World = world_after (start_of schedule) trace in
@@ -65,8 +69,8 @@ module _ {State : Type 0} (service : ℕ → Machine State) where
       subst (λ x. Happens (service kind) x event s.sent next) same (subst (λ k. Happens (service k) (world_of before w.packets) event s.sent next) at.kind s.lawful.happens) in
       let moment : Moment = record { event = event; sent = s.sent; world = next } in
       let joint : Joint (service kind) (start_of schedule) (moment ∷ trace) = (at.legal.joint, happens) in
-      let wires : AllByRecursion HasWire s.sent = (laws.sent kind (start_of schedule) (moment ∷ trace) joint).0 in
-      let grown : acted.packets ≡ before.packets ++ map wire_of s.sent = s.packets.follow wires in
+      let wires : AllByRecursion CanBeKept s.sent = all_kept _ s.sent (laws.sent kind (start_of schedule) (moment ∷ trace) joint).0 in
+      let grown : acted.packets ≡ before.packets ++ map kept_wire s.sent = s.packets.follow wires in
       let few : opened_of acted.node ≤ max 65535 (opened_of before.node + 1) = does.few in
       let low : opened_of before.node ≤ 65535 + before.turns = at.ready.few in
       let turns : acted.turns ≡ before.turns = does.turns in
@@ -84,7 +88,7 @@ module _ {State : Type 0} (service : ℕ → Machine State) where
             profile = ap (λ x. x.profile) now;
             clients = ap (λ x. x.clients) now;
             log = ap (λ x. x.log) now;
-            packets = ap (λ x. x.packets) now ∙ grown ∙ ap (λ ws. ws ++ map wire_of s.sent) at.represents.packets ∙ sym (map-append wire_of w.packets s.sent);
+            packets = ap (λ x. x.packets) now ∙ grown ∙ ap (λ ws. ws ++ map kept_wire s.sent) at.represents.packets ∙ sym (map-append kept_wire w.packets s.sent);
             boot = ap (λ x. x.boot) now;
             node = ap (λ x. (world_of x []).node) now;
           };

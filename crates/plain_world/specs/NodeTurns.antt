@@ -23,7 +23,8 @@ pub record TakesNodeTurn {S : Type 0} (service : Machine S) (before : Node) (inp
   pub packets : Appends old new sent
 
 -- one place among others takes its turn: it stays where it is, or is gone. The next one is then at `next`
-pub record OneGoes {S : Type 0} (service : Machine S) (node : Node) (input : Input) (at next : ℕ) (before after : List (PlainPlace S)) (old new : List Wire) : Type 0 where
+pub record OneGoes {S : Type 0} (service : Machine S) (node : Node) (input : Input) (at next : ℕ) (before after : List (PlainPlace S))
+    (old new : List Wire) : Type 0 where
   pub place : PlainPlace S
   pub earlier : List (PlainPlace S)
   pub now : List (PlainPlace S)
@@ -35,7 +36,8 @@ pub record OneGoes {S : Type 0} (service : Machine S) (node : Node) (input : Inp
   pub goes : SendsBy (PlaceTurn service node input (place_in place) (places_in now)) old new
 
 -- the first places have taken their turns, and the others are unchanged
-pub record FirstGo {S : Type 0} (service : Machine S) (node : Node) (input : Input) (at : ℕ) (before after : List (PlainPlace S)) (old new : List Wire) : Type 0 where
+pub record FirstGo {S : Type 0} (service : Machine S) (node : Node) (input : Input) (at : ℕ) (before after : List (PlainPlace S))
+    (old new : List Wire) : Type 0 where
   pub done : List (PlainPlace S)
   pub went : List (PlainPlace S)
   pub left : List (PlainPlace S)

@@ -14,7 +14,8 @@ use Rattle.plain_world.specs.NodeTurns.{SendsBy}
 use Rattle.plain_world.specs.Values.{place_in, places_in, stage_in, opened_at}
 
 -- an entry became the last place, in its first turn
-pub record IsRestored {S : Type 0} (service : Machine S) (node : law.Node) (f : Fetched) (before after : List (PlainPlace S)) (old new : List Wire) : Type 0 where
+pub record IsRestored {S : Type 0} (service : Machine S) (node : law.Node) (f : Fetched) (before after : List (PlainPlace S))
+    (old new : List Wire) : Type 0 where
   pub place : PlainPlace S
   pub places : after ≡ before ++ place ∷ []
   pub turn : SendsBy (Revives service node (restored service node.profile f) (place_in place ∷ [])) old new

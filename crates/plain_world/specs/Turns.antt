@@ -2,17 +2,17 @@
 use Rattle.std.specs.Prelude.{◌≡◌, ℕ, ◌+◌, ◌-◌, ◌*◌, ◌<◌, ◌≤◌, max, Option, Some, None, List, [], ◌∷◌, ◌++◌, map, length, slice_set}
 use Rattle.ft_io.specs.declared.Addr.{Addr}
 use Rattle.server_trait.specs.Service.{Machine}
-use Rattle.tcp_rules.specs.Profile.{Profile}
+use Rattle.tcp_rules.specs.Profile.{Profile, grammar_of}
 use Rattle.ft_model.specs.Client.{Client, Move, move_of, window_of, refusal_of_move, segment_of, moved}
 use Rattle.ft_model.specs.Legal.{refusal, IsScripted}
 use Rattle.ft_model.specs.Network.{Packet}
 use Rattle.ft_model.specs.Network.Packet.{To_server}
 use Rattle.ft_model.specs.Node.{Input}
 use Rattle.ft_model.specs.Readable.{FitsEvent}
-use Rattle.ft_model.specs.Wire.{Wire, wire_of, HasWire}
+use Rattle.ft_model.specs.Wire.{Wire, wire_by, HasWireBy}
 use Rattle.ft_model.specs.World.{World, ServerTurn, client_at, Delivered, Flipped, Happens}
 use Rattle.ft_model.specs.declared.event.Event.{Event}
-use Rattle.plain_packets.specs.Sent.{Appends}
+use Rattle.plain_packets.specs.Sent.{Appends, kept_wire, CanBeKept}
 use Rattle.plain_world.specs.NodeTurns.{SendsBy}
 use Rattle.plain_world.specs.Values.{NodeState}
 use Rattle.plain_world.specs.Premises.{Premises, IsFree, PassesBy}
@@ -27,7 +27,8 @@ pub record StaysReady {State : Type 0} (service : ℕ → Machine State) (before
 -- the server takes its turn on an input, if it is up
 pub record Serves {State : Type 0} (service : ℕ → Machine State) (input : Input) (before after : Option (NodeState State)) (old new : List Wire) : Type 0 where
   pub ready : StaysReady service before after
-  pub turn : (kind : ℕ) → OfKind kind before → IsFree input (node_of before) → SendsBy (λ sent. ServerTurn (service kind) input (node_of before) sent (node_of after)) old new
+  pub turn : (kind : ℕ) → OfKind kind before → IsFree input (node_of before)
+      → SendsBy (λ sent. ServerTurn (service kind) input (node_of before) sent (node_of after)) old new
 
 -- a client makes the move that an event asks for, if its state allows it
 abbrev pub MakesMove : Event → (before after : Client) → (old new : List Wire) → Type 0
@@ -38,7 +39,8 @@ MakesMove event before after old new =
 -- the client with this number, if there is one, makes the move
 abbrev pub MovesOne : ℕ → Event → (before after : List Client) → (old new : List Wire) → Type 0
 MovesOne number event before after old new =
-    (client : Client) → client_at before number ≡ Some client → (later : Client) × MakesMove event client later old new × (after ≡ slice_set before (number - 1) later)
+    (client : Client) → client_at before number ≡ Some client → (later : Client) × MakesMove event client later old new
+    × (after ≡ slice_set before (number - 1) later)
 
 -- a client makes a move, and nothing else among the actors changes
 pub record MovesClient {State : Type 0} (number : ℕ) (event : Event) (before after : ActorsState State) (old new : List Wire) : Type 0 where
@@ -50,7 +52,7 @@ pub record MovesClient {State : Type 0} (number : ℕ) (event : Event) (before a
 pub record Brings {State : Type 0} (service : ℕ → Machine State) (wire : Wire) (before after : ActorsState State) (old new : List Wire) : Type 0 where
   pub ready : StaysReady service before.node after.node
   pub reaches : (kind : ℕ) (server : Addr) (profile : Profile) (boot : ℕ) (packets : List Packet) (packet : Packet) → OfKind kind before.node
-      → wire ≡ wire_of packet → HasWire packet → PassesBy packet (node_of before.node)
+      → wire ≡ kept_wire packet → CanBeKept packet → PassesBy packet (node_of before.node)
       → SendsBy (λ sent. Delivered (service kind) (world_with server profile boot packets before) packet sent
       (world_with server profile boot (packets ++ sent) after)) old new
 
@@ -58,7 +60,7 @@ pub record Brings {State : Type 0} (service : ℕ → Machine State) (wire : Wir
 pub record BringsFlipped {State : Type 0} (service : ℕ → Machine State) (wire : Wire) (before after : ActorsState State) (old new : List Wire) : Type 0 where
   pub ready : StaysReady service before.node after.node
   pub reaches : (kind : ℕ) (server : Addr) (profile : Profile) (boot : ℕ) (packets : List Packet) (packet : Packet) (bit : ℕ) → OfKind kind before.node
-      → wire ≡ wire_of packet → HasWire packet → bit < 8 * length (wire_of packet).bytes
+      → wire ≡ kept_wire packet → HasWireBy (grammar_of profile) packet → bit < 8 * length (wire_by (grammar_of profile) packet).bytes
       → SendsBy (λ sent. Flipped (service kind) (world_with server profile boot packets before) packet bit sent
       (world_with server profile boot (packets ++ sent) after)) old new
 
@@ -74,6 +76,6 @@ pub record Does {State : Type 0} (service : ℕ → Machine State) (event : Even
   pub same_kind : OfKind before.kind before.node → OfKind before.kind after.node
   pub served : IsServedUp service after.node
   pub few : opened_of after.node ≤ max 65535 (opened_of before.node + 1)
-  pub advances : (packets : List Packet) → OfKind before.kind before.node → before.packets ≡ map wire_of packets → Premises (world_of before packets)
+  pub advances : (packets : List Packet) → OfKind before.kind before.node → before.packets ≡ map kept_wire packets → Premises (world_of before packets)
       → refusal (world_of before packets) event ≡ None → FitsEvent event
       → SendsBy (Advances (service before.kind) event (world_of before packets) after) before.packets after.packets

@@ -1,7 +1,8 @@
 -- The node's values as those of the definitions.
 use Rattle.std.specs.Prelude.{ℕ, Bool, true, false, List, [], ◌∷◌, map}
 use Rattle.ft_io.specs.declared.Addr.{Addr}
-use Rattle.logger_wire.specs.Value.{message_of, IsSendable}
+use Rattle.seq_arith.specs.declared.kinds.Grammar.TheVariants.{Wide}
+use Rattle.logger_wire.specs.Value.{message_of, IsSendableBy}
 use Rattle.segment_codec.specs.Value.{segment_of}
 use Rattle.tcp_rules.specs.Profile.{Profile}
 use Rattle.tcp_rules.specs.Profiles.{profile_of}
@@ -23,7 +24,7 @@ input_in input.Tick = law.Input.Tick_comes
 
 -- an input that a codec reads: its message is one that may be sent
 abbrev pub IsReadInput : Input → Type 0
-IsReadInput (input.Message msg) = IsSendable msg
+IsReadInput (input.Message msg) = IsSendableBy Wide msg
 IsReadInput _ = Unit {0}
 
 abbrev pub place_in : {S : Type 0} → PlainPlace S → law.Place

@@ -9,10 +9,11 @@ use Rattle.ft_model.specs.Log.{Log}
 use Rattle.ft_model.specs.Network.{Packet}
 use Rattle.ft_model.specs.Node.{Node}
 use Rattle.ft_model.specs.Schedule.{kind_of}
-use Rattle.ft_model.specs.Wire.{Wire, wire_of}
+use Rattle.ft_model.specs.Wire.{Wire}
 use Rattle.ft_model.specs.World.{World, Moment, world_after, events_of}
 use Rattle.ft_model.specs.declared.event.Event.{Event}
 use Rattle.ft_model.specs.declared.schedule.Schedule.{Schedule}
+use Rattle.plain_packets.specs.Sent.{kept_wire}
 use Rattle.plain_world.specs.Served.{IsServedNode}
 use Rattle.plain_world.specs.Values.{NodeState, node_in, opened_in}
 
@@ -56,13 +57,13 @@ actors_of state = record { clients = state.clients; log = state.log; node = stat
 abbrev pub world_of : {State : Type 0} → WorldState State → List Packet → World
 world_of state packets = world_with state.server state.profile state.boot packets (actors_of state)
 
--- the plain world has the contents of a world of the definitions, with each packet as its wire
+-- the plain world has the contents of a world of the definitions, with each packet as its kept wire
 pub record Represents {State : Type 0} (state : WorldState State) (w : World) : Type 0 where
   pub server : state.server ≡ w.server
   pub profile : state.profile ≡ w.profile
   pub clients : state.clients ≡ w.clients
   pub log : state.log ≡ w.log
-  pub packets : state.packets ≡ map wire_of w.packets
+  pub packets : state.packets ≡ map kept_wire w.packets
   pub boot : state.boot ≡ w.boot
   pub node : node_of state.node ≡ w.node
 
@@ -96,8 +97,9 @@ pub record IsAt {State : Type 0} (service : ℕ → Machine State) (schedule : S
   pub ready : IsReady service state
 
 -- one more moment: the event happened, and what it sent is appended
-pub record Steps {State : Type 0} (service : ℕ → Machine State) (schedule : Schedule) (trace : List Moment) (asked : Event) (old new : WorldState State) : Type 0 where
+pub record Steps {State : Type 0} (service : ℕ
+    → Machine State) (schedule : Schedule) (trace : List Moment) (asked : Event) (old new : WorldState State) : Type 0 where
   pub moment : Moment
   pub event : moment.event ≡ asked
   pub at : IsAt service schedule (moment ∷ trace) new
-  pub packets : new.packets ≡ old.packets ++ map wire_of moment.sent
+  pub packets : new.packets ≡ old.packets ++ map kept_wire moment.sent

@@ -9,12 +9,12 @@ ghost use Rattle.plain_world.specs.WorldState.{IsServedUp, opened_of};
 use crate::client::PlainClient;
 use crate::clients::{make, receive};
 use crate::input::Input;
-use crate::log::hear;
+use crate::log::deliver_to_log;
 use crate::node::PlainNode;
 use crate::server::serve;
 use ft_io::NoMemory;
 use ft_model::Event;
-use logger_wire::read_msg;
+use logger_wire::read_wide_msg;
 use plain_log::PlainLog;
 use plain_packets::{Path, PlainPackets, PlainWire};
 use segment_codec::read_packet;
@@ -41,9 +41,9 @@ impl<S: Service> Model for Actors<S> {
 impl<S: Service> Actors<S> {
     /// Makes the server's clock tick. After `NoMemory` the actors and the packets may only be dropped.
     pub(crate) fn tick(&mut self, alloc: Global, sent: &mut PlainPackets) -> Result<(), NoMemory>
-        requires served { IsServedUp (machines S.started S.after) self.old.node }
+        requires served { IsServedUp (machines S.started S.after S.greeting) self.old.node }
         requires few { opened_of self.old.node ≤ 2 ^ 32 }
-        ensures serves { OnOk result (Serves (machines S.started S.after) Tick_comes self.old.node self.new.node sent.old sent.new) }
+        ensures serves { OnOk result (Serves (machines S.started S.after S.greeting) Tick_comes self.old.node self.new.node sent.old sent.new) }
         ensures clients { self.new.clients ≡ self.old.clients }
         ensures log { self.new.log ≡ self.old.log }
     {
@@ -70,9 +70,9 @@ impl<S: Service> Actors<S> {
         wire: &PlainWire,
         sent: &mut PlainPackets,
     ) -> Result<(), NoMemory>
-        requires served { IsServedUp (machines S.started S.after) self.old.node }
+        requires served { IsServedUp (machines S.started S.after S.greeting) self.old.node }
         requires few { opened_of self.old.node ≤ 2 ^ 32 }
-        ensures { OnOk result (Brings (machines S.started S.after) wire.now self.old self.new sent.old sent.new) }
+        ensures { OnOk result (Brings (machines S.started S.after S.greeting) wire.now self.old self.new sent.old sent.new) }
     {
         let bytes = wire.bytes();
         match wire.path() {
@@ -84,11 +84,11 @@ impl<S: Service> Actors<S> {
                 Ok(segment) => receive(&mut self.clients, key, &segment),
                 Err(_) => Ok(()),
             },
-            Path::ToLogger => match read_msg(bytes) {
-                Ok(msg) => hear(&mut self.log, alloc, &msg, sent),
+            Path::ToLogger => match read_wide_msg(bytes) {
+                Ok(msg) => deliver_to_log(&mut self.log, alloc, &msg, sent),
                 Err(_) => Ok(()),
             },
-            Path::FromLogger => match read_msg(bytes) {
+            Path::FromLogger => match read_wide_msg(bytes) {
                 Ok(msg) => serve(&mut self.node, alloc, &Input::Message(msg), sent),
                 Err(_) => Ok(()),
             },
@@ -103,9 +103,9 @@ impl<S: Service> Actors<S> {
         wire: &PlainWire,
         sent: &mut PlainPackets,
     ) -> Result<(), NoMemory>
-        requires served { IsServedUp (machines S.started S.after) self.old.node }
+        requires served { IsServedUp (machines S.started S.after S.greeting) self.old.node }
         requires few { opened_of self.old.node ≤ 2 ^ 32 }
-        ensures { OnOk result (BringsFlipped (machines S.started S.after) wire.now self.old self.new sent.old sent.new) }
+        ensures { OnOk result (BringsFlipped (machines S.started S.after S.greeting) wire.now self.old self.new sent.old sent.new) }
     {
         match wire.path() {
             Path::ToServer(_) => serve(&mut self.node, alloc, &Input::Noise, sent),

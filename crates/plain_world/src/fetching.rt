@@ -4,7 +4,8 @@ ghost use Rattle.std.specs.Prelude.{◌≡◌, [], IfOk, OnOk};
 ghost use Rattle.seq_arith.specs.Value.{said};
 ghost use Rattle.segment_codec.specs.Value.{segment_of};
 ghost use Rattle.server_trait.specs.Service.{machine};
-ghost use Rattle.logger_wire.specs.Value.{message_of, IsSendable};
+ghost use Rattle.seq_arith.specs.declared.kinds.Grammar.TheVariants.{Wide};
+ghost use Rattle.logger_wire.specs.Value.{message_of, IsSendableBy};
 ghost use Rattle.ft_model.specs.Lawful.{Fetches, StageTurn, asked, held};
 ghost use Rattle.ft_model.specs.Node as law;
 ghost use Rattle.ft_model.specs.Restart.{holding_segment, wanted as wanted_lem};
@@ -87,7 +88,7 @@ fn ask_again(
 
 /// Requests what is wanted now. If nothing is, the restart has ended, and all entries become places. After `NoMemory` the entries and the packets may only
 /// be dropped.
-pub(crate) fn go_on<S: Service>(
+pub(crate) fn proceed<S: Service>(
     alloc: Global,
     who: Incarnation,
     count: u16,
@@ -95,9 +96,10 @@ pub(crate) fn go_on<S: Service>(
     sent: &mut PlainPackets,
 ) -> Result<Option<Serving<S>>, NoMemory>
     requires { IsFetchedOf count fetched.old }
-    ensures turn { IfOk result (λ serving. (stage : law.Stage) → SendsBy (Fetches (machine (S.started who.kind) S.after) (node_of who stage) count fetched.old
+    ensures turn { IfOk result (λ serving. (stage : law.Stage)
+        → SendsBy (Fetches (machine (S.started who.kind) S.after S.greeting) (node_of who stage) count fetched.old
         (stage_then serving count fetched.new)) sent.old sent.new) }
-    ensures served { IfOk result (λ serving. IsServedThen who.kind (machine (S.started who.kind) S.after) serving count fetched.new) }
+    ensures served { IfOk result (λ serving. IsServedThen who.kind (machine (S.started who.kind) S.after S.greeting) serving count fetched.new) }
 {
     if let Some(wanted) = fetched.wanted(count) {
         ask(alloc, who.boot, wanted, sent)?;
@@ -117,10 +119,10 @@ fn take_answer<S: Service>(
     sent: &mut PlainPackets,
 ) -> Result<Option<Serving<S>>, NoMemory>
     requires fetched { IsFetchedOf count fetched.old }
-    requires read { IsSendable msg.now }
-    ensures turn { IfOk result (λ serving. (stage : law.Stage) → SendsBy (StageTurn (machine (S.started who.kind) S.after) (node_of who stage)
+    requires read { IsSendableBy Wide msg.now }
+    ensures turn { IfOk result (λ serving. (stage : law.Stage) → SendsBy (StageTurn (machine (S.started who.kind) S.after S.greeting) (node_of who stage)
         (law.Stage.Fetching count fetched.old) (law.Input.Message_comes (message_of msg.now)) (stage_then serving count fetched.new)) sent.old sent.new) }
-    ensures served { IfOk result (λ serving. IsServedThen who.kind (machine (S.started who.kind) S.after) serving count fetched.new) }
+    ensures served { IfOk result (λ serving. IsServedThen who.kind (machine (S.started who.kind) S.after S.greeting) serving count fetched.new) }
 {
     if msg.boot != who.boot {
         return Ok(None);
@@ -128,7 +130,7 @@ fn take_answer<S: Service>(
     if !fetched.take(alloc, count, &msg.body)? {
         return Ok(None);
     }
-    go_on(alloc, who, count, fetched, sent)
+    proceed(alloc, who, count, fetched, sent)
 }
 
 /// Takes the turn of a server that fetches. Returns the places if the restart has ended. After `NoMemory` the entries and the packets may only be dropped.
@@ -142,9 +144,9 @@ pub(crate) fn turn_fetching<S: Service>(
 ) -> Result<Option<Serving<S>>, NoMemory>
     requires fetched { IsFetchedOf count fetched.old }
     requires read { IsReadInput input.now }
-    ensures turn { IfOk result (λ serving. (stage : law.Stage) → SendsBy (StageTurn (machine (S.started who.kind) S.after) (node_of who stage)
+    ensures turn { IfOk result (λ serving. (stage : law.Stage) → SendsBy (StageTurn (machine (S.started who.kind) S.after S.greeting) (node_of who stage)
         (law.Stage.Fetching count fetched.old) (input_in input.now) (stage_then serving count fetched.new)) sent.old sent.new) }
-    ensures served { IfOk result (λ serving. IsServedThen who.kind (machine (S.started who.kind) S.after) serving count fetched.new) }
+    ensures served { IfOk result (λ serving. IsServedThen who.kind (machine (S.started who.kind) S.after S.greeting) serving count fetched.new) }
 {
     match input {
         Input::Packet(segment) => {

@@ -33,9 +33,9 @@ fn begin<S: Service>(
     numbers: &Numbers,
     sent: &mut PlainPackets,
 ) -> Result<PlainConnection<S>, NoMemory>
-    ensures turn { IfOk result (λ c. (stage : law.Stage) → SendsBy (LivesOn (machine (S.started who.kind) S.after) (node_of who stage) Begins
+    ensures turn { IfOk result (λ c. (stage : law.Stage) → SendsBy (LivesOn (machine (S.started who.kind) S.after S.greeting) (node_of who stage) Begins
         (point_opened (profile_of who.profile) (numbers_said numbers.now)) (Lives c.point ∷ [])) sent.old sent.new) }
-    ensures served { IfOk result (λ c. IsServedLive who.kind (machine (S.started who.kind) S.after) c) }
+    ensures served { IfOk result (λ c. IsServedLive who.kind (machine (S.started who.kind) S.after S.greeting) c) }
 {
     let mut connection = PlainConnection::opened(alloc, who.profile, who.kind, numbers)?;
     turn_live(alloc, who, &mut connection, &News::Begins, sent)?;
@@ -44,19 +44,19 @@ fn begin<S: Service>(
 
 impl<S: Service> PlainPlace<S> {
     /// Takes a message about how much of a live connection is logged. After `NoMemory` the place may only be dropped.
-    fn hear_logged(
+    fn receive_logged(
         &mut self,
         alloc: Global,
         who: Incarnation,
         kept: Kept,
         sent: &mut PlainPackets,
     ) -> Result<(), NoMemory>
-        requires { IsServedPlace who.kind (machine (S.started who.kind) S.after) self.old }
-        ensures stable { OnOk result ((stage : law.Stage) → SendsBy (Hears (machine (S.started who.kind) S.after) (node_of who stage)
+        requires { IsServedPlace who.kind (machine (S.started who.kind) S.after S.greeting) self.old }
+        ensures stable { OnOk result ((stage : law.Stage) → SendsBy (Hears (machine (S.started who.kind) S.after S.greeting) (node_of who stage)
             (StableMsg (kept_said kept)) (place_in self.old) (place_in self.new ∷ [])) sent.old sent.new) }
-        ensures reads { OnOk result ((stage : law.Stage) → SendsBy (Hears (machine (S.started who.kind) S.after) (node_of who stage)
+        ensures reads { OnOk result ((stage : law.Stage) → SendsBy (Hears (machine (S.started who.kind) S.after S.greeting) (node_of who stage)
             (ReadsMsg (kept_said kept)) (place_in self.old) (place_in self.new ∷ [])) sent.old sent.new) }
-        ensures served { OnOk result (IsServedPlace who.kind (machine (S.started who.kind) S.after) self.new) }
+        ensures served { OnOk result (IsServedPlace who.kind (machine (S.started who.kind) S.after S.greeting) self.new) }
     {
         match self {
             PlainPlace::Lives(connection) => {
@@ -67,7 +67,7 @@ impl<S: Service> PlainPlace<S> {
     }
 
     /// Takes an Ended: it ends a live connection.
-    fn hear_ended(&mut self)
+    fn receive_ended(&mut self)
         ensures turn { (service : Machine S) (node : law.Node) (key : key_type)
             → Hears service node (EndedMsg key) (place_in self.old) (place_in self.new ∷ []) [] }
         ensures served { (kind : ℕ) (service : Machine S) → IsServedPlace kind service self.new }
@@ -80,17 +80,17 @@ impl<S: Service> PlainPlace<S> {
 
     /// Takes an Opened. With the client's initial sequence number it makes a pending opening a connection, with the logged numbers; with another it drops
     /// the opening. Returns whether the place remains. After `NoMemory` the place may only be dropped.
-    fn hear_opened(
+    fn receive_opened(
         &mut self,
         alloc: Global,
         who: Incarnation,
         numbers: &Numbers,
         sent: &mut PlainPackets,
     ) -> Result<bool, NoMemory>
-        requires { IsServedPlace who.kind (machine (S.started who.kind) S.after) self.old }
-        ensures turn { IfOk result (λ stays. (stage : law.Stage) → SendsBy (Hears (machine (S.started who.kind) S.after) (node_of who stage)
+        requires { IsServedPlace who.kind (machine (S.started who.kind) S.after S.greeting) self.old }
+        ensures turn { IfOk result (λ stays. (stage : law.Stage) → SendsBy (Hears (machine (S.started who.kind) S.after S.greeting) (node_of who stage)
             (OpenedMsg (numbers_said numbers.now)) (place_in self.old) (left_in stays self.new)) sent.old sent.new) }
-        ensures served { OnOk result (IsServedPlace who.kind (machine (S.started who.kind) S.after) self.new) }
+        ensures served { OnOk result (IsServedPlace who.kind (machine (S.started who.kind) S.after S.greeting) self.new) }
     {
         let PlainPlace::Opens(asked) = self else {
             return Ok(true);
@@ -104,7 +104,7 @@ impl<S: Service> PlainPlace<S> {
     }
 
     /// Takes a Full: it drops an opening and refuses its SYN. Returns whether the place remains. After `NoMemory` the place may only be dropped.
-    fn hear_full(
+    fn receive_full(
         &self,
         alloc: Global,
         who: Incarnation,
@@ -121,28 +121,28 @@ impl<S: Service> PlainPlace<S> {
     }
 
     /// Takes a message of this boot that names the key. Returns whether the place remains. After `NoMemory` the place may only be dropped.
-    pub(crate) fn hear(
+    pub(crate) fn receive(
         &mut self,
         alloc: Global,
         who: Incarnation,
         body: &Body<'_>,
         sent: &mut PlainPackets,
     ) -> Result<bool, NoMemory>
-        requires { IsServedPlace who.kind (machine (S.started who.kind) S.after) self.old }
-        ensures turn { IfOk result (λ stays. (stage : law.Stage) → SendsBy (Hears (machine (S.started who.kind) S.after) (node_of who stage)
+        requires { IsServedPlace who.kind (machine (S.started who.kind) S.after S.greeting) self.old }
+        ensures turn { IfOk result (λ stays. (stage : law.Stage) → SendsBy (Hears (machine (S.started who.kind) S.after S.greeting) (node_of who stage)
             (body_of body.now) (place_in self.old) (left_in stays self.new)) sent.old sent.new) }
-        ensures served { OnOk result (IsServedPlace who.kind (machine (S.started who.kind) S.after) self.new) }
+        ensures served { OnOk result (IsServedPlace who.kind (machine (S.started who.kind) S.after S.greeting) self.new) }
     {
         match *body {
             Body::Stable(kept) => {
-                self.hear_logged(alloc, who, kept, sent)?;
+                self.receive_logged(alloc, who, kept, sent)?;
             }
             Body::Reads(kept) => {
-                self.hear_logged(alloc, who, kept, sent)?;
+                self.receive_logged(alloc, who, kept, sent)?;
             }
-            Body::Opened(numbers) => return self.hear_opened(alloc, who, &numbers, sent),
-            Body::Ended { .. } => self.hear_ended(),
-            Body::Full { .. } => return self.hear_full(alloc, who, sent),
+            Body::Opened(numbers) => return self.receive_opened(alloc, who, &numbers, sent),
+            Body::Ended { .. } => self.receive_ended(),
+            Body::Full { .. } => return self.receive_full(alloc, who, sent),
             _ => {}
         }
         Ok(true)

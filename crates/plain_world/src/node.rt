@@ -49,7 +49,7 @@ impl<S: Service> PlainNode<S> {
     pub fn booted(kind: u8, server: Addr, profile: Profile, boot: u64, isn: u32) -> PlainNode<S>
         ensures node { node_in result ≡ law.booted server (profile_of profile) boot isn }
         ensures kind { result.kind ≡ kind }
-        ensures served { IsServedNode (machine (S.started kind) S.after) result }
+        ensures served { IsServedNode (machine (S.started kind) S.after S.greeting) result }
         ensures few { opened_in result ≡ 0 }
     {
         PlainNode {
@@ -85,14 +85,15 @@ impl<S: Service> PlainNode<S> {
         input: &Input<'_>,
         sent: &mut PlainPackets,
     ) -> Result<(), NoMemory>
-        requires served { IsServedNode (machine (S.started self.old.kind) S.after) self.old }
+        requires served { IsServedNode (machine (S.started self.old.kind) S.after S.greeting) self.old }
         requires read { IsReadInput input.now }
         requires free { fence (node_in self.old) (input_in input.now) ≡ None }
         requires few { opened_in self.old ≤ 2 ^ 32 }
         ensures kind { self.new.kind ≡ self.old.kind }
-        ensures served { OnOk result (IsServedNode (machine (S.started self.old.kind) S.after) self.new) }
+        ensures served { OnOk result (IsServedNode (machine (S.started self.old.kind) S.after S.greeting) self.new) }
         ensures few { OnOk result (opened_in self.new ≤ max 65535 (opened_in self.old + 1)) }
-        ensures turn { OnOk result (TakesNodeTurn (machine (S.started self.old.kind) S.after) (node_in self.old) (input_in input.now) (node_in self.new) sent.old sent.new) }
+        ensures turn { OnOk result (TakesNodeTurn (machine (S.started self.old.kind) S.after S.greeting) (node_in self.old) (input_in input.now)
+            (node_in self.new) sent.old sent.new) }
     {
         self.stage.turn(alloc, self.who, input, sent)
     }

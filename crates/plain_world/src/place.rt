@@ -74,10 +74,10 @@ pub(crate) fn turn_live<S: Service>(
     news: &News<'_>,
     sent: &mut PlainPackets,
 ) -> Result<(), NoMemory>
-    requires { IsServedLive who.kind (machine (S.started who.kind) S.after) connection.old }
-    ensures turn { OnOk result ((stage : law.Stage) → SendsBy (LivesOn (machine (S.started who.kind) S.after) (node_of who stage) (news_in news.now)
+    requires { IsServedLive who.kind (machine (S.started who.kind) S.after S.greeting) connection.old }
+    ensures turn { OnOk result ((stage : law.Stage) → SendsBy (LivesOn (machine (S.started who.kind) S.after S.greeting) (node_of who stage) (news_in news.now)
         connection.old.point (Lives connection.new.point ∷ [])) sent.old sent.new) }
-    ensures served { OnOk result (IsServedLive who.kind (machine (S.started who.kind) S.after) connection.new) }
+    ensures served { OnOk result (IsServedLive who.kind (machine (S.started who.kind) S.after S.greeting) connection.new) }
 {
     connection.turn(alloc, who.server, who.boot, news, sent)
 }
@@ -109,10 +109,10 @@ impl<S: Service> PlainPlace<S> {
         segment: &PacketRef<'_>,
         sent: &mut PlainPackets,
     ) -> Result<(), NoMemory>
-        requires { IsServedPlace who.kind (machine (S.started who.kind) S.after) self.old }
-        ensures turn { OnOk result ((stage : law.Stage) → SendsBy (Meets (machine (S.started who.kind) S.after) (node_of who stage)
+        requires { IsServedPlace who.kind (machine (S.started who.kind) S.after S.greeting) self.old }
+        ensures turn { OnOk result ((stage : law.Stage) → SendsBy (Meets (machine (S.started who.kind) S.after S.greeting) (node_of who stage)
             (Packet_comes (segment_of segment.now)) (place_in self.old) (place_in self.new ∷ [])) sent.old sent.new) }
-        ensures served { OnOk result (IsServedPlace who.kind (machine (S.started who.kind) S.after) self.new) }
+        ensures served { OnOk result (IsServedPlace who.kind (machine (S.started who.kind) S.after S.greeting) self.new) }
     {
         match self {
             PlainPlace::Opens(_) => Ok(()),
@@ -130,10 +130,10 @@ impl<S: Service> PlainPlace<S> {
         who: Incarnation,
         sent: &mut PlainPackets,
     ) -> Result<(), NoMemory>
-        requires { IsServedPlace who.kind (machine (S.started who.kind) S.after) self.old }
-        ensures turn { OnOk result ((stage : law.Stage) → SendsBy (Meets (machine (S.started who.kind) S.after) (node_of who stage)
+        requires { IsServedPlace who.kind (machine (S.started who.kind) S.after S.greeting) self.old }
+        ensures turn { OnOk result ((stage : law.Stage) → SendsBy (Meets (machine (S.started who.kind) S.after S.greeting) (node_of who stage)
             Tick_comes (place_in self.old) (place_in self.new ∷ [])) sent.old sent.new) }
-        ensures served { OnOk result (IsServedPlace who.kind (machine (S.started who.kind) S.after) self.new) }
+        ensures served { OnOk result (IsServedPlace who.kind (machine (S.started who.kind) S.after S.greeting) self.new) }
     {
         match self {
             PlainPlace::Lives(connection) => turn_live(alloc, who, connection, &News::Tick, sent),
@@ -149,14 +149,14 @@ impl<S: Service> PlainPlace<S> {
         input: &Input<'_>,
         sent: &mut PlainPackets,
     ) -> Result<bool, NoMemory>
-        requires { IsServedPlace who.kind (machine (S.started who.kind) S.after) self.old }
-        ensures turn { IfOk result (λ stays. (stage : law.Stage) → SendsBy (Meets (machine (S.started who.kind) S.after) (node_of who stage)
+        requires { IsServedPlace who.kind (machine (S.started who.kind) S.after S.greeting) self.old }
+        ensures turn { IfOk result (λ stays. (stage : law.Stage) → SendsBy (Meets (machine (S.started who.kind) S.after S.greeting) (node_of who stage)
             (input_in input.now) (place_in self.old) (left_in stays self.new)) sent.old sent.new) }
-        ensures served { OnOk result (IsServedPlace who.kind (machine (S.started who.kind) S.after) self.new) }
+        ensures served { OnOk result (IsServedPlace who.kind (machine (S.started who.kind) S.after S.greeting) self.new) }
     {
         match input {
             Input::Packet(segment) => self.take_segment(alloc, who, segment, sent)?,
-            Input::Message(msg) => return self.hear(alloc, who, &msg.body, sent),
+            Input::Message(msg) => return self.receive(alloc, who, &msg.body, sent),
             Input::Noise => {}
             Input::Tick => self.tick(alloc, who, sent)?,
         }
@@ -171,10 +171,10 @@ impl<S: Service> PlainPlace<S> {
         input: &Input<'_>,
         sent: &mut PlainPackets,
     ) -> Result<bool, NoMemory>
-        requires { IsServedPlace who.kind (machine (S.started who.kind) S.after) self.old }
-        ensures turn { IfOk result (λ stays. (stage : law.Stage) → SendsBy (PlaceTurn (machine (S.started who.kind) S.after) (node_of who stage)
+        requires { IsServedPlace who.kind (machine (S.started who.kind) S.after S.greeting) self.old }
+        ensures turn { IfOk result (λ stays. (stage : law.Stage) → SendsBy (PlaceTurn (machine (S.started who.kind) S.after S.greeting) (node_of who stage)
             (input_in input.now) (place_in self.old) (left_in stays self.new)) sent.old sent.new) }
-        ensures served { OnOk result (IsServedPlace who.kind (machine (S.started who.kind) S.after) self.new) }
+        ensures served { OnOk result (IsServedPlace who.kind (machine (S.started who.kind) S.after S.greeting) self.new) }
     {
         if !concerns(who, input, self.key()) {
             return Ok(true);

@@ -25,7 +25,8 @@ pub(crate) fn send_bare(alloc: Global, head: Head, sent: &mut PlainPackets) -> R
 
 /// Returns the answer in state LISTEN, if there is one: a RST to an acknowledgement, nothing to a RST.
 pub(crate) fn as_listen(server: Addr, segment: &PacketRef<'_>) -> Option<Head>
-    ensures { map (λ head. To_client (record { head = said head; payload = [] })) (option_to_list result) ≡ map To_client (as_listen server (segment_of segment.now)) }
+    ensures { map (λ head. To_client (record { head = said head; payload = [] })) (option_to_list result)
+        ≡ map To_client (as_listen server (segment_of segment.now)) }
 {
     if has_ack(segment) && !has_rst(segment) {
         Some(segment.head.reset_at_ack(server))

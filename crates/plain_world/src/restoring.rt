@@ -30,9 +30,9 @@ fn restored_place<S: Service>(
     sent: &mut PlainPackets,
 ) -> Result<PlainPlace<S>, NoMemory>
     requires { is_whole entry ≡ true }
-    ensures turn { IfOk result (λ place. (stage : law.Stage) → SendsBy (Revives (machine (S.started who.kind) S.after) (node_of who stage)
-        (restored (machine (S.started who.kind) S.after) (profile_of who.profile) entry) (place_in place ∷ [])) sent.old sent.new) }
-    ensures served { IfOk result (λ place. IsServedPlace who.kind (machine (S.started who.kind) S.after) place) }
+    ensures turn { IfOk result (λ place. (stage : law.Stage) → SendsBy (Revives (machine (S.started who.kind) S.after S.greeting) (node_of who stage)
+        (restored (machine (S.started who.kind) S.after S.greeting) (profile_of who.profile) entry) (place_in place ∷ [])) sent.old sent.new) }
+    ensures served { IfOk result (λ place. IsServedPlace who.kind (machine (S.started who.kind) S.after S.greeting) place) }
 {
     let head = entry.head();
     if head.done {
@@ -55,10 +55,10 @@ impl<S: Service> Serving<S> {
         requires whole { is_whole entry ≡ true }
         requires few { self.old.opened < 2 ^ 32 }
         ensures opened { OnOk result (self.new.opened ≡ self.old.opened + restored_count (entry ∷ [])) }
-        ensures turn { OnOk result ((stage : law.Stage) → IsRestored (machine (S.started who.kind) S.after) (node_of who stage) entry
+        ensures turn { OnOk result ((stage : law.Stage) → IsRestored (machine (S.started who.kind) S.after S.greeting) (node_of who stage) entry
             self.old.places.items self.new.places.items sent.old sent.new) }
-        ensures served { OnOk result (AreServed who.kind (machine (S.started who.kind) S.after) self.old.places.items
-            → AreServed who.kind (machine (S.started who.kind) S.after) self.new.places.items) }
+        ensures served { OnOk result (AreServed who.kind (machine (S.started who.kind) S.after S.greeting) self.old.places.items
+            → AreServed who.kind (machine (S.started who.kind) S.after S.greeting) self.new.places.items) }
     {
         self.opened += u64::from(!entry.head().done);
         let place = restored_place(alloc, who, entry, sent)?;
@@ -77,9 +77,10 @@ pub(crate) fn restore_all<S: Service>(
 ) -> Result<Serving<S>, NoMemory>
     requires whole { AreWhole fetched.old }
     requires few { length fetched.old ≤ 65535 }
-    ensures turn { IfOk result (λ serving. (stage : law.Stage) → AreRestored (machine (S.started who.kind) S.after) (node_of who stage) fetched.old serving sent.old sent.new) }
+    ensures turn { IfOk result (λ serving. (stage : law.Stage)
+        → AreRestored (machine (S.started who.kind) S.after S.greeting) (node_of who stage) fetched.old serving sent.old sent.new) }
     ensures few { IfOk result (λ serving. serving.opened ≤ 65535) }
-    ensures served { IfOk result (λ serving. AreServed who.kind (machine (S.started who.kind) S.after) serving.places.items) }
+    ensures served { IfOk result (λ serving. AreServed who.kind (machine (S.started who.kind) S.after S.greeting) serving.places.items) }
 {
     let mut serving = Serving {
         opened: 0,

@@ -38,9 +38,9 @@ pub(crate) fn serve<S: Service>(
     sent: &mut PlainPackets,
 ) -> Result<(), NoMemory>
     requires read { IsReadInput input.now }
-    requires served { IsServedUp (machines S.started S.after) node.old }
+    requires served { IsServedUp (machines S.started S.after S.greeting) node.old }
     requires few { opened_of node.old ≤ 2 ^ 32 }
-    ensures { OnOk result (Serves (machines S.started S.after) (input_in input.now) node.old node.new sent.old sent.new) }
+    ensures { OnOk result (Serves (machines S.started S.after S.greeting) (input_in input.now) node.old node.new sent.old sent.new) }
 {
     let Some(up) = node else {
         return Ok(());

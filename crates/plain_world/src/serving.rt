@@ -47,10 +47,10 @@ fn go_at<S: Service>(
     sent: &mut PlainPackets,
 ) -> Result<usize, NoMemory>
     requires at { at < vec_len places.old }
-    requires served { AreServed who.kind (machine (S.started who.kind) S.after) places.old.items }
-    ensures turn { IfOk result (λ next. (stage : law.Stage) → OneGoes (machine (S.started who.kind) S.after) (node_of who stage) (input_in input.now)
+    requires served { AreServed who.kind (machine (S.started who.kind) S.after S.greeting) places.old.items }
+    ensures turn { IfOk result (λ next. (stage : law.Stage) → OneGoes (machine (S.started who.kind) S.after S.greeting) (node_of who stage) (input_in input.now)
         at next places.old.items places.new.items sent.old sent.new) }
-    ensures served { OnOk result (AreServed who.kind (machine (S.started who.kind) S.after) places.new.items) }
+    ensures served { OnOk result (AreServed who.kind (machine (S.started who.kind) S.after S.greeting) places.new.items) }
 {
     if places[at].turn(alloc, who, input, sent)? {
         return Ok(at + 1);
@@ -67,10 +67,11 @@ fn go_all<S: Service>(
     input: &Input<'_>,
     sent: &mut PlainPackets,
 ) -> Result<(), NoMemory>
-    requires { AreServed who.kind (machine (S.started who.kind) S.after) places.old.items }
-    ensures turn { OnOk result ((stage : law.Stage) → SendsBy (AllGo (PlaceTurn (machine (S.started who.kind) S.after) (node_of who stage) (input_in input.now))
+    requires { AreServed who.kind (machine (S.started who.kind) S.after S.greeting) places.old.items }
+    ensures turn { OnOk result ((stage : law.Stage)
+        → SendsBy (AllGo (PlaceTurn (machine (S.started who.kind) S.after S.greeting) (node_of who stage) (input_in input.now))
         (places_in places.old.items) (places_in places.new.items)) sent.old sent.new) }
-    ensures served { OnOk result (AreServed who.kind (machine (S.started who.kind) S.after) places.new.items) }
+    ensures served { OnOk result (AreServed who.kind (machine (S.started who.kind) S.after S.greeting) places.new.items) }
 {
     let mut at = 0;
     while at < places.len() {
@@ -87,7 +88,8 @@ fn ask_all<S: Service>(
     input: &Input<'_>,
     sent: &mut PlainPackets,
 ) -> Result<(), NoMemory>
-    ensures { OnOk result ((stage : law.Stage) → Appends sent.old sent.new (flat_map (opens_at (node_of who stage) (input_in input.now)) (places_in places.now))) }
+    ensures { OnOk result ((stage : law.Stage)
+        → Appends sent.old sent.new (flat_map (opens_at (node_of who stage) (input_in input.now)) (places_in places.now))) }
 {
     for place in places {
         place.ask(alloc, who, input, sent)?;
@@ -111,8 +113,10 @@ impl<S: Service> Serving<S> {
         requires { self.old.opened ≤ 2 ^ 32 }
         ensures opened { OnOk result (self.new.opened ≡ self.old.opened + length (option_to_list newcomer)) }
         ensures few { OnOk result (self.new.opened ≤ self.old.opened + 1) }
-        ensures places { OnOk result (places_in self.new.places.items ≡ places_in self.old.places.items ++ map (λ n. Opens (numbers_said n)) (option_to_list newcomer)) }
-        ensures served { OnOk result ((kind : ℕ) (service : Machine S) → AreServed kind service self.old.places.items → AreServed kind service self.new.places.items) }
+        ensures places { OnOk result (places_in self.new.places.items
+            ≡ places_in self.old.places.items ++ map (λ n. Opens (numbers_said n)) (option_to_list newcomer)) }
+        ensures served { OnOk result ((kind : ℕ) (service : Machine S) → AreServed kind service self.old.places.items
+            → AreServed kind service self.new.places.items) }
     {
         if let Some(numbers) = newcomer {
             self.places.push(PlainPlace::Opens(numbers))?;
@@ -129,14 +133,15 @@ impl<S: Service> Serving<S> {
         input: &Input<'_>,
         sent: &mut PlainPackets,
     ) -> Result<(), NoMemory>
-        requires served { AreServed who.kind (machine (S.started who.kind) S.after) self.old.places.items }
+        requires served { AreServed who.kind (machine (S.started who.kind) S.after S.greeting) self.old.places.items }
         requires few { self.old.opened ≤ 2 ^ 32 }
-        ensures turn { OnOk result ((stage : law.Stage) → SendsBy (ServingTurn (machine (S.started who.kind) S.after) (node_of who stage) (input_in input.now)
+        ensures turn { OnOk result ((stage : law.Stage)
+            → SendsBy (ServingTurn (machine (S.started who.kind) S.after S.greeting) (node_of who stage) (input_in input.now)
             self.old.opened (places_in self.old.places.items) (places_in self.new.places.items)) sent.old sent.new) }
         ensures opened { OnOk result ((stage : law.Stage) → self.new.opened
             ≡ self.old.opened + length (newcomers (node_of who stage) (input_in input.now) self.old.opened (places_in self.old.places.items))) }
         ensures few { OnOk result (self.new.opened ≤ self.old.opened + 1) }
-        ensures served { OnOk result (AreServed who.kind (machine (S.started who.kind) S.after) self.new.places.items) }
+        ensures served { OnOk result (AreServed who.kind (machine (S.started who.kind) S.after S.greeting) self.new.places.items) }
     {
         let newcomer = newcomer(who, input, self.opened, self.places.as_slice());
         let refusal = refusal(who, input, self.places.as_slice());

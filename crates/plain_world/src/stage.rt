@@ -11,7 +11,7 @@ ghost use Rattle.plain_world.specs.NodeTurns.{SendsBy};
 ghost use Rattle.plain_world.specs.Values.{input_in, IsReadInput, node_of, stage_in, opened_at};
 
 use crate::asking::{send_hello, summary_count};
-use crate::fetching::{go_on, turn_fetching};
+use crate::fetching::{proceed, turn_fetching};
 use crate::incarnation::Incarnation;
 use crate::input::Input;
 use crate::serving::Serving;
@@ -51,13 +51,13 @@ fn begin_fetching<S: Service>(
     count: u16,
     sent: &mut PlainPackets,
 ) -> Result<PlainStage<S>, NoMemory>
-    ensures turn { IfOk result (λ after. (stage : law.Stage) → SendsBy (Fetches (machine (S.started who.kind) S.after) (node_of who stage) count []
+    ensures turn { IfOk result (λ after. (stage : law.Stage) → SendsBy (Fetches (machine (S.started who.kind) S.after S.greeting) (node_of who stage) count []
         (stage_in after)) sent.old sent.new) }
     ensures few { IfOk result (λ after. opened_at after ≤ 65535) }
-    ensures served { IfOk result (λ after. IsServedStage who.kind (machine (S.started who.kind) S.after) after) }
+    ensures served { IfOk result (λ after. IsServedStage who.kind (machine (S.started who.kind) S.after S.greeting) after) }
 {
     let mut fetched = PlainFetching::new(alloc);
-    match go_on(alloc, who, count, &mut fetched, sent)? {
+    match proceed(alloc, who, count, &mut fetched, sent)? {
         Some(serving) => Ok(PlainStage::Serving(serving)),
         None => Ok(PlainStage::Fetching { count, fetched }),
     }
@@ -70,9 +70,9 @@ fn turn_asking<S: Service>(
     input: &Input<'_>,
     sent: &mut PlainPackets,
 ) -> Result<Option<PlainStage<S>>, NoMemory>
-    ensures turn { IfOk result (λ after. (stage : law.Stage) → SendsBy (StageTurn (machine (S.started who.kind) S.after) (node_of who stage)
+    ensures turn { IfOk result (λ after. (stage : law.Stage) → SendsBy (StageTurn (machine (S.started who.kind) S.after S.greeting) (node_of who stage)
         law.Stage.Asking (input_in input.now) (stage_after after law.Stage.Asking)) sent.old sent.new) }
-    ensures served { IfOk result (λ after. IsServedAfter who.kind (machine (S.started who.kind) S.after) after) }
+    ensures served { IfOk result (λ after. IsServedAfter who.kind (machine (S.started who.kind) S.after S.greeting) after) }
 {
     match input {
         Input::Tick => {
@@ -99,13 +99,13 @@ impl<S: Service> PlainStage<S> {
         input: &Input<'_>,
         sent: &mut PlainPackets,
     ) -> Result<(), NoMemory>
-        requires served { IsServedStage who.kind (machine (S.started who.kind) S.after) self.old }
+        requires served { IsServedStage who.kind (machine (S.started who.kind) S.after S.greeting) self.old }
         requires read { IsReadInput input.now }
         requires few { opened_at self.old ≤ 2 ^ 32 }
-        ensures turn { OnOk result ((stage : law.Stage) → SendsBy (StageTurn (machine (S.started who.kind) S.after) (node_of who stage)
+        ensures turn { OnOk result ((stage : law.Stage) → SendsBy (StageTurn (machine (S.started who.kind) S.after S.greeting) (node_of who stage)
             (stage_in self.old) (input_in input.now) (stage_in self.new)) sent.old sent.new) }
         ensures few { OnOk result (opened_at self.new ≤ max 65535 (opened_at self.old + 1)) }
-        ensures served { OnOk result (IsServedStage who.kind (machine (S.started who.kind) S.after) self.new) }
+        ensures served { OnOk result (IsServedStage who.kind (machine (S.started who.kind) S.after S.greeting) self.new) }
     {
         match self {
             PlainStage::Asking => {

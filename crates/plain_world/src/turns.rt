@@ -21,7 +21,7 @@ use std::alloc::Global;
 impl<S: Service> PlainWorld<S> {
     /// Starts the server.
     fn start(&mut self, alloc: Global, boot: u64, isn: u32) -> Result<(), NoMemory>
-        ensures { OnOk result (Does (machines S.started S.after) (Boot boot isn) self.old self.new) }
+        ensures { OnOk result (Does (machines S.started S.after S.greeting) (Boot boot isn) self.old self.new) }
     {
         let node = PlainNode::booted(self.kind, self.server, self.profile, boot, isn);
         node.send_hello(alloc, &mut self.packets)?;
@@ -32,25 +32,25 @@ impl<S: Service> PlainWorld<S> {
 
     /// Crashes the server. Its whole state is lost.
     fn crash(&mut self)
-        ensures { Does (machines S.started S.after) Crash self.old self.new }
+        ensures { Does (machines S.started S.after S.greeting) Crash self.old self.new }
     {
         self.actors.node = None;
     }
 
     /// Makes the server's clock tick.
     fn tick(&mut self, alloc: Global) -> Result<(), NoMemory>
-        requires served { IsServedUp (machines S.started S.after) self.old.node }
+        requires served { IsServedUp (machines S.started S.after S.greeting) self.old.node }
         requires few { opened_of self.old.node ≤ 2 ^ 32 }
-        ensures { OnOk result (Does (machines S.started S.after) Tick self.old self.new) }
+        ensures { OnOk result (Does (machines S.started S.after S.greeting) Tick self.old self.new) }
     {
         self.actors.tick(alloc, &mut self.packets)
     }
 
     /// Delivers a packet to its addressee.
     fn deliver(&mut self, alloc: Global, number: u32) -> Result<(), NoMemory>
-        requires served { IsServedUp (machines S.started S.after) self.old.node }
+        requires served { IsServedUp (machines S.started S.after S.greeting) self.old.node }
         requires few { opened_of self.old.node ≤ 2 ^ 32 }
-        ensures { OnOk result (Does (machines S.started S.after) (Deliver number) self.old self.new) }
+        ensures { OnOk result (Does (machines S.started S.after S.greeting) (Deliver number) self.old self.new) }
     {
         let mut sent = PlainPackets::new(alloc);
         let Some(wire) = self.packets.get(number) else {
@@ -62,9 +62,9 @@ impl<S: Service> PlainWorld<S> {
 
     /// Delivers a packet to its addressee, with one bit changed.
     fn flip(&mut self, alloc: Global, number: u32) -> Result<(), NoMemory>
-        requires served { IsServedUp (machines S.started S.after) self.old.node }
+        requires served { IsServedUp (machines S.started S.after S.greeting) self.old.node }
         requires few { opened_of self.old.node ≤ 2 ^ 32 }
-        ensures { OnOk result ((bit : ℕ) → Does (machines S.started S.after) (Flip number bit) self.old self.new) }
+        ensures { OnOk result ((bit : ℕ) → Does (machines S.started S.after S.greeting) (Flip number bit) self.old self.new) }
     {
         let mut sent = PlainPackets::new(alloc);
         let Some(wire) = self.packets.get(number) else {
@@ -77,17 +77,17 @@ impl<S: Service> PlainWorld<S> {
     /// Makes the move that an event asks for, by the client with this number.
     fn move_client(&mut self, alloc: Global, number: u8, event: &Event) -> Result<(), NoMemory>
         requires mover { mover_of event.now ≡ Some number }
-        requires served { IsServedUp (machines S.started S.after) self.old.node }
-        ensures { OnOk result (Does (machines S.started S.after) event.now self.old self.new) }
+        requires served { IsServedUp (machines S.started S.after S.greeting) self.old.node }
+        ensures { OnOk result (Does (machines S.started S.after S.greeting) event.now self.old self.new) }
     {
         self.actors.make(alloc, number, event, &mut self.packets)
     }
 
     /// Performs an event that is allowed.
     fn act(&mut self, alloc: Global, event: &Event) -> Result<(), NoMemory>
-        requires served { IsServedUp (machines S.started S.after) self.old.node }
+        requires served { IsServedUp (machines S.started S.after S.greeting) self.old.node }
         requires few { opened_of self.old.node ≤ 2 ^ 32 }
-        ensures { OnOk result (Does (machines S.started S.after) event.now self.old self.new) }
+        ensures { OnOk result (Does (machines S.started S.after S.greeting) event.now self.old self.new) }
     {
         match *event {
             Event::Boot { boot, isn } => self.start(alloc, boot, isn),
@@ -110,9 +110,11 @@ impl<S: Service> PlainWorld<S> {
     /// Performs an event that `refusal` allows. After `NoMemory` the world may only be dropped.
     pub fn step(&mut self, alloc: Global, event: &Event) -> Result<(), NoMemory>
         requires room { self.old.turns < 2 ^ 31 }
-        requires ready { IsReady (machines S.started S.after) self.old }
-        ensures { OnOk result ((schedule : Written) (trace : List Moment) → IsAt (machines S.started S.after) schedule trace self.old → FitsSchedule schedule → FitsEvent event.now
-            → refusal_lem (world_after (start_of schedule) trace) event.now ≡ None → Steps (machines S.started S.after) schedule trace event.now self.old self.new) }
+        requires ready { IsReady (machines S.started S.after S.greeting) self.old }
+        ensures { OnOk result ((schedule : Written) (trace : List Moment) → IsAt (machines S.started S.after S.greeting) schedule trace self.old
+            → FitsSchedule schedule → FitsEvent event.now
+            → refusal_lem (world_after (start_of schedule) trace) event.now ≡ None
+            → Steps (machines S.started S.after S.greeting) schedule trace event.now self.old self.new) }
     {
         self.act(alloc, event)?;
         self.turns += 1;

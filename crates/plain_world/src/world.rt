@@ -1,11 +1,11 @@
 //! The world, and the effect of an event on it.
 
-ghost use Rattle.std.specs.Prelude.{◌≡◌, Some, IfOk, List, [], map};
+ghost use Rattle.std.specs.Prelude.{◌≡◌, Some, None, IfOk, List, [], map};
 ghost use Rattle.ft_model.specs.Client.{mover_of, move_asked};
 ghost use Rattle.ft_model.specs.Legal.{machines, start_of, refusal as refusal_lem, refusal_of_asked};
 ghost use Rattle.ft_model.specs.Network.{Packet};
 ghost use Rattle.ft_model.specs.Playable.{IsPlayable};
-ghost use Rattle.ft_model.specs.Wire.{wire_of};
+ghost use Rattle.plain_packets.specs.Sent.{kept_wire};
 ghost use Rattle.ft_model.specs.World.{Moment, world_after};
 ghost use Rattle.ft_model.specs.declared.event.Event.{Event as Asked};
 ghost use Rattle.ft_model.specs.declared.event.Event.TheVariants.{Flip};
@@ -64,11 +64,13 @@ impl<S: Service> Model for PlainWorld<S> {
 }
 
 impl<S: Service> PlainWorld<S> {
-    /// Creates the world before the first event.
+    /// Creates the world before the first event of a schedule whose server doesn't last.
     pub fn new(alloc: Global, schedule: &Schedule) -> Result<PlainWorld<S>, NoMemory>
-        requires { IsPlayable schedule.now }
-        ensures { (events : List Asked) → IfOk result (λ w. IsAt (machines S.started S.after) (record schedule.now { events = events }) [] w) }
+        requires playable { IsPlayable schedule.now }
+        requires fleeting { schedule.now.lasting ≡ None }
+        ensures { (events : List Asked) → IfOk result (λ w. IsAt (machines S.started S.after S.greeting) (record schedule.now { events = events }) [] w) }
     {
+        // A theorem for the proof. It does nothing when it is called.
         playable_schedules_start();
         let clients = new_clients(alloc, schedule.server, schedule.clients.as_slice())?;
         Ok(PlainWorld {
@@ -126,8 +128,9 @@ impl<S: Service> PlainWorld<S> {
     }
 
     /// Returns why a bit of a packet may not be changed, or `None` if it may.
+    #[tactic(auto, using(plain_packets::proofs::Kept::kept_length))]
     fn flip_refusal(&self, number: u32, bit: u32) -> Option<EventWhy>
-        ensures { (packets : List Packet) → self.now.packets ≡ map wire_of packets → result ≡ refusal_lem (world_of self.now packets) (Flip number bit) }
+        ensures { (packets : List Packet) → self.now.packets ≡ map kept_wire packets → result ≡ refusal_lem (world_of self.now packets) (Flip number bit) }
     {
         let Some(wire) = self.packets.get(number) else {
             return Some(EventWhy::Packet);
@@ -140,7 +143,7 @@ impl<S: Service> PlainWorld<S> {
 
     /// Returns why an event may not happen, given the packets whose wires are stored.
     fn refusal_now(&self, event: &Event) -> Option<EventWhy>
-        ensures { (packets : List Packet) → self.now.packets ≡ map wire_of packets → result ≡ refusal_lem (world_of self.now packets) event.now }
+        ensures { (packets : List Packet) → self.now.packets ≡ map kept_wire packets → result ≡ refusal_lem (world_of self.now packets) event.now }
     {
         match *event {
             Event::Boot { .. } if self.actors.node.is_some() => Some(EventWhy::Up),
@@ -164,7 +167,7 @@ impl<S: Service> PlainWorld<S> {
 
     /// Returns why an event may not happen, or `None` if it may.
     pub fn refusal(&self, event: &Event) -> Option<EventWhy>
-        ensures { (schedule : Written) (trace : List Moment) → IsAt (machines S.started S.after) schedule trace self.now
+        ensures { (schedule : Written) (trace : List Moment) → IsAt (machines S.started S.after S.greeting) schedule trace self.now
             → result ≡ refusal_lem (world_after (start_of schedule) trace) event.now }
     {
         self.refusal_now(event)

@@ -64,6 +64,7 @@ pub(crate) fn check<I: Source, O: Sink>(
     ensures stops { IfErr result (CheckStops (stream I.left I.fault_count input.old input.new) (stream O.taken O.fault_count out.old out.new)) }
     ensures taken { ConsumesAtMost 268435457 (I.left input.old) (I.left input.new) }
 {
+    // A theorem for the proof. It does nothing when it is called.
     joint_traces_are_safe();
     let text = read_to_limit(alloc, input, REPORT_LIMIT)?;
     let yes = check_trace::<AnyService>(alloc, &text)?;

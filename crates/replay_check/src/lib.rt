@@ -5,7 +5,7 @@
 pub use reports::check_report;
 pub use safe::joint_traces_are_safe;
 pub use status::{RunEnd, Status, TooMuch, end_of_step};
-pub use telling::tell;
+pub use telling::report_end;
 
 mod check;
 mod excluded;

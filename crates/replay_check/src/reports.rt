@@ -7,7 +7,7 @@ ghost use Rattle.replay_check.specs.Stream.{stream};
 
 use crate::check::check;
 use crate::status::Status;
-use crate::telling::tell;
+use crate::telling::report_end;
 use ft_io::{Sink, Source};
 use report_laws::no_report_has_a_rejected_prefix;
 use sample_servers::AnyService;
@@ -26,9 +26,10 @@ pub fn check_report<I: Source, O: Sink, E: Sink>(
         → FindsLegal (stream I.left I.fault_count input.old input.new) (stream O.taken O.fault_count out.old out.new) }
     ensures taken { ConsumesAtMost 268435457 (I.left input.old) (I.left input.new) }
 {
+    // A theorem for the proof. It does nothing when it is called.
     no_report_has_a_rejected_prefix::<AnyService>();
     match check(alloc, input, out) {
         Ok(()) => Status { code: 0 },
-        Err(end) => tell(err, end),
+        Err(end) => report_end(err, end),
     }
 }

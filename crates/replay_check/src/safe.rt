@@ -16,6 +16,7 @@ use sample_servers::AnyService;
 pub fn joint_traces_are_safe()
     ensures { (kind : ℕ) (start : World) (trace : List Moment) → Joint (any_machine kind) start trace → IsSafe (any_machine kind) start trace }
 {
+    // Theorems for the proof. They do nothing when they are called.
     every_joint_trace_is_masked::<AnyService>();
     no_logged_connection_is_reset::<AnyService>();
     no_server_is_fenced::<AnyService>();

@@ -5,7 +5,8 @@ ghost use Rattle.std.specs.Io.KnownBytes.{Appends};
 ghost use Rattle.ft_io.specs.Faults.{Rose};
 ghost use Rattle.replay_check.specs.PartialWrite.{WroteFront, CountsFailed};
 ghost use Rattle.replay_check.specs.Ends.{code_of};
-ghost use Rattle.replay_check.specs.ErrText.{line_word as line_lem, event_word as event_lem, limit_word as limit_lem, law_word as law_lem, numbered, error_line, cause_text, text_of};
+ghost use Rattle.replay_check.specs.ErrText.{line_word as line_lem, event_word as event_lem, limit_word as limit_lem, law_word as law_lem, numbered};
+ghost use Rattle.replay_check.specs.ErrText.{error_line, cause_text, text_of};
 
 use crate::status::{RunEnd, Status, TooMuch};
 use ft_io::{Failed, Sink, write_all};
@@ -162,7 +163,7 @@ fn code(end: RunEnd) -> u8
 }
 
 /// Writes the text of an end and returns its exit status, or 5 if that write failed. Where the sink of the report failed, it writes nothing.
-pub fn tell<E: Sink>(err: &mut E, end: RunEnd) -> Status
+pub fn report_end<E: Sink>(err: &mut E, end: RunEnd) -> Status
     ensures told { ((result.code ≡ code_of end) × Appends (E.taken err.old) (E.taken err.new) (text_of end)
         × (E.fault_count err.new ≡ E.fault_count err.old))
         ⊎ ((result.code ≡ 5) × Rose (E.fault_count err.old) (E.fault_count err.new)

@@ -5,6 +5,8 @@ use Rattle.std.proofs.lemmas.List.{length-map}
 use Rattle.sample_servers.specs.AnyService.{any_machine}
 use Rattle.sample_servers.specs.declared.any_service.AnyService.{AnyService}
 use Rattle.server_trait.specs.Service.{CanCut}
+use Rattle.tcp_rules.specs.Profile.{grammar_of}
+use Rattle.tcp_rules.specs.Profiles.{profile_of}
 use Rattle.ft_model.specs.Lawful.{is_fenced}
 use Rattle.ft_model.specs.Legal.{start_of, IsLegalFor}
 use Rattle.ft_model.specs.Report.{header, client_lines, log_line, end_line}
@@ -23,7 +25,7 @@ use Rattle.twin_laws.specs.Flat.{flat}
 use Rattle.twin_laws.specs.TwinLegal.{twin_start, IsTwinLegalFor}
 use Rattle.twin_laws.specs.TwinWorld.{TwinMoment}
 use Rattle.schedule_network.specs.AtNumber.{at_number}
-use Rattle.net_schedule.specs.SentPackets.{KeepsAllSent, KeepsAllParcels, KeepsAllMarked}
+use Rattle.net_schedule.specs.SentPackets.{run_grammar, KeepsAllSent, KeepsAllParcels, KeepsAllMarked}
 use Rattle.net_schedule.specs.Refinement.{Kept}
 use Rattle.net_schedule.specs.MarkedStep.{MarkedStandsAfter, MarkedSteps, MarkedEndsStep}
 use Rattle.net_schedule.specs.Step.{StandsAfter, Steps, EndsStep}
@@ -31,7 +33,8 @@ use Rattle.net_schedule.specs.TwinStep.{TwinStandsAfter, TwinSteps, TwinEndsStep
 use Rattle.schedule_network.specs.declared.end.StepEnd.{StepEnd}
 use Rattle.schedule_network.specs.declared.end.StepEnd.TheVariants.{NoMemory, BadEvent, PacketLimit}
 use Rattle.schedule_network.specs.declared.step_out.StepOut.{StepOut}
-use Rattle.schedule_text.specs.Bytes.{content_in}
+use Rattle.schedule_text.specs.Bytes.{content_by}
+use Rattle.replay_run.specs.PacketLines.{stored_lines}
 use Rattle.replay_run.specs.TraceEnd.{IsTraceEnd, IsStanding, PlaysOne, StopsAt}
 use Rattle.replay_run.specs.Traces.{any_marker, traces_of, traces}
 use Rattle.replay_run.proofs.Marked as marked
@@ -53,6 +56,13 @@ pub legal_of : (twin : Bool) (marks : Option ℕ) (schedule : Schedule) (events 
 legal_of true marks schedule events trace w s = s.legal
 legal_of false None schedule events trace w s = s.legal
 legal_of false (Some every) schedule events trace w s = s.legal
+
+-- the world has the schedule's profile
+profile_is : (twin : Bool) (marks : Option ℕ) (schedule : Schedule) (events : List Event) (trace : List (traces_of twin marks).Turn) (w : Kept AnyService) → IsTraceEnd twin marks schedule events trace w
+    → w.profile ≡ schedule.profile
+profile_is true marks schedule events trace w s = s.profile
+profile_is false None schedule events trace w s = s.profile
+profile_is false (Some every) schedule events trace w s = s.profile
 
 -- before the first event
 pub no_lines : (twin : Bool) (marks : Option ℕ) (schedule : Schedule) → (traces_of twin marks).lines schedule [] ≡ []
@@ -136,7 +146,8 @@ plays_one keeps event answer w w' does true marks schedule events trace s =
       stands = d.extends.stands;
       within = d.within;
       lines = two.turn_lines schedule events event d.extends.moment trace _ answer.first s.legal d.extends.stands.legal d.first
-          (two.stored_in_turn schedule trace d.extends.moment w'.packets answer.first answer.count
+          (ap (λ p. stored_lines (grammar_of (profile_of p)) w'.packets answer.first answer.count) d.extends.stands.profile
+          ∙ two.stored_in_turn schedule trace d.extends.moment w'.packets answer.first answer.count
           (keeps.two schedule (events ++ event ∷ []) (d.extends.moment ∷ trace) w' d.extends.stands) d.extends.grew d.first d.count);
     }
 plays_one keeps event answer w w' does false None schedule events trace s =
@@ -146,7 +157,8 @@ plays_one keeps event answer w w' does false None schedule events trace s =
       stands = d.extends.stands;
       within = d.within;
       lines = one.turn_lines schedule events event d.extends.moment trace _ answer.first s.legal d.extends.stands.legal d.first
-          (one.stored_in_turn schedule trace d.extends.moment w'.packets answer.first answer.count
+          (ap (λ p. stored_lines (grammar_of (profile_of p)) w'.packets answer.first answer.count) d.extends.stands.profile
+          ∙ one.stored_in_turn schedule trace d.extends.moment w'.packets answer.first answer.count
           (keeps.one schedule (events ++ event ∷ []) (d.extends.moment ∷ trace) w' d.extends.stands) d.extends.grew d.first d.count);
     }
 plays_one keeps event answer w w' does false (Some every) schedule events trace s =
@@ -156,7 +168,8 @@ plays_one keeps event answer w w' does false (Some every) schedule events trace 
       stands = d.extends.stands;
       within = d.within;
       lines = marked.turn_lines every schedule events event d.extends.moment trace _ answer.first s.legal d.extends.stands.legal d.first
-          (marked.stored_in_turn schedule trace d.extends.moment w'.packets answer.first answer.count
+          (ap (λ p. stored_lines (grammar_of (profile_of p)) w'.packets answer.first answer.count) d.extends.stands.profile
+          ∙ marked.stored_in_turn schedule trace d.extends.moment w'.packets answer.first answer.count
           (keeps.marked every schedule (events ++ event ∷ []) (d.extends.moment ∷ trace) w' d.extends.stands) d.extends.grew d.first d.count);
     }
 
@@ -188,14 +201,16 @@ stops_at event w w' end ends false (Some every) schedule events trace s = stops_
 
 -- what is stored can be read
 can_be_read : KeepsAll → (n : ℕ) (way : Way) (bytes : List ℕ) (twin : Bool) (marks : Option ℕ) (schedule : Schedule) (events : List Event) (trace : List (traces_of twin marks).Turn) (w : Kept AnyService)
-    → IsTraceEnd twin marks schedule events trace w → at_number w.packets.ways n ≡ Some way → at_number w.packets.bytes n ≡ Some bytes → IsSome (content_in way bytes)
+    → IsTraceEnd twin marks schedule events trace w → at_number w.packets.ways n ≡ Some way → at_number w.packets.bytes n ≡ Some bytes → IsSome (content_by (run_grammar schedule) way bytes)
 can_be_read keeps n way bytes true marks schedule events trace w s e f = two.can_be_read schedule trace w.packets n way bytes (keeps.two schedule events trace w s) e f
 can_be_read keeps n way bytes false None schedule events trace w s e f = one.can_be_read schedule trace w.packets n way bytes (keeps.one schedule events trace w s) e f
 can_be_read keeps n way bytes false (Some every) schedule events trace w s e f = marked.can_be_read schedule trace w.packets n way bytes (keeps.marked every schedule events trace w s) e f
 
 pub can_be_written : KeepsAll → (w : Kept AnyService) (n : ℕ) (way : Way) (bytes : List ℕ) → IsStanding w → at_number w.packets.ways n ≡ Some way
-    → at_number w.packets.bytes n ≡ Some bytes → IsSome (content_in way bytes)
-can_be_written keeps w n way bytes i e f = can_be_read keeps n way bytes i.schedule.twin i.schedule.marks i.schedule i.events i.trace w i.stands e f
+    → at_number w.packets.bytes n ≡ Some bytes → IsSome (content_by (grammar_of (profile_of w.profile)) way bytes)
+can_be_written keeps w n way bytes i e f =
+    subst (λ p. IsSome (content_by (grammar_of (profile_of p)) way bytes)) (sym (profile_is i.schedule.twin i.schedule.marks i.schedule i.events i.trace w i.stands))
+    (can_be_read keeps n way bytes i.schedule.twin i.schedule.marks i.schedule i.events i.trace w i.stands e f)
 
 -- what is proved of a trace with marks
 pub record MarkedLaws : Type 0 where

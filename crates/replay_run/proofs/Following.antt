@@ -8,15 +8,15 @@ use Rattle.ft_model.specs.Log.{Entry, head_of}
 use Rattle.ft_model.specs.Network.{Packet}
 use Rattle.ft_model.specs.Network.Packet.{To_server, To_client, To_logger, From_logger}
 use Rattle.ft_model.specs.Report.{log_line, entry_line}
-use Rattle.ft_model.specs.Wire.{wire_of, HasWire}
+use Rattle.ft_model.specs.Wire.{wire_by, HasWireBy}
 use Rattle.ft_model.specs.World.{client_at}
 use Rattle.ft_model.specs.declared.schedule.Schedule.{Schedule}
 use Rattle.ft_model.proofs.Lists.{some_is, none_is_some, index_within}
 use Rattle.logger_wire.specs.Records.{head_said}
 use Rattle.logger_store.specs.StoreState.{lengths_of}
 use Rattle.logger_wire.specs.declared.records.EntryHead.{EntryHead}
-use Rattle.net_schedule.specs.SentPackets.{reported_way}
-use Rattle.schedule_text.specs.Bytes.{packet_in, said_as}
+use Rattle.net_schedule.specs.SentPackets.{run_grammar, reported_way}
+use Rattle.schedule_text.specs.Bytes.{packet_by, said_as}
 
 -- lines of a list's elements, numbered on from n
 abbrev pub AreLines : {X : Type 0} → (ℕ → List X → List ℕ) → (ℕ → X → List ℕ) → Type 0
@@ -57,7 +57,7 @@ pub all_lines : {X : Type 0} (lines : ℕ → List X → List ℕ) → ((n : ℕ
 all_lines lines nil xs n i now whole past so_far = sym (append-nil now) ∙ ap (λ l. now ++ l) (sym (ap (lines n) (drop_of_length-le xs past) ∙ nil n)) ∙ so_far
 
 -- a packet's bytes are read as the packet
-pub packet_is_read : (schedule : Schedule) (p : Packet) → HasWire p → packet_in (reported_way schedule p) (wire_of p).bytes ≡ Some p
+pub packet_is_read : (schedule : Schedule) (p : Packet) → HasWireBy (run_grammar schedule) p → packet_by (run_grammar schedule) (reported_way schedule p) (wire_by (run_grammar schedule) p).bytes ≡ Some p
 packet_is_read schedule (To_server segment) w = ap (said_as To_server) (spelling_is_read segment w.0)
 packet_is_read schedule (To_client segment) w = ap (said_as To_client) (spelling_is_read segment w.0)
 packet_is_read schedule (To_logger message) w = ap (said_as To_logger) (message_is_read message w.0)

@@ -5,6 +5,7 @@ use Rattle.std.specs.Option.{option_map_or}
 use Rattle.seq_arith.specs.Damage.{flipped}
 use Rattle.seq_arith.specs.PacketGrammar as segments
 use Rattle.sample_servers.specs.declared.any_service.AnyService.{AnyService}
+use Rattle.tcp_rules.specs.Profile.{grammar_of}
 use Rattle.ft_model.specs.Client.{Client}
 use Rattle.ft_model.specs.Network.Packet.{To_server, To_client, To_logger, From_logger}
 use Rattle.ft_model.specs.Node.Input.{Packet_comes, Message_comes, Tick_comes}
@@ -26,9 +27,9 @@ use Rattle.mark_laws.specs.MarkedReport.{mark_words, way_of_marked, marked_parce
 use Rattle.schedule_network.specs.AtNumber.{at_number}
 use Rattle.net_schedule.specs.MarkedStep.{MarkedStandsAfter}
 use Rattle.schedule_network.specs.StoredPackets.{Carried}
-use Rattle.net_schedule.specs.SentPackets.{KeepsAllMarked, marked_parcels_of}
+use Rattle.net_schedule.specs.SentPackets.{run_grammar, KeepsAllMarked, marked_parcels_of}
 use Rattle.net_schedule.specs.Refinement.{Kept}
-use Rattle.schedule_text.specs.Bytes.{content_in}
+use Rattle.schedule_text.specs.Bytes.{content_by}
 use Rattle.schedule_text.proofs.Contents.{content_of_mark, content_of_packet}
 use Rattle.replay_run.specs.PacketLines.{line_of, stored_lines}
 use Rattle.replay_run.specs.Traces.{any_marker}
@@ -71,17 +72,17 @@ comes_grows by (Mark_answered message) before sent after t = turn_grows by (Mark
 changed_grows : {State : Type 0} (by : Marker State) (parcel : Parcel) (bytes : List ℕ) (before : MarkedWorld) (sent : List Parcel) (after : MarkedWorld) → ComesAs by parcel bytes before sent after → Grows before sent after
 changed_grows by (Usual (To_server segment)) bytes before sent after t = turn_grows by (Plain_comes (segment_or_noise (segments.reading bytes))) before.node before sent after t
 changed_grows by (Usual (To_client segment)) bytes before sent after t = ap (λ (w : MarkedWorld). w.parcels) t.3
-changed_grows by (Usual (To_logger message)) bytes before sent after t = read_grows (said_by bytes) before sent after t
-changed_grows by (Usual (From_logger message)) bytes before sent after t = turn_grows by (input_of (said_by bytes)) before.node before sent after t
-changed_grows by (Mark_sent message) bytes before sent after t = read_grows (said_by bytes) before sent after t
-changed_grows by (Mark_answered message) bytes before sent after t = turn_grows by (input_of (said_by bytes)) before.node before sent after t
+changed_grows by (Usual (To_logger message)) bytes before sent after t = read_grows (said_by (grammar_of before.profile) bytes) before sent after t
+changed_grows by (Usual (From_logger message)) bytes before sent after t = turn_grows by (input_of (said_by (grammar_of before.profile) bytes)) before.node before sent after t
+changed_grows by (Mark_sent message) bytes before sent after t = read_grows (said_by (grammar_of before.profile) bytes) before sent after t
+changed_grows by (Mark_answered message) bytes before sent after t = turn_grows by (input_of (said_by (grammar_of before.profile) bytes)) before.node before sent after t
 
 moment_grows : {State : Type 0} (by : Marker State) (event : Event) (before : MarkedWorld) (sent : List Parcel) (after : MarkedWorld) → MarkedHappens by before event sent after → Grows before sent after
 moment_grows by (Boot boot isn) before sent after t = ap (λ (w : MarkedWorld). w.parcels) t.3
 moment_grows by Crash before sent after t = ap (λ (w : MarkedWorld). w.parcels) t.2
 moment_grows by Tick before sent after t = turn_grows by (Plain_comes Tick_comes) before.node before sent after t.1
 moment_grows by (Deliver number) before sent after t = comes_grows by t.0 before sent after t.2
-moment_grows by (Flip number bit) before sent after t = changed_grows by t.0 (flipped bit (bytes_of t.0)) before sent after t.2.comes
+moment_grows by (Flip number bit) before sent after t = changed_grows by t.0 (flipped bit (bytes_of (grammar_of before.profile) t.0)) before sent after t.2.comes
 moment_grows by event before sent after t = ap (λ (w : MarkedWorld). w.parcels) t.3
 
 -- all parcels are counted
@@ -97,15 +98,15 @@ words_of (Usual packet) = content_words packet
 words_of (Mark_sent message) = mark_words message
 words_of (Mark_answered message) = mark_words message
 
-content_is : (schedule : Schedule) (p : Parcel) → CanBeRead p → content_in (way_of_marked (clients_of schedule.server schedule.clients) p) (bytes_of p) ≡ Some (words_of p)
+content_is : (schedule : Schedule) (p : Parcel) → CanBeRead (run_grammar schedule) p → content_by (run_grammar schedule) (way_of_marked (clients_of schedule.server schedule.clients) p) (bytes_of (run_grammar schedule) p) ≡ Some (words_of p)
 content_is schedule (Usual packet) r =
-    content_of_packet (way_of_marked (clients_of schedule.server schedule.clients) (Usual packet)) (bytes_of (Usual packet)) packet (packet_is_read schedule packet r)
-content_is schedule (Mark_sent message) r = content_of_mark (bytes_of (Mark_sent message)) message r
-content_is schedule (Mark_answered message) r = content_of_mark (bytes_of (Mark_answered message)) message r
+    content_of_packet (run_grammar schedule) (way_of_marked (clients_of schedule.server schedule.clients) (Usual packet)) (bytes_of (run_grammar schedule) (Usual packet)) packet (packet_is_read schedule packet r)
+content_is schedule (Mark_sent message) r = content_of_mark (run_grammar schedule) (bytes_of (run_grammar schedule) (Mark_sent message)) message r
+content_is schedule (Mark_answered message) r = content_of_mark (run_grammar schedule) (bytes_of (run_grammar schedule) (Mark_answered message)) message r
 
 -- the line of a parcel that is stored
-reads_parcel : (schedule : Schedule) (n : ℕ) (p : Parcel) → CanBeRead p
-    → line_of n (Some (way_of_marked (clients_of schedule.server schedule.clients) p)) (Some (bytes_of p)) ≡ marked_parcel_line (clients_of schedule.server schedule.clients) n p
+reads_parcel : (schedule : Schedule) (n : ℕ) (p : Parcel) → CanBeRead (run_grammar schedule) p
+    → line_of (run_grammar schedule) n (Some (way_of_marked (clients_of schedule.server schedule.clients) p)) (Some (bytes_of (run_grammar schedule) p)) ≡ marked_parcel_line (clients_of schedule.server schedule.clients) n p
 unfolding packet_line
 reads_parcel schedule n (Usual packet) r =
     ap (λ o. option_map_or (line_of_packet n (way_of_marked (clients_of schedule.server schedule.clients) (Usual packet))) o []) (content_is schedule (Usual packet) r)
@@ -115,9 +116,9 @@ reads_parcel schedule n (Mark_answered message) r =
     ap (λ o. option_map_or (line_of_packet n (way_of_marked (clients_of schedule.server schedule.clients) (Mark_answered message))) o []) (content_is schedule (Mark_answered message) r)
 
 pub can_be_read : (schedule : Schedule) (trace : List MarkedMoment) (kept : Carried) (n : ℕ) (way : Way) (bytes : List ℕ) → KeepsAllMarked schedule trace kept → at_number kept.ways n ≡ Some way
-    → at_number kept.bytes n ≡ Some bytes → IsSome (content_in way bytes)
+    → at_number kept.bytes n ≡ Some bytes → IsSome (content_by (run_grammar schedule) way bytes)
 can_be_read schedule trace kept n way bytes k e f =
-    stored_is_read (way_of_marked (clients_of schedule.server schedule.clients)) bytes_of CanBeRead kept (marked_parcels_of schedule trace) n way bytes k.ways k.bytes k.written
+    stored_is_read (run_grammar schedule) (way_of_marked (clients_of schedule.server schedule.clients)) (bytes_of (run_grammar schedule)) (CanBeRead (run_grammar schedule)) kept (marked_parcels_of schedule trace) n way bytes k.ways k.bytes k.written
     (λ p r. ap is_some (content_is schedule p r)) e f
 
 -- the lines of a turn
@@ -138,9 +139,9 @@ turn_lines every schedule events event moment trace kept first before after from
 
 pub stored_in_turn : (schedule : Schedule) (trace : List MarkedMoment) (moment : MarkedMoment) (kept : Carried) (first count : ℕ) → KeepsAllMarked schedule (moment ∷ trace) kept
     → moment.world.parcels ≡ marked_parcels_of schedule trace ++ moment.sent → first ≡ marked_packets_sent schedule trace + 1 → count ≡ length moment.sent
-    → stored_lines kept first count ≡ marked_parcel_lines (clients_of schedule.server schedule.clients) first moment.sent
+    → stored_lines (run_grammar schedule) kept first count ≡ marked_parcel_lines (clients_of schedule.server schedule.clients) first moment.sent
 stored_in_turn schedule trace moment kept first count k grew from many =
-    lines_stored (way_of_marked (clients_of schedule.server schedule.clients)) bytes_of CanBeRead (marked_parcel_lines (clients_of schedule.server schedule.clients))
+    lines_stored (run_grammar schedule) (way_of_marked (clients_of schedule.server schedule.clients)) (bytes_of (run_grammar schedule)) (CanBeRead (run_grammar schedule)) (marked_parcel_lines (clients_of schedule.server schedule.clients))
     (marked_parcel_line (clients_of schedule.server schedule.clients)) (λ n p ps. refl) (λ n. refl) (reads_parcel schedule)
     kept moment.world.parcels (marked_parcels_of schedule trace) moment.sent first count k.ways k.bytes k.written grew from many
 

@@ -10,7 +10,7 @@ use Rattle.ft_model.specs.Network.{Packet}
 use Rattle.ft_model.specs.Outcome.{packets_sent}
 use Rattle.ft_model.specs.Report.{header, event_line, packet_line, packet_lines, line_of_packet, content_words, packet_count, event_lines, client_lines, log_line, end_line, report}
 use Rattle.ft_model.specs.Schedule.{clients_of, kind_of}
-use Rattle.ft_model.specs.Wire.{wire_of, HasWire}
+use Rattle.ft_model.specs.Wire.{wire_by, HasWireBy}
 use Rattle.ft_model.specs.World.{World, Moment, Joint, world_after}
 use Rattle.ft_model.specs.declared.event.Event.{Event}
 use Rattle.ft_model.specs.declared.schedule.Schedule.{Schedule}
@@ -19,10 +19,10 @@ use Rattle.std.specs.List.{flat_map}
 use Rattle.ft_model.specs.declared.way.Way.{Way}
 use Rattle.schedule_network.specs.AtNumber.{at_number}
 use Rattle.schedule_network.specs.StoredPackets.{Carried}
-use Rattle.net_schedule.specs.SentPackets.{packets_of, reported_way, KeepsAllSent}
+use Rattle.net_schedule.specs.SentPackets.{run_grammar, packets_of, reported_way, KeepsAllSent}
 use Rattle.net_schedule.specs.Refinement.{Kept}
 use Rattle.net_schedule.specs.Step.{StandsAfter}
-use Rattle.schedule_text.specs.Bytes.{content_in}
+use Rattle.schedule_text.specs.Bytes.{content_by}
 use Rattle.schedule_text.proofs.Contents.{content_of_packet}
 use Rattle.report_laws.proofs.LineLemmas.{events_count}
 use Rattle.replay_run.specs.PacketLines.{line_of, stored_lines}
@@ -41,19 +41,19 @@ all_counted service start (moment ∷ earlier) none j =
     ∙ length-append (world_after start earlier).packets moment.sent ∙ ap (λ n. n + length moment.sent) (all_counted service start earlier none j.0)
 
 -- what is stored of a packet is read as the packet
-content_is : (schedule : Schedule) (p : Packet) → HasWire p → content_in (reported_way schedule p) (wire_of p).bytes ≡ Some (content_words p)
-content_is schedule p w = content_of_packet (reported_way schedule p) (wire_of p).bytes p (packet_is_read schedule p w)
+content_is : (schedule : Schedule) (p : Packet) → HasWireBy (run_grammar schedule) p → content_by (run_grammar schedule) (reported_way schedule p) (wire_by (run_grammar schedule) p).bytes ≡ Some (content_words p)
+content_is schedule p w = content_of_packet (run_grammar schedule) (reported_way schedule p) (wire_by (run_grammar schedule) p).bytes p (packet_is_read schedule p w)
 
 -- the line of a packet that is stored
-reads_packet : (schedule : Schedule) (n : ℕ) (p : Packet) → HasWire p → line_of n (Some (reported_way schedule p)) (Some (wire_of p).bytes) ≡ packet_line n (reported_way schedule p) p
+reads_packet : (schedule : Schedule) (n : ℕ) (p : Packet) → HasWireBy (run_grammar schedule) p → line_of (run_grammar schedule) n (Some (reported_way schedule p)) (Some (wire_by (run_grammar schedule) p).bytes) ≡ packet_line n (reported_way schedule p) p
 unfolding packet_line
 reads_packet schedule n p w =
     ap (λ o. option_map_or (line_of_packet n (reported_way schedule p)) o []) (content_is schedule p w)
 
 pub can_be_read : (schedule : Schedule) (trace : List Moment) (kept : Carried) (n : ℕ) (way : Way) (bytes : List ℕ) → KeepsAllSent schedule trace kept → at_number kept.ways n ≡ Some way
-    → at_number kept.bytes n ≡ Some bytes → IsSome (content_in way bytes)
+    → at_number kept.bytes n ≡ Some bytes → IsSome (content_by (run_grammar schedule) way bytes)
 can_be_read schedule trace kept n way bytes k e f =
-    stored_is_read (reported_way schedule) (λ p. (wire_of p).bytes) HasWire kept (packets_of schedule trace) n way bytes k.ways k.bytes k.wires (λ p w. ap is_some (content_is schedule p w)) e f
+    stored_is_read (run_grammar schedule) (reported_way schedule) (λ p. (wire_by (run_grammar schedule) p).bytes) (HasWireBy (run_grammar schedule)) kept (packets_of schedule trace) n way bytes k.ways k.bytes k.wires (λ p w. ap is_some (content_is schedule p w)) e f
 
 -- the lines of a turn
 pub turn_lines : (schedule : Schedule) (events : List Event) (event : Event) (moment : Moment) (trace : List Moment) (kept : List ℕ) (first : ℕ) → IsLegalFor any_machine schedule events trace
@@ -70,9 +70,9 @@ turn_lines schedule events event moment trace kept first before after from are =
 
 pub stored_in_turn : (schedule : Schedule) (trace : List Moment) (moment : Moment) (kept : Carried) (first count : ℕ) → KeepsAllSent schedule (moment ∷ trace) kept
     → moment.world.packets ≡ packets_of schedule trace ++ moment.sent → first ≡ packets_sent schedule trace + 1 → count ≡ length moment.sent
-    → stored_lines kept first count ≡ packet_lines (clients_of schedule.server schedule.clients) first moment.sent
+    → stored_lines (run_grammar schedule) kept first count ≡ packet_lines (clients_of schedule.server schedule.clients) first moment.sent
 stored_in_turn schedule trace moment kept first count k grew from many =
-    lines_stored (reported_way schedule) (λ p. (wire_of p).bytes) HasWire (packet_lines (clients_of schedule.server schedule.clients))
+    lines_stored (run_grammar schedule) (reported_way schedule) (λ p. (wire_by (run_grammar schedule) p).bytes) (HasWireBy (run_grammar schedule)) (packet_lines (clients_of schedule.server schedule.clients))
     (λ n p. packet_line n (reported_way schedule p) p) (λ n p ps. refl) (λ n. refl) (reads_packet schedule)
     kept moment.world.packets (packets_of schedule trace) moment.sent first count k.ways k.bytes k.wires grew from many
 

@@ -7,7 +7,7 @@ use Rattle.ft_model.specs.Readable.{FitsSchedule}
 use Rattle.ft_model.specs.Report.{header, event_line, packet_lines, packet_count, event_lines, closing_lines, report}
 use Rattle.ft_model.specs.World.{World, Moment, world_after}
 use Rattle.ft_model.specs.declared.schedule.Schedule.{Schedule}
-use Rattle.ft_model.proofs.ReportHeader.{IsClosing, NoClient, NoProfile, NoTwin, NoMarks, closing_ends, no_client, no_profile, no_twin, no_marks, IsSameHeader, header_cut}
+use Rattle.ft_model.proofs.ReportHeader.{IsClosing, NoClient, NoProfile, NoTwin, NoMarks, NoLasting, closing_ends, no_client, no_profile, no_twin, no_marks, no_lasting, IsSameHeader, header_cut}
 use Rattle.ft_model.proofs.ReportTurns.{Telling, sent_in, lines_of}
 use Rattle.ft_model.proofs.ReportTells.{its_clients, all_told, text_of}
 use Rattle.mark_laws.specs.MarkedLegal.{marked_start}
@@ -28,6 +28,7 @@ record Behind (schedule : Schedule) (text : List ℕ) : Type 0 where
   pub profile : NoProfile rest
   pub twin : NoTwin rest
   pub marks : NoMarks rest
+  pub lasting : NoLasting rest
 
 behind : {Turn : Type 0} (by : List Client → Telling Turn Turn) (schedule : Schedule) (turns : List Turn) (w : World) (text : List ℕ) → text ≡ text_of by schedule turns w → Behind schedule text
 behind by schedule turns w text e =
@@ -40,6 +41,7 @@ behind by schedule turns w text e =
       profile = no_profile (by (its_clients schedule)) turns r ends.profile;
       twin = no_twin (by (its_clients schedule)) turns r ends.twin;
       marks = no_marks (by (its_clients schedule)) turns r ends.marks;
+      lasting = no_lasting (by (its_clients schedule)) turns r ends.lasting;
     }
 
 -- with one log
@@ -112,7 +114,7 @@ header_told : (traced other : Traced) → FitsSchedule traced.schedule → FitsS
 header_told traced other fits too e =
     let a : Behind traced.schedule (report_of traced) = all_behind traced.schedule.twin traced.schedule.marks traced.schedule traced.trace in
     let b : Behind other.schedule (report_of other) = all_behind other.schedule.twin other.schedule.marks other.schedule other.trace in
-    (header_cut traced.schedule other.schedule a.rest b.rest fits too a.client b.client a.profile b.profile a.twin b.twin a.marks b.marks (sym a.is ∙ (e ∙ b.is))).0
+    (header_cut traced.schedule other.schedule a.rest b.rest fits too a.client b.client a.profile b.profile a.twin b.twin a.marks b.marks a.lasting b.lasting (sym a.is ∙ (e ∙ b.is))).0
 
 abbrev OneTrace : Traces → Type 0
 OneTrace kind = (schedule : Schedule) (trace other : List kind.Turn) → kind.IsLegal schedule schedule.events trace → kind.IsLegal schedule schedule.events other → trace ≡ other

@@ -1,6 +1,8 @@
 -- A run that has played some events of a schedule plays one more, or ends there.
 use Rattle.std.proofs.Common.{◌≡◌, ◌∙◌, ℕ, ◌+◌, ◌<◌, Option, List, [], ◌∷◌, ◌++◌, length, sym, ap, subst, inl, append_assoc, append-nil, refl}
 use Rattle.sample_servers.specs.declared.any_service.AnyService.{AnyService}
+use Rattle.tcp_rules.specs.Profile.{grammar_of}
+use Rattle.tcp_rules.specs.Profiles.{profile_of}
 use Rattle.ft_model.specs.Report.{header, event_line}
 use Rattle.ft_model.specs.declared.event.Event.{Event}
 use Rattle.ft_model.specs.declared.schedule.Schedule.{Schedule}
@@ -35,10 +37,10 @@ more_played safe schedule others event answer w p s =
 -- a run plays one more, and its lines are held
 pub event_played : AreSafe → (schedule : Schedule) (others : List Event) (event : Event) (n : ℕ) (w w' : Kept AnyService) (old now : Option (List ℕ)) (held after none lines : List ℕ) (answer : StepOut)
     → (r : Plays schedule (event ∷ others) w old now held) → n ≡ length r.played.events + 1 → PlaysOne schedule.twin schedule.marks schedule r.played.events r.played.trace event answer w'
-    → lines ≡ none ++ (event_line n event ++ stored_lines w'.packets answer.first answer.count) → none ≡ [] → after ≡ held ++ lines → Plays schedule others w' old now after
+    → lines ≡ none ++ (event_line n event ++ stored_lines (grammar_of (profile_of w'.profile)) w'.packets answer.first answer.count) → none ≡ [] → after ≡ held ++ lines → Plays schedule others w' old now after
 event_played safe schedule others event n w w' old now held after none lines answer r at s written is_none grown =
     let trace : List (traces schedule).Turn = r.played.trace in
-    let stored : List ℕ = stored_lines w'.packets answer.first answer.count in
+    let stored : List ℕ = stored_lines (grammar_of (profile_of w'.profile)) w'.packets answer.first answer.count in
     let are : lines ≡ event_line (length r.played.events + 1) event ++ stored = written ∙ ap (λ l. l ++ (event_line n event ++ stored)) is_none ∙ ap (λ k. event_line k event ++ stored) at in
     let whole : lines_so_far schedule trace ++ lines ≡ lines_so_far schedule (s.moment ∷ trace) =
     append_assoc (header schedule) ((traces schedule).lines schedule trace) lines

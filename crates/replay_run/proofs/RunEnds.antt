@@ -8,7 +8,7 @@ use Rattle.std.proofs.Math.ListN.{drop_of_length-le}
 use Rattle.ft_io.specs.declared.reading.ReadEnd.{ReadEnd}
 use Rattle.ft_io.specs.declared.reading.ReadEnd.TheVariants as reads
 use Rattle.sample_servers.specs.declared.any_service.AnyService.{AnyService}
-use Rattle.ft_model.specs.Grammar.{read_text, read_with, read_lines, no_objection}
+use Rattle.ft_model.specs.Grammar.{read_with, read_lines}
 use Rattle.ft_model.specs.Grammar.{Refusal as reading}
 use Rattle.ft_model.specs.Words.{lines_of}
 use Rattle.ft_model.specs.Legal.{start_of}
@@ -19,6 +19,7 @@ use Rattle.ft_model.specs.declared.event.EventWhy.{EventWhy}
 use Rattle.ft_model.specs.declared.line.Draft.TheVariants.{Empty}
 use Rattle.ft_model.specs.declared.schedule.Schedule.{Schedule}
 use Rattle.ft_model.specs.declared.schedule.Limit.TheVariants as limits
+use Rattle.schedule_text.specs.Fleeting.{no_lasting, read_fleeting}
 use Rattle.net_schedule.specs.Refinement.{Kept}
 use Rattle.ft_io.specs.Faults.{Rose}
 use Rattle.replay_check.specs.Ends.{end_of_read, CountsFaults}
@@ -246,19 +247,19 @@ all_fails schedule old now new held k out =
     (f.0, f.1, front_of_all schedule f.0 k.0 k.2 f.2)
 
 -- a text that was read, and what holds of its schedule
-spelled_as : (Is : Schedule → Type 0) (left : Option (List ℕ)) (text : List ℕ) (schedule : Schedule) → IfSome left (λ whole. text ≡ whole) → read_text text ≡ Ok schedule → Is schedule
+spelled_as : (Is : Schedule → Type 0) (left : Option (List ℕ)) (text : List ℕ) (schedule : Schedule) → IfSome left (λ whole. text ≡ whole) → read_fleeting text ≡ Ok schedule → Is schedule
     → IfSome left (λ whole. Spells whole Is)
 spelled_as Is None text schedule same spelled is = tt
-spelled_as Is (Some whole) text schedule same spelled is = (schedule, ap read_text (sym same) ∙ spelled, is)
+spelled_as Is (Some whole) text schedule same spelled is = (schedule, ap read_fleeting (sym same) ∙ spelled, is)
 
 -- a text past the limit isn't read
-too_long : (text : List ℕ) → 8388608 < length text → read_text text ≡ Err (reading.TooLong limits.Text)
+too_long : (text : List ℕ) → 8388608 < length text → read_fleeting text ≡ Err (reading.TooLong limits.Text)
 unfolding read_with
 too_long text h =
     let past : nat_le (length text) 8388608 ≡ false = grind arith in
-    ap (λ b. if b then read_lines no_objection 1 Empty (lines_of text) else Err (reading.TooLong limits.Text)) past
+    ap (λ b. if b then read_lines no_lasting 1 Empty (lines_of text) else Err (reading.TooLong limits.Text)) past
 
-long_is_refused : (left : Option (List ℕ)) → IfSome left (λ text. 8388608 < length text) → IfSome left (λ text. read_text text ≡ Err (reading.TooLong limits.Text))
+long_is_refused : (left : Option (List ℕ)) → IfSome left (λ text. 8388608 < length text) → IfSome left (λ text. read_fleeting text ≡ Err (reading.TooLong limits.Text))
 long_is_refused None h = tt
 long_is_refused (Some text) h = too_long text h
 
@@ -270,11 +271,11 @@ source_stops input out reads.Fault same kept long fault past memory = (fault ref
 source_stops input out reads.TooLong same kept long fault past memory =
     record { refused = long_is_refused input.before (long refl); unwritten = same; input_faultless = past refl; out_faultless = kept }
 
-refused_as : (why : reading) (left : Option (List ℕ)) (text : List ℕ) → IfSome left (λ whole. text ≡ whole) → read_text text ≡ Err why → IfSome left (λ whole. read_text whole ≡ Err why)
+refused_as : (why : reading) (left : Option (List ℕ)) (text : List ℕ) → IfSome left (λ whole. text ≡ whole) → read_fleeting text ≡ Err why → IfSome left (λ whole. read_fleeting whole ≡ Err why)
 refused_as why None text same refused = tt
-refused_as why (Some whole) text same refused = ap read_text (sym same) ∙ refused
+refused_as why (Some whole) text same refused = ap read_fleeting (sym same) ∙ refused
 
-refuses : (input out : Stream) (text : List ℕ) (why : reading) → out.Untouched → HasNotFailed out → HasNotFailed input → IfSome input.before (λ whole. text ≡ whole) → read_text text ≡ Err why
+refuses : (input out : Stream) (text : List ℕ) (why : reading) → out.Untouched → HasNotFailed out → HasNotFailed input → IfSome input.before (λ whole. text ≡ whole) → read_fleeting text ≡ Err why
     → Refuses input out why
 refuses input out text why untouched kept well same refused =
     record { refused = refused_as why input.before text same refused; unwritten = untouched; input_faultless = well; out_faultless = kept }
@@ -295,18 +296,18 @@ reading_stops input out text WriteFault untouched kept well same s = absurd s
 
 -- the playing reports
 pub playing_reports : (input out : Stream) (text : List ℕ) (schedule : Schedule) (Is : Schedule → List ℕ → Type 0) → IsAtEnd input.after → HasNotFailed input → IfSome input.before (λ whole. text ≡ whole)
-    → read_text text ≡ Ok schedule → HasNotFailed out → Wrote out.before out.after (Is schedule) → Reports input out Is
+    → read_fleeting text ≡ Ok schedule → HasNotFailed out → Wrote out.before out.after (Is schedule) → Reports input out Is
 playing_reports input out text schedule Is at well same spelled kept s =
     record { written = spelled_as (λ x. Wrote out.before out.after (Is x)) input.before text schedule same spelled s; end = at; input_faultless = well; out_faultless = kept }
 
 -- .. or a prefix of its report was written
-playing_keeps : (input out : Stream) (text : List ℕ) (schedule : Schedule) → IsAtEnd input.after → IfSome input.before (λ whole. text ≡ whole) → read_text text ≡ Ok schedule
+playing_keeps : (input out : Stream) (text : List ℕ) (schedule : Schedule) → IsAtEnd input.after → IfSome input.before (λ whole. text ≡ whole) → read_fleeting text ≡ Ok schedule
     → Wrote out.before out.after (ReportsFront schedule) → KeepsFront input out
 playing_keeps input out text schedule at same spelled s = inr (at, spelled_as (λ x. Wrote out.before out.after (ReportsFront x)) input.before text schedule same spelled s)
 
 -- the playing ends the run
 pub playing_stops : (input out : Stream) (text : List ℕ) (schedule : Schedule) (end : RunEnd) → IsAtEnd input.after → HasNotFailed input → IfSome input.before (λ whole. text ≡ whole)
-    → read_text text ≡ Ok schedule → CountsFaults out.faults_before out.faults_after (Err end) → Wrote out.before out.after (EndsPlaying schedule end) → RunStops input out end
+    → read_fleeting text ≡ Ok schedule → CountsFaults out.faults_before out.faults_after (Err end) → Wrote out.before out.after (EndsPlaying schedule end) → RunStops input out end
 playing_stops input out text schedule NoMemory at well same spelled c s = (playing_keeps input out text schedule at same spelled s, well, c)
 playing_stops input out text schedule WriteFault at well same spelled c s = (playing_keeps input out text schedule at same spelled s, well, c)
 playing_stops input out text schedule (BadEvent number why) at well same spelled c s = playing_reports input out text schedule (λ x. ReportsTill x number why) at well same spelled c s

@@ -1,6 +1,6 @@
 -- The status by the text: what each status says of it, and that the text settles the status.
 use Rattle.std.proofs.Common.{◌≡◌, ◌∙◌, ◌⊎◌, inl, inr, ℕ, ◌<◌, ◌≤◌, [], ◌∷◌, ◌++◌, Bool, true, false, ◌==◌, ◌||◌, eqb-true, Option, None, Some, List, Ok, Err, refl, sym, ap, subst, Result, append-nil, arith}
-use Rattle.ft_model.specs.Grammar.{read_text}
+use Rattle.schedule_text.specs.Fleeting.{read_fleeting}
 use Rattle.ft_model.specs.Grammar.{Refusal as reading}
 use Rattle.ft_model.specs.Legal.{IsLegalFor}
 use Rattle.ft_model.specs.declared.event.Event.{Event}
@@ -26,7 +26,7 @@ use Rattle.replay_check.specs.declared.status.RunEnd.TheVariants.{Usage, NoMemor
 use Rattle.replay_check.proofs.EndTold.{when_told, never_zero, TellsEnd}
 
 pub bad_line : (text : List ℕ) (input out : Stream) (end : RunEnd) → input.before ≡ Some text → code_of end ≡ 6 → RunStops input out end → HasBadLine text
-bad_line text input out (BadLine line why) told e s = record { line = line; why = why; refused = when_told (λ t. read_text t ≡ Err (reading.BadLine line why)) input.before text told s.refused }
+bad_line text input out (BadLine line why) told e s = record { line = line; why = why; refused = when_told (λ t. read_fleeting t ≡ Err (reading.BadLine line why)) input.before text told s.refused }
 bad_line text input out (BadEvent number why) told e s = cc
 bad_line text input out (TooLong what) told e s = cc
 bad_line text input out (Rejected line law) told e s = cc
@@ -98,8 +98,8 @@ pub bad_event : (text : List ℕ) (input out : Stream) (end : RunEnd) → input.
 bad_event text input out end told e s = only_event end e (λ number why is. has_bad_event text input out number why told (subst (RunStops input out) is s))
 
 pub past_limit : (text : List ℕ) (input out : Stream) (end : RunEnd) → input.before ≡ Some text → code_of end ≡ 8 → RunStops input out end → IsPastLimit text
-past_limit text input out (TooLong Text) told e s = by_text limits.Text (when_told (λ t. read_text t ≡ Err (reading.TooLong limits.Text)) input.before text told s.refused)
-past_limit text input out (TooLong Events) told e s = by_text limits.Events (when_told (λ t. read_text t ≡ Err (reading.TooLong limits.Events)) input.before text told s.refused)
+past_limit text input out (TooLong Text) told e s = by_text limits.Text (when_told (λ t. read_fleeting t ≡ Err (reading.TooLong limits.Text)) input.before text told s.refused)
+past_limit text input out (TooLong Events) told e s = by_text limits.Events (when_told (λ t. read_fleeting t ≡ Err (reading.TooLong limits.Events)) input.before text told s.refused)
 past_limit text input out (TooLong Packets) told e s =
     let t : Spells text (λ schedule. Wrote out.before out.after (ReportsToLimit schedule)) = spelled_at input out text ReportsToLimit told s in
     by_packets t.0 t.1 (past_packets t.0 out.before out.after t.2)
@@ -186,7 +186,7 @@ module _
     (refused_or_past : (schedule : Schedule) → OneIsRefused schedule.twin schedule.marks schedule → PacketsExceed schedule.twin schedule.marks schedule → ⊥)
     (text : List ℕ) (code : ℕ) where
   -- a text is read in one way
-  same : (s t : Schedule) → read_text text ≡ Ok s → read_text text ≡ Ok t → s ≡ t
+  same : (s t : Schedule) → read_fleeting text ≡ Ok s → read_fleeting text ≡ Ok t → s ≡ t
   same s t p q =
       let both : Ok s ≡ Ok t = sym p ∙ q in
       cc
@@ -205,7 +205,7 @@ module _
   line_or_event a b = ok_or_err b.schedule (reading.BadLine a.line a.why) (sym b.spelled ∙ a.refused)
 
   line_or_limit : HasBadLine text → IsPastLimit text → ⊥
-  line_or_limit a (by_text what e) = line_or_long a.line a.why what (err_same (reading.BadLine a.line a.why) (reading.TooLong what) (read_text text) a.refused e)
+  line_or_limit a (by_text what e) = line_or_long a.line a.why what (err_same (reading.BadLine a.line a.why) (reading.TooLong what) (read_fleeting text) a.refused e)
   line_or_limit a (by_packets schedule e p) = ok_or_err schedule (reading.BadLine a.line a.why) (sym e ∙ a.refused)
 
   event_or_limit : HasBadEvent text → IsPastLimit text → ⊥

@@ -5,6 +5,7 @@ use Rattle.std.specs.Option.{option_map_or}
 use Rattle.seq_arith.specs.Message.{Message}
 use Rattle.seq_arith.specs.MessageGrammar as messages
 use Rattle.seq_arith.specs.declared.kinds.BadMsg.{BadMsg}
+use Rattle.seq_arith.specs.declared.kinds.Grammar.{Grammar}
 use Rattle.server_trait.specs.Service.{Machine}
 use Rattle.sample_servers.specs.AnyService.{any_machine}
 use Rattle.sample_servers.specs.declared.any_service.AnyService.{AnyService}
@@ -25,10 +26,10 @@ use Rattle.twin_laws.specs.SentBytes.{IsWritten, IsRead}
 use Rattle.twin_laws.proofs.OneTurn.{twin_goes_on}
 use Rattle.schedule_network.specs.AtNumber.{at_number}
 use Rattle.schedule_network.specs.StoredPackets.{Carried}
-use Rattle.net_schedule.specs.SentPackets.{KeepsAllParcels, parcels_of}
+use Rattle.net_schedule.specs.SentPackets.{run_grammar, KeepsAllParcels, parcels_of}
 use Rattle.net_schedule.specs.Refinement.{Kept}
 use Rattle.net_schedule.specs.TwinStep.{TwinStandsAfter}
-use Rattle.schedule_text.specs.Bytes.{content_in, told_words, forwarded_words}
+use Rattle.schedule_text.specs.Bytes.{content_by, told_words, forwarded_words}
 use Rattle.schedule_text.proofs.Contents.{content_of_packet}
 use Rattle.replay_run.specs.PacketLines.{line_of, stored_lines}
 use Rattle.replay_run.proofs.Following.{packet_is_read}
@@ -58,33 +59,33 @@ said_by number request (Ok message) e =
     ap (λ m. forwarded_words number (Ok m)) same
 said_by number request (Err why) e = absurd (cc)
 
-between_is_read : (between : Between) → IsRead between → content_in (way_of_between between) (bytes_of between) ≡ Some (between_words between)
-between_is_read (Forward number request) r =
-    ap told_words r.0 ∙ said_by number request (messages.reading request.bytes) (sym (ap from_other_logger r.0) ∙ r.1)
-between_is_read (Got number) r = ap told_words r.0
+between_is_read : (grammar : Grammar) (between : Between) → IsRead grammar between → content_by grammar (way_of_between between) (bytes_of between) ≡ Some (between_words between)
+between_is_read grammar (Forward number request) r =
+    ap (told_words grammar) r.0 ∙ said_by number request (messages.reading_by grammar request.bytes) (sym (ap (from_other_logger grammar) r.0) ∙ r.1)
+between_is_read grammar (Got number) r = ap (told_words grammar) r.0
 
 -- what is stored of a parcel is read as the parcel
 abbrev words_of : Parcel → List (List ℕ)
 words_of (Outside packet) = content_words packet
 words_of (Inside between) = between_words between
 
-content_is : (schedule : Schedule) (p : Parcel) → IsWritten p → content_in (way_of_parcel (clients_of schedule.server schedule.clients) p) (bytes_of_parcel p) ≡ Some (words_of p)
+content_is : (schedule : Schedule) (p : Parcel) → IsWritten (run_grammar schedule) p → content_by (run_grammar schedule) (way_of_parcel (clients_of schedule.server schedule.clients) p) (bytes_of_parcel (run_grammar schedule) p) ≡ Some (words_of p)
 content_is schedule (Outside packet) w =
-    content_of_packet (way_of_parcel (clients_of schedule.server schedule.clients) (Outside packet)) (bytes_of_parcel (Outside packet)) packet (packet_is_read schedule packet w)
-content_is schedule (Inside between) w = between_is_read between w
+    content_of_packet (run_grammar schedule) (way_of_parcel (clients_of schedule.server schedule.clients) (Outside packet)) (bytes_of_parcel (run_grammar schedule) (Outside packet)) packet (packet_is_read schedule packet w)
+content_is schedule (Inside between) w = between_is_read (run_grammar schedule) between w
 
 -- the line of a parcel that is stored
-reads_parcel : (schedule : Schedule) (n : ℕ) (p : Parcel) → IsWritten p
-    → line_of n (Some (way_of_parcel (clients_of schedule.server schedule.clients) p)) (Some (bytes_of_parcel p)) ≡ parcel_line (clients_of schedule.server schedule.clients) n p
+reads_parcel : (schedule : Schedule) (n : ℕ) (p : Parcel) → IsWritten (run_grammar schedule) p
+    → line_of (run_grammar schedule) n (Some (way_of_parcel (clients_of schedule.server schedule.clients) p)) (Some (bytes_of_parcel (run_grammar schedule) p)) ≡ parcel_line (clients_of schedule.server schedule.clients) n p
 unfolding packet_line
 reads_parcel schedule n (Outside packet) w =
     ap (λ o. option_map_or (line_of_packet n (way_of_parcel (clients_of schedule.server schedule.clients) (Outside packet))) o []) (content_is schedule (Outside packet) w)
 reads_parcel schedule n (Inside between) w = ap (λ o. option_map_or (line_of_packet n (way_of_between between)) o []) (content_is schedule (Inside between) w)
 
 pub can_be_read : (schedule : Schedule) (trace : List TwinMoment) (kept : Carried) (n : ℕ) (way : Way) (bytes : List ℕ) → KeepsAllParcels schedule trace kept → at_number kept.ways n ≡ Some way
-    → at_number kept.bytes n ≡ Some bytes → IsSome (content_in way bytes)
+    → at_number kept.bytes n ≡ Some bytes → IsSome (content_by (run_grammar schedule) way bytes)
 can_be_read schedule trace kept n way bytes k e f =
-    stored_is_read (way_of_parcel (clients_of schedule.server schedule.clients)) bytes_of_parcel IsWritten kept (parcels_of schedule trace) n way bytes k.ways k.bytes k.written
+    stored_is_read (run_grammar schedule) (way_of_parcel (clients_of schedule.server schedule.clients)) (bytes_of_parcel (run_grammar schedule)) (IsWritten (run_grammar schedule)) kept (parcels_of schedule trace) n way bytes k.ways k.bytes k.written
     (λ p w. ap is_some (content_is schedule p w)) e f
 
 -- the lines of a turn
@@ -102,9 +103,9 @@ turn_lines schedule events event moment trace kept first before after from are =
 
 pub stored_in_turn : (schedule : Schedule) (trace : List TwinMoment) (moment : TwinMoment) (kept : Carried) (first count : ℕ) → KeepsAllParcels schedule (moment ∷ trace) kept
     → moment.world.parcels ≡ parcels_of schedule trace ++ moment.sent → first ≡ twin_packets_sent schedule trace + 1 → count ≡ length moment.sent
-    → stored_lines kept first count ≡ parcel_lines (clients_of schedule.server schedule.clients) first moment.sent
+    → stored_lines (run_grammar schedule) kept first count ≡ parcel_lines (clients_of schedule.server schedule.clients) first moment.sent
 stored_in_turn schedule trace moment kept first count k grew from many =
-    lines_stored (way_of_parcel (clients_of schedule.server schedule.clients)) bytes_of_parcel IsWritten (parcel_lines (clients_of schedule.server schedule.clients))
+    lines_stored (run_grammar schedule) (way_of_parcel (clients_of schedule.server schedule.clients)) (bytes_of_parcel (run_grammar schedule)) (IsWritten (run_grammar schedule)) (parcel_lines (clients_of schedule.server schedule.clients))
     (parcel_line (clients_of schedule.server schedule.clients)) (λ n p ps. refl) (λ n. refl) (reads_parcel schedule)
     kept moment.world.parcels (parcels_of schedule trace) moment.sent first count k.ways k.bytes k.written grew from many
 

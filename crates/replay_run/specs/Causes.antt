@@ -1,6 +1,6 @@
 -- The texts for which a run ends in a certain way, and the status that the run then has.
 use Rattle.std.specs.Prelude.{◌≡◌, ◌⊎◌, ℕ, Bool, true, false, Option, None, Some, Ok, Err, List}
-use Rattle.ft_model.specs.Grammar.{read_text}
+use Rattle.schedule_text.specs.Fleeting.{read_fleeting}
 use Rattle.ft_model.specs.Grammar.Refusal.{BadLine, TooLong}
 use Rattle.ft_model.specs.Outcome.{IsWhole, IsRefused, IsPastPackets}
 use Rattle.ft_model.specs.declared.schedule.Schedule.{Schedule}
@@ -30,25 +30,25 @@ PacketsExceed false (Some every) schedule = IsMarkedPastPackets (any_marker ever
 -- the text spells a schedule, and each of its events may happen in its turn, within the limit of packets
 pub record IsInOrder (text : List ℕ) : Type 0 where
   pub schedule : Schedule
-  pub spelled : read_text text ≡ Ok schedule
+  pub spelled : read_fleeting text ≡ Ok schedule
   pub whole : AllHappen schedule.twin schedule.marks schedule
 
 -- one of the text's lines is refused
 pub record HasBadLine (text : List ℕ) : Type 0 where
   pub line : ℕ
   pub why : LineWhy
-  pub refused : read_text text ≡ Err (BadLine line why)
+  pub refused : read_fleeting text ≡ Err (BadLine line why)
 
 -- the text spells a schedule, and one of its events may not happen in its turn
 pub record HasBadEvent (text : List ℕ) : Type 0 where
   pub schedule : Schedule
-  pub spelled : read_text text ≡ Ok schedule
+  pub spelled : read_fleeting text ≡ Ok schedule
   pub refused : OneIsRefused schedule.twin schedule.marks schedule
 
 -- the text is too long, or has too many events, or the packets of its schedule exceed their limit
 pub data IsPastLimit (text : List ℕ) : Type 0 where
-  by_text : (what : Limit) → read_text text ≡ Err (TooLong what) → IsPastLimit text
-  by_packets : (schedule : Schedule) → read_text text ≡ Ok schedule → PacketsExceed schedule.twin schedule.marks schedule → IsPastLimit text
+  by_text : (what : Limit) → read_fleeting text ≡ Err (TooLong what) → IsPastLimit text
+  by_packets : (schedule : Schedule) → read_fleeting text ≡ Ok schedule → PacketsExceed schedule.twin schedule.marks schedule → IsPastLimit text
 
 -- The status, given the text, if no count of faults rises: it is determined, unless an allocation failed.
 pub record IsSettled (text : List ℕ) (code : ℕ) : Type 0 where

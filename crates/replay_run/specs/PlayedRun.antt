@@ -1,6 +1,6 @@
 -- The part of a schedule that a run has played, and the texts that report it.
 use Rattle.std.specs.Prelude.{◌≡◌, ◌⊎◌, ℕ, ◌+◌, ◌<◌, ◌≤◌, Some, Ok, List, [], ◌∷◌, ◌++◌, length}
-use Rattle.ft_model.specs.Grammar.{read_text}
+use Rattle.schedule_text.specs.Fleeting.{read_fleeting}
 use Rattle.ft_model.specs.Report.{header}
 use Rattle.ft_model.specs.declared.event.Event.{Event}
 use Rattle.ft_model.specs.declared.event.EventWhy.{EventWhy}
@@ -60,4 +60,4 @@ pub record ReportsFront (schedule : Schedule) (text : List ℕ) : Type 0 where
 
 -- a text spells a schedule with this property
 abbrev pub Spells : List ℕ → (Schedule → Type 0) → Type 0
-Spells text Is = (schedule : Schedule) × (read_text text ≡ Ok schedule) × Is schedule
+Spells text Is = (schedule : Schedule) × (read_fleeting text ≡ Ok schedule) × Is schedule

@@ -1,7 +1,7 @@
 -- How the run of a schedule ends: what was read of the input, and what was written of the report.
 use Rattle.std.specs.Prelude.{◌≡◌, ◌⊎◌, Result, Ok, Err, List, ℕ, true, IfSome}
 use Rattle.std.specs.Io.KnownBytes.{IsAtEnd}
-use Rattle.ft_model.specs.Grammar.{read_text}
+use Rattle.schedule_text.specs.Fleeting.{read_fleeting}
 use Rattle.ft_model.specs.Grammar.{Refusal as reading}
 use Rattle.ft_model.specs.declared.schedule.Limit.TheVariants as limits
 use Rattle.ft_model.specs.declared.schedule.Schedule.{Schedule}
@@ -24,7 +24,7 @@ pub record Reports (input out : Stream) (Is : Schedule → List ℕ → Type 0) 
 
 -- the grammar refuses the input's text for this reason, nothing was written to out, and no call on either failed
 pub record Refuses (input out : Stream) (why : reading) : Type 0 where
-  pub refused : IfSome input.before (λ text. read_text text ≡ Err why)
+  pub refused : IfSome input.before (λ text. read_fleeting text ≡ Err why)
   pub unwritten : out.Untouched
   pub input_faultless : HasNotFailed input
   pub out_faultless : HasNotFailed out
@@ -55,9 +55,9 @@ RunDoes input out (Err end) = RunStops input out end
 -- why a text isn't read: it spells no schedule, or an allocation failed
 abbrev pub StopsReading : List ℕ → RunEnd → Type 0
 StopsReading text NoMemory = Unit {0}
-StopsReading text (BadLine line why) = read_text text ≡ Err (reading.BadLine line why)
-StopsReading text (TooLong Text) = read_text text ≡ Err (reading.TooLong limits.Text)
-StopsReading text (TooLong Events) = read_text text ≡ Err (reading.TooLong limits.Events)
+StopsReading text (BadLine line why) = read_fleeting text ≡ Err (reading.BadLine line why)
+StopsReading text (TooLong Text) = read_fleeting text ≡ Err (reading.TooLong limits.Text)
+StopsReading text (TooLong Events) = read_fleeting text ≡ Err (reading.TooLong limits.Events)
 StopsReading text _ = ⊥
 
 -- For `run`. If no count of faults rises, the text determines the status, unless an allocation failed

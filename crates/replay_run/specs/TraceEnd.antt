@@ -1,5 +1,7 @@
 -- The state of the world before and after an event, with two loggers, with one log or with marks.
 use Rattle.std.specs.Prelude.{◌≡◌, ℕ, ◌+◌, ◌<◌, ◌≤◌, Bool, true, false, Option, None, Some, List, [], ◌∷◌, ◌++◌, length}
+use Rattle.tcp_rules.specs.Profile.{grammar_of}
+use Rattle.tcp_rules.specs.Profiles.{profile_of}
 use Rattle.ft_model.specs.Report.{event_line}
 use Rattle.ft_model.specs.declared.event.Event.{Event}
 use Rattle.ft_model.specs.declared.schedule.Schedule.{Schedule}
@@ -29,16 +31,19 @@ pub record IsStanding (w : Kept AnyService) : Type 0 where
   pub stands : IsTraceEnd schedule.twin schedule.marks schedule events trace w
 
 -- one more event is played, and its lines are its own and those of the packets that it stored
-pub record PlaysOne (twin : Bool) (marks : Option ℕ) (schedule : Schedule) (events : List Event) (trace : List (traces_of twin marks).Turn) (event : Event) (answer : StepOut)
+pub record PlaysOne (twin : Bool) (marks : Option ℕ) (schedule : Schedule) (events : List Event) (trace : List (traces_of twin marks).Turn) (event : Event)
+    (answer : StepOut)
     (w : Kept AnyService) : Type 0 where
   pub moment : (traces_of twin marks).Turn
   pub stands : IsTraceEnd twin marks schedule (events ++ event ∷ []) (moment ∷ trace) w
   pub within : (traces_of twin marks).sent schedule (moment ∷ trace) ≤ 200000
   pub lines : (traces_of twin marks).lines schedule (moment ∷ trace)
-      ≡ (traces_of twin marks).lines schedule trace ++ (event_line (length events + 1) event ++ stored_lines w.packets answer.first answer.count)
+      ≡ (traces_of twin marks).lines schedule trace ++ (event_line (length events + 1) event
+      ++ stored_lines (grammar_of (profile_of w.profile)) w.packets answer.first answer.count)
 
 -- with one more event the packets exceed their limit
-pub record Exceeds (twin : Bool) (marks : Option ℕ) (schedule : Schedule) (events : List Event) (trace : List (traces_of twin marks).Turn) (event : Event) : Type 0 where
+pub record Exceeds (twin : Bool) (marks : Option ℕ) (schedule : Schedule) (events : List Event) (trace : List (traces_of twin marks).Turn)
+    (event : Event) : Type 0 where
   pub moment : (traces_of twin marks).Turn
   pub legal : (traces_of twin marks).IsLegal schedule (events ++ event ∷ []) (moment ∷ trace)
   pub over : 200000 < (traces_of twin marks).sent schedule (moment ∷ trace)

@@ -37,9 +37,11 @@ pub(crate) fn legal_traces_are_safe()
 
 /// Proves that a schedule's events have only one of the three outcomes, with one log, with two loggers and with marks.
 pub(crate) fn schedules_end_in_one_way()
-    ensures whole_or_refused { (schedule : Schedule) → AllHappen schedule.twin schedule.marks schedule → OneIsRefused schedule.twin schedule.marks schedule → ⊥ }
+    ensures whole_or_refused { (schedule : Schedule) → AllHappen schedule.twin schedule.marks schedule → OneIsRefused schedule.twin schedule.marks schedule
+        → ⊥ }
     ensures whole_or_past { (schedule : Schedule) → AllHappen schedule.twin schedule.marks schedule → PacketsExceed schedule.twin schedule.marks schedule → ⊥ }
-    ensures refused_or_past { (schedule : Schedule) → OneIsRefused schedule.twin schedule.marks schedule → PacketsExceed schedule.twin schedule.marks schedule → ⊥ }
+    ensures refused_or_past { (schedule : Schedule) → OneIsRefused schedule.twin schedule.marks schedule
+        → PacketsExceed schedule.twin schedule.marks schedule → ⊥ }
 {
     schedules_have_one_outcome::<AnyService>();
     twin_schedules_have_one_outcome::<AnyService>();

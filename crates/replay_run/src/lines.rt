@@ -2,6 +2,8 @@
 
 ghost use Rattle.std.specs.Prelude.{◌≡◌, ◌+◌, ◌<◌, ◌≤◌, ◌^◌, Some, None, ◌++◌, length, slice_get, IfOk, OnOk};
 ghost use Rattle.std.specs.List.{flat_map};
+ghost use Rattle.tcp_rules.specs.Profile.{grammar_of};
+ghost use Rattle.tcp_rules.specs.Profiles.{profile_of};
 ghost use Rattle.ft_model.specs.Client.{Client as Seen};
 ghost use Rattle.ft_model.specs.Log.{Entry};
 ghost use Rattle.ft_model.specs.Report.{client_line, client_lines, log_line, end_line, event_line};
@@ -18,7 +20,7 @@ use net_schedule::{StepOut, World};
 use peer_client::Client;
 use sample_servers::AnyService;
 use schedule_text::{
-    LogLine, write_client_line, write_end, write_event, write_log_line, write_packet_line,
+    LogLine, write_client_line, write_end, write_event, write_log_line, write_packet_line_by,
 };
 use std::alloc::Global;
 
@@ -33,8 +35,9 @@ fn write_packet(
     lines: &mut Vec<u8>,
 ) -> Result<(), NoMemory>
     requires { IsStanding (kept world.now) }
-    ensures { OnOk result (lines.new.items ≡ lines.old.items ++ stored_line world.now.packets n) }
+    ensures { OnOk result (lines.new.items ≡ lines.old.items ++ stored_line (grammar_of (profile_of world.now.profile)) world.now.packets n) }
 {
+    // Theorems for the proof. They do nothing when they are called.
     worlds_keep_what_was_sent::<AnyService>();
     marked_worlds_keep_what_was_sent::<AnyService>();
     let Some(way) = world.way(n) else {
@@ -43,7 +46,7 @@ fn write_packet(
     let Some(bytes) = world.packet(n) else {
         return Ok(());
     };
-    write_packet_line(alloc, n, way, bytes, lines)
+    write_packet_line_by(alloc, world.grammar(), n, way, bytes, lines)
 }
 
 /// Appends the lines of `count` packets, starting with number `first`.
@@ -56,7 +59,7 @@ fn write_packets(
 ) -> Result<(), NoMemory>
     requires stands { IsStanding (kept world.now) }
     requires numbers { first + count < 2 ^ 32 }
-    ensures { OnOk result (lines.new.items ≡ lines.old.items ++ stored_lines world.now.packets first count) }
+    ensures { OnOk result (lines.new.items ≡ lines.old.items ++ stored_lines (grammar_of (profile_of world.now.profile)) world.now.packets first count) }
 {
     for k in 0..count {
         write_packet(alloc, world, first + k, lines)?;
@@ -76,7 +79,8 @@ pub(crate) fn write_played(
     requires stands { IsStanding (kept world.now) }
     requires numbers { answer.first + answer.count < 2 ^ 32 }
     ensures { OnOk result (lines.new.items
-        ≡ lines.old.items ++ (event_line n event.now ++ stored_lines world.now.packets answer.first answer.count)) }
+        ≡ lines.old.items ++ (event_line n event.now
+        ++ stored_lines (grammar_of (profile_of world.now.profile)) world.now.packets answer.first answer.count)) }
 {
     write_event(alloc, n, event, lines)?;
     write_packets(alloc, world, answer.first, answer.count, lines)

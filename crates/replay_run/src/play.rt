@@ -1,6 +1,6 @@
 //! Playing a schedule: each event is played in the world, and its lines are appended to the report before the next event.
 
-ghost use Rattle.std.specs.Prelude.{◌≡◌, ℕ, ◌+◌, ◌<◌, ◌≤◌, List, [], ◌∷◌, ◌++◌, Option, Some, Err, length, OnOk, OnErr, IfOk, IfErr};
+ghost use Rattle.std.specs.Prelude.{◌≡◌, ℕ, ◌+◌, ◌<◌, ◌≤◌, List, [], ◌∷◌, ◌++◌, Option, None, Some, Err, length, OnOk, OnErr, IfOk, IfErr};
 ghost use Rattle.std.specs.List.{flat_map};
 ghost use Rattle.ft_model.specs.Playable.{IsPlayable};
 ghost use Rattle.ft_model.specs.Report.{client_lines, log_line, end_line};
@@ -47,6 +47,7 @@ fn play_event<O: Sink>(
         → n ≡ length before.plays.played.events + 1 → StopsPlaying schedule (kept world.new) old (O.taken out.new) report.new.held.items end) }
     ensures faults { CountsFaults (O.fault_count out.old) (O.fault_count out.new) result }
 {
+    // Theorems for the proof. They do nothing when they are called.
     legal_traces_are_safe();
     worlds_keep_what_was_sent::<AnyService>();
     marked_worlds_keep_what_was_sent::<AnyService>();
@@ -112,6 +113,7 @@ fn start<O: Sink>(
     out: &mut O,
 ) -> Result<World<AnyService>, RunEnd>
     requires playable { IsPlayable schedule.now }
+    requires fleeting { schedule.now.lasting ≡ None }
     requires clients { length schedule.now.clients ≤ 16 }
     requires marks { (every : ℕ) → schedule.now.marks ≡ Some every → 0 < every }
     requires empty { report.old.held.items ≡ [] }
@@ -121,6 +123,7 @@ fn start<O: Sink>(
     ensures no_fault { OnOk result (O.fault_count out.new ≡ O.fault_count out.old) }
     ensures faults { IfErr result (λ end. CountsFaults (O.fault_count out.old) (O.fault_count out.new) (Err end)) }
 {
+    // Theorems for the proof. They do nothing when they are called.
     playable_schedules_start();
     legal_traces_are_safe();
     write_header(alloc, schedule, &mut report.held)?;
@@ -203,6 +206,7 @@ fn play_whole<O: Sink>(
     out: &mut O,
 ) -> Result<(), RunEnd>
     requires playable { IsPlayable schedule.now }
+    requires fleeting { schedule.now.lasting ≡ None }
     requires clients { length schedule.now.clients ≤ 16 }
     requires marks { (every : ℕ) → schedule.now.marks ≡ Some every → 0 < every }
     requires events { length schedule.now.events ≤ 100000 }
@@ -234,6 +238,7 @@ fn write_rest<O: Sink>(end: RunEnd, report: &mut Report, out: &mut O) -> RunEnd
 /// played are written, unless the sink fails.
 pub(crate) fn play<O: Sink>(alloc: Global, schedule: &Schedule, out: &mut O) -> Result<(), RunEnd>
     requires playable { IsPlayable schedule.now }
+    requires fleeting { schedule.now.lasting ≡ None }
     requires clients { length schedule.now.clients ≤ 16 }
     requires marks { (every : ℕ) → schedule.now.marks ≡ Some every → 0 < every }
     requires events { length schedule.now.events ≤ 100000 }

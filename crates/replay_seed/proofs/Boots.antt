@@ -8,6 +8,7 @@ use Rattle.seq_arith.specs.MessageGrammar as messages
 use Rattle.seq_arith.specs.declared.BadPacket.{BadPacket}
 use Rattle.seq_arith.specs.declared.kinds.BadMsg.{BadMsg}
 use Rattle.server_trait.specs.Service.{Machine}
+use Rattle.tcp_rules.specs.Profile.{grammar_of}
 use Rattle.ft_model.specs.Network.{Packet, destination_of}
 use Rattle.ft_model.specs.Network.Packet.{To_server, To_client, To_logger, From_logger}
 use Rattle.ft_model.specs.World.{World, Happens, Delivered, DeliveredAs, ClientReads, LogReads}
@@ -35,7 +36,7 @@ changed : {State : Type 0} (service : Machine State) (before : World) (packet : 
     → DeliveredAs service before packet bytes sent after → after.boot ≡ before.boot
 changed service before (To_server segment) bytes sent after d = ap (λ w. w.boot) d.1
 changed service before (To_client segment) bytes sent after d = client_reads (destination_of segment) (segments.reading bytes) before sent after d
-changed service before (To_logger message) bytes sent after d = log_reads (messages.reading bytes) before sent after d
+changed service before (To_logger message) bytes sent after d = log_reads (messages.reading_by (grammar_of before.profile) bytes) before sent after d
 changed service before (From_logger message) bytes sent after d = ap (λ w. w.boot) d.1
 
 -- a boot has the next number

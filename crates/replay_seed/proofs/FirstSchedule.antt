@@ -1,12 +1,13 @@
 -- The schedule with which a generated run starts can be played.
-use Rattle.std.proofs.Common.{◌≡◌, refl, ℕ, zero, suc, ◌+◌, ◌*◌, ◌%◌, ◌<◌, ◌≤◌, ◌^◌, true, [], ◌∷◌, length, arith, lit<, length-append}
+use Rattle.std.proofs.Common.{◌≡◌, refl, ℕ, zero, suc, ◌+◌, ◌*◌, ◌%◌, ◌<◌, ◌≤◌, ◌^◌, Bool, true, false, [], ◌∷◌, length, arith, lit<, length-append}
+use Rattle.std.specs.Prelude.{◌&&◌, not, nat_eq}
 use Rattle.std.specs.List.{AllByRecursion}
 use Rattle.std.proofs.Math.Nat.{mod-lt}
 use Rattle.std.proofs.lemmas.List.Elements.{All-from_recursion}
 use Rattle.ft_model.specs.Playable.{IsPlayable}
 use Rattle.ft_model.specs.Readable.{FitsClient}
 use Rattle.ft_model.specs.Schedule.{bytes_of, clients_of, letters}
-use Rattle.ft_model.specs.World.{are_apart}
+use Rattle.ft_model.specs.World.{is_apart, are_apart}
 use Rattle.ft_model.specs.declared.schedule.ClientLine.{ClientLine}
 use Rattle.ft_model.proofs.Lists.{all_append, all_weaker}
 use Rattle.pseudorandom.specs.Generator.{stepped}
@@ -27,12 +28,18 @@ pub record LineFits (line : ClientLine) : Type 0 where
   pub short : length (bytes_of line.script) ≤ 2 ^ 24
   pub number : line.isn < 2 ^ 32
   pub sizes : FitsClient line
+  pub beside : is_apart server_address line.key [] ≡ true
+
+-- the ports differ, whatever the hosts are
+apart_by_port : (same : Bool) → (not (same && false) && true) ≡ true
+apart_by_port true = refl
+apart_by_port false = refl
 
 line_fits : (state i : ℕ) → i ≤ 16 → LineFits (client_line state i)
 line_fits state i h =
     let length_is : length (letters (1000 * i)) ≡ 1000 * i = length_letters (1000 * i) in
     let small : draw state < 2 ^ 31 = small_draw state in
-    record { short = omega (arith, h, length_is); number = omega (arith, small); sizes = ((omega (arith, h), lit< tt), omega (arith, small), omega (arith, h)) }
+    record { short = omega (arith, h, length_is); number = omega (arith, small); sizes = ((omega (arith, h), lit< tt), omega (arith, small), omega (arith, h)); beside = apart_by_port (nat_eq (3221225984 + i) 3221226084) }
 
 lines_fit : (state n : ℕ) → n ≤ 16 → AllByRecursion LineFits (client_lines state n)
 lines_fit state zero h = tt
@@ -71,6 +78,7 @@ can_be_played seed n h =
       short = All-from_recursion (λ line. length (bytes_of line.script) ≤ 2 ^ 24) (client_lines seed n) (all_weaker LineFits _ (client_lines seed n) (λ line f. f.short) fit);
       numbers = all_weaker LineFits _ (client_lines seed n) (λ line f. f.number) fit;
       sizes = all_weaker LineFits _ (client_lines seed n) (λ line f. f.sizes) fit;
-      apart = apart seed n h;
+      beside = all_weaker LineFits _ (client_lines seed n) (λ line f. f.beside) fit;
+      apart = λ none. apart seed n h;
       events = tt;
     }

@@ -39,6 +39,7 @@ schedule_of seed clients events = record {
   profile = Plain;
   twin = false;
   marks = None;
+  lasting = None;
   clients = client_lines seed clients;
   events = events;
 }

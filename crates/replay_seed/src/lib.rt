@@ -1,5 +1,5 @@
-//! A run that is generated from a seed, for the `seed` command of `ftreplay`: each event is drawn given the state of the world, and played; a summary is written
-//! at the end.
+//! A run that is generated from a seed, for the `seed` command of `ftreplay`: each event is drawn given the state of the world, and played; a summary is
+//! written at the end.
 #![tactic(auto)]
 
 pub use asked::Asked;

@@ -1,6 +1,6 @@
 //! The schedule before its events: its service, its server and its clients.
 
-ghost use Rattle.std.specs.Prelude.{◌≡◌, ◌≤◌, ◌+◌, [], length, IfOk};
+ghost use Rattle.std.specs.Prelude.{◌≡◌, ◌≤◌, ◌+◌, [], None, length, IfOk};
 ghost use Rattle.ft_model.specs.Playable.{IsPlayable};
 ghost use Rattle.pseudorandom.specs.Generator.{stepped};
 ghost use Rattle.replay_seed.specs.Generated.{client_line as client_lem, client_lines, after_draws, schedule_of};
@@ -62,6 +62,7 @@ pub(crate) fn schedule_for(
     requires { clients ≤ 16 }
     ensures schedule { IfOk result (λ schedule. schedule ≡ schedule_of generator.old.state clients []) }
     ensures playable { IfOk result IsPlayable }
+    ensures fleeting { IfOk result (λ schedule. schedule.lasting ≡ None) }
     ensures few { IfOk result (λ schedule. length schedule.clients ≤ 16) }
     ensures state { IfOk result (λ _. generator.new.state ≡ after_draws generator.old.state clients) }
 {
@@ -71,6 +72,7 @@ pub(crate) fn schedule_for(
         profile: Profile::Plain,
         twin: false,
         marks: None,
+        lasting: None,
         clients: clients_for(alloc, generator, clients)?,
         events: Events::new(Vec::new(alloc)),
     })

@@ -8,7 +8,7 @@ ghost use Rattle.replay_tool.specs.SeedRuns.{SeedDoes, end_of_seed as end_lem};
 ghost use Rattle.replay_check.specs.Stream.{stream, IsStill};
 
 use ft_io::Sink;
-use replay_check::{RunEnd, Status, TooMuch, tell};
+use replay_check::{RunEnd, Status, TooMuch, report_end};
 use replay_seed::{SeedEnd, seed};
 use std::alloc::Global;
 
@@ -40,6 +40,6 @@ pub(crate) fn run_seed<O: Sink, E: Sink>(
 {
     match seed(alloc, words, out) {
         Ok(()) => Status { code: 0 },
-        Err(end) => tell(err, end_of_seed(end)),
+        Err(end) => report_end(err, end_of_seed(end)),
     }
 }

@@ -14,7 +14,7 @@ ghost use Rattle.replay_check.specs.Ends.{is_code};
 
 use crate::seeds::run_seed;
 use ft_io::{Sink, Source};
-use replay_check::{RunEnd, Status, check_report, tell};
+use replay_check::{RunEnd, Status, check_report, report_end};
 use replay_run::replay_schedule;
 use replay_seed::Asked;
 use std::alloc::Global;
@@ -90,5 +90,5 @@ pub fn replay<I: Source, O: Sink, E: Sink>(
     if asks_for_check(words) {
         return check_report(alloc, input, out, err);
     }
-    tell(err, RunEnd::Usage)
+    report_end(err, RunEnd::Usage)
 }

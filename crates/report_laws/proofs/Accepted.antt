@@ -11,7 +11,7 @@ use Rattle.tcp_rules.specs.declared.profile.Profile.TheVariants.{Plain, Wan}
 use Rattle.ft_model.specs.Client.{Client}
 use Rattle.ft_model.specs.Legal.{Legal, start_of, refusal}
 use Rattle.ft_model.specs.Network.{Packet}
-use Rattle.ft_model.specs.Report.{header, profile_line, twin_line, marks_line, schedule_line, schedule_lines, event_line, event_lines, packet_line, packet_lines, packet_count, way_of, closing_lines}
+use Rattle.ft_model.specs.Report.{header, profile_line, twin_line, marks_line, lasting_line, schedule_line, schedule_lines, event_line, event_lines, packet_line, packet_lines, packet_count, way_of, closing_lines}
 use Rattle.ft_model.specs.Grammar.{read_text, with_line}
 use Rattle.ft_model.specs.World.{World, Moment, IsStart, world_after}
 use Rattle.ft_model.specs.declared.event.Event.{Event}
@@ -119,12 +119,14 @@ pub more_accepted : (schedule : Schedule) (client : ClientLine) → HeaderAccept
     → HeaderAccepted (record schedule { clients = schedule.clients ++ client ∷ [] })
 more_accepted schedule client h none follows =
     let bare_too : Follows (Begun (record (profiled schedule) { clients = schedule.clients })) (says.Client client) =
-    subst (λ es. Follows (Begun (record schedule { twin = false; marks = None; events = es })) (says.Client client)) none
+    subst (λ es. Follows (Begun (record schedule { twin = false; marks = None; lasting = None; events = es })) (says.Client client)) none
+    (subst (λ l. Follows (Begun (record schedule { twin = false; marks = None; lasting = l })) (says.Client client)) h.fleeting
     (subst (λ m. Follows (Begun (record schedule { twin = false; marks = m })) (says.Client client)) h.unmarked
-    (subst (λ t. Follows (Begun (record schedule { twin = t })) (says.Client client)) h.one_logger follows)) in
+    (subst (λ t. Follows (Begun (record schedule { twin = t })) (says.Client client)) h.one_logger follows))) in
     record {
       one_logger = h.one_logger;
       unmarked = h.unmarked;
+      fleeting = h.fleeting;
       service = h.service;
       server = h.server;
       profile = h.profile;
@@ -149,19 +151,21 @@ client_text schedule client text line is spelled =
     let p : List ℕ = profile_line schedule.profile in
     let t : List ℕ = twin_line schedule.twin in
     let m : List ℕ = marks_line schedule.marks in
+    let l : List ℕ = lasting_line schedule.lasting in
     let c : List ℕ = schedule_lines 1 schedule.clients in
     let number : length schedule.clients + 1 ≡ 1 + length schedule.clients = omega arith in
     let last : c ++ line ≡ schedule_lines 1 (schedule.clients ++ client ∷ []) =
-    ap (λ l. c ++ l) (spelled ∙ ap (λ k. schedule_line k client) number) ∙ sym (schedule_lines_more 1 schedule.clients client) in
+    ap (λ x. c ++ x) (spelled ∙ ap (λ k. schedule_line k client) number) ∙ sym (schedule_lines_more 1 schedule.clients client) in
     ap (λ s. s ++ line) is
-    ∙ (append_assoc name_line (a ++ (b ++ (p ++ (t ++ (m ++ c))))) line
-    ∙ ap (λ s. name_line ++ s) (append_assoc a (b ++ (p ++ (t ++ (m ++ c)))) line
-    ∙ ap (λ s. a ++ s) (append_assoc b (p ++ (t ++ (m ++ c))) line
-    ∙ ap (λ s. b ++ s) (append_assoc p (t ++ (m ++ c)) line
-    ∙ ap (λ s. p ++ s) (append_assoc t (m ++ c) line ∙ ap (λ s. t ++ s) (append_assoc m c line ∙ ap (λ s. m ++ s) last))))))
+    ∙ (append_assoc name_line (a ++ (b ++ (p ++ (t ++ (m ++ (l ++ c)))))) line
+    ∙ ap (λ s. name_line ++ s) (append_assoc a (b ++ (p ++ (t ++ (m ++ (l ++ c))))) line
+    ∙ ap (λ s. a ++ s) (append_assoc b (p ++ (t ++ (m ++ (l ++ c)))) line
+    ∙ ap (λ s. b ++ s) (append_assoc p (t ++ (m ++ (l ++ c))) line
+    ∙ ap (λ s. p ++ s) (append_assoc t (m ++ (l ++ c)) line
+    ∙ ap (λ s. t ++ s) (append_assoc m (l ++ c) line ∙ ap (λ s. m ++ s) (append_assoc l c line ∙ ap (λ s. l ++ s) last)))))))
 
 pub server_text : (kind : ServiceKind) (at : Addr) (text line : List ℕ) → text ≡ name_line ++ canonical_line Empty (says.Service kind) → line ≡ canonical_line (Named kind) (says.Server at)
-    → text ++ line ≡ header (record { service = kind; server = at; profile = Plain; twin = false; marks = None; clients = []; events = [] })
+    → text ++ line ≡ header (record { service = kind; server = at; profile = Plain; twin = false; marks = None; lasting = None; clients = []; events = [] })
 unfolding header
 server_text kind at text line is spelled =
     let a : List ℕ = canonical_line Empty (says.Service kind) in
@@ -212,7 +216,7 @@ module _ {State : Type 0} (service : ℕ → Machine State) where
       let below : length trace < 100000 = leb-false 100000 (length trace) not_full in
       let canonical : Follows (Begun schedule) (says.Event event) = subst (IsCanonical (Begun schedule) (says.Event event)) l.canonical.spelled l.canonical in
       let later : IsWithinLimits (record schedule { events = schedule.events ++ event ∷ [] }) = record {
-        header = record { one_logger = within.header.one_logger; unmarked = within.header.unmarked; service = within.header.service; server = within.header.server; profile = within.header.profile; clients = within.header.clients };
+        header = record { one_logger = within.header.one_logger; unmarked = within.header.unmarked; fleeting = within.header.fleeting; service = within.header.service; server = within.header.server; profile = within.header.profile; clients = within.header.clients };
         events = event_accepted (record schedule { events = [] }) schedule.events event within.events canonical;
         few = omega (arith, more, same, below);
       } in
@@ -269,7 +273,7 @@ module _ {State : Type 0} (service : ℕ → Machine State) where
         few = subst (λ es. length es ≤ 100000) (sym none) (omega arith);
       } in
       let read : read_text (take (length (schedule_bytes (Begun schedule)) - 1) (schedule_bytes (Begun schedule))) ≡ Ok schedule = own_text_read schedule within in
-      let start : IsStart (start_of schedule) = starts schedule (playable (take (length (schedule_bytes (Begun schedule)) - 1) (schedule_bytes (Begun schedule))) schedule read) in
+      let start : IsStart (start_of schedule) = starts schedule (playable (take (length (schedule_bytes (Begun schedule)) - 1) (schedule_bytes (Begun schedule))) schedule read) accepted.fleeting in
       (within, record { joint = start; events_are = sym none; allowed = tt }, is ∙ sym (append-nil (header schedule)))
 
   header_on : (draft : Draft) (line text : List ℕ) (next : Position) → Holds service (InHeader draft) text → LineGives service (InHeader draft) (Some line) (Continues next) → Holds service next (text ++ line)
@@ -279,8 +283,8 @@ module _ {State : Type 0} (service : ℕ → Machine State) where
   header_on (Named kind) line text next h (inr (none, e)) = on_fails next law.Text e
   header_on (Named kind) line text next h (inl (at, l, e)) =
       let follows : Follows (Named kind) (says.Server at) = subst (IsCanonical (Named kind) (says.Server at)) l.spelled l in
-      let accepted : HeaderAccepted (record { service = kind; server = at; profile = Plain; twin = false; marks = None; clients = []; events = [] }) =
-      record { one_logger = refl; unmarked = refl; service = h.1; server = follows; profile = tt; clients = tt } in
+      let accepted : HeaderAccepted (record { service = kind; server = at; profile = Plain; twin = false; marks = None; lasting = None; clients = []; events = [] }) =
+      record { one_logger = refl; unmarked = refl; fleeting = refl; service = h.1; server = follows; profile = tt; clients = tt } in
       subst (λ s. Holds service s (text ++ line)) (sym (on_same next (InHeader (with_line (Named kind) (says.Server at))) e))
       (server_text kind at text line h.0 l.spelled, accepted, refl)
   header_on (Begun schedule) line text next h b =
@@ -296,6 +300,7 @@ module _ {State : Type 0} (service : ℕ → Machine State) where
       more_on (inl (says.Server at, l, e)) = absurd l.0
       more_on (inl (says.Twin, l, e)) = absurd l.0
       more_on (inl (says.Marks every, l, e)) = absurd l.0
+      more_on (inl (says.Lasting waits, l, e)) = absurd l.0
       more_on (inl (says.Event x, l, e)) = absurd l.0
       more_on (inl (says.Client client, l, e)) =
           let follows : Follows (Begun schedule) (says.Client client) = subst (IsCanonical (Begun schedule) (says.Client client)) l.1.spelled l.1 in
@@ -309,7 +314,7 @@ module _ {State : Type 0} (service : ℕ → Machine State) where
           let goes : Continues next ≡ Continues (InHeader (Begun (record schedule { profile = Wan }))) =
           e ∙ ap (λ p. Continues (InHeader (Begun (record schedule { profile = p })))) naming.named in
           subst (λ s. Holds service s (text ++ line)) (sym (on_same next (InHeader (Begun (record schedule { profile = Wan }))) goes))
-          (profile_text schedule text line wide h.1.one_logger h.1.unmarked h.0 c.spelled, profile_accepted schedule h.1 wide h.2 follows, h.2)
+          (profile_text schedule text line wide h.1.one_logger h.1.unmarked h.1.fleeting h.0 c.spelled, profile_accepted schedule h.1 wide h.2 follows, h.2)
 
   header_ends : (draft : Draft) (text : List ℕ) → Holds service (InHeader draft) text → LineGives service (InHeader draft) None Accepts → IsReport service text
   header_ends Empty text h e = ends_fails law.End e

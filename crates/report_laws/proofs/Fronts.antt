@@ -67,6 +67,7 @@ feed_last n (says.Profile Plain) = inr refl
 feed_last n (says.Profile Wan) = inl (codes "profile wan", refl)
 feed_last n says.Twin = inr refl
 feed_last n (says.Marks every) = inr refl
+feed_last n (says.Lasting waits) = inr refl
 feed_last n (says.Client c) =
     let words : List (List ℕ) = decimal n ∷ key_text c.key ∷ decimal c.isn ∷ script_text c.script ∷ [] in
     inl (codes "client" ++ spaced words, sym (append_assoc (codes "client") (spaced words) (10 ∷ [])))

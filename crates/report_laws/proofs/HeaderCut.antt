@@ -2,7 +2,7 @@
 use Rattle.std.proofs.Common.{◌≡◌, ℕ, ◌+◌, refl, sym, ap, ap₂, ◌∙◌, List, [], ◌∷◌, ◌++◌, codes, length, length-append, append_assoc}
 use Rattle.tcp_rules.specs.declared.profile.Profile.{Profile}
 use Rattle.tcp_rules.specs.declared.profile.Profile.TheVariants.{Plain, Wan}
-use Rattle.ft_model.specs.Report.{header, profile_line, twin_line, marks_line, schedule_line, schedule_lines}
+use Rattle.ft_model.specs.Report.{header, profile_line, twin_line, marks_line, lasting_line, schedule_line, schedule_lines}
 use Rattle.ft_model.specs.declared.line.Draft.{Draft}
 use Rattle.ft_model.specs.declared.line.Draft.TheVariants.{Empty, Named, Begun}
 use Rattle.ft_model.specs.declared.line.Line.{Line}
@@ -49,8 +49,9 @@ header_cut schedule rest h =
     let b : List ℕ = canonical_line (Named schedule.service) (says.Server schedule.server) in
     let p : List ℕ = profile_line schedule.profile in
     let c : List ℕ = schedule_lines 1 schedule.clients in
-    let single : name ++ (a ++ (b ++ (p ++ (twin_line schedule.twin ++ (marks_line schedule.marks ++ c))))) ≡ name ++ (a ++ (b ++ (p ++ c))) =
-    ap₂ (λ t m. name ++ (a ++ (b ++ (p ++ (twin_line t ++ (marks_line m ++ c)))))) h.one_logger h.unmarked in
+    let single : name ++ (a ++ (b ++ (p ++ (twin_line schedule.twin ++ (marks_line schedule.marks ++ (lasting_line schedule.lasting ++ c)))))) ≡ name ++ (a ++ (b ++ (p ++ c))) =
+    ap₂ (λ t m. name ++ (a ++ (b ++ (p ++ (twin_line t ++ (marks_line m ++ (lasting_line schedule.lasting ++ c))))))) h.one_logger h.unmarked
+    ∙ ap (λ l. name ++ (a ++ (b ++ (p ++ (lasting_line l ++ c))))) h.fleeting in
     let apart : (name ++ (a ++ (b ++ (p ++ c)))) ++ rest ≡ name ++ (a ++ (b ++ (p ++ (c ++ rest)))) =
     append_assoc name (a ++ (b ++ (p ++ c))) rest
     ∙ ap (λ t. name ++ t) (append_assoc a (b ++ (p ++ c)) rest ∙ ap (λ t. a ++ t) (append_assoc b (p ++ c) rest ∙ ap (λ t. b ++ t) (append_assoc p c rest))) in

@@ -109,8 +109,9 @@ module _ {State : Type 0} (service : ℕ → Machine State) where
       → LeadsTo service AtStart (header_lines schedule) (InHeader (Begun (record schedule { events = [] })))
   header_leads schedule h few =
       let count : length (bare schedule).clients + length schedule.clients < 2 ^ 63 = omega (arith, few) in
-      let last : Position = InHeader (Begun (record schedule { twin = false; marks = None; events = [] })) in
+      let last : Position = InHeader (Begun (record schedule { twin = false; marks = None; lasting = None; events = [] })) in
       subst (λ t. LeadsTo service AtStart (header_lines schedule) (InHeader (Begun (record schedule { twin = t; events = [] })))) (sym h.one_logger)
       (subst (λ m. LeadsTo service AtStart (header_lines schedule) (InHeader (Begun (record schedule { twin = false; marks = m; events = [] })))) (sym h.unmarked)
+      (subst (λ l. LeadsTo service AtStart (header_lines schedule) (InHeader (Begun (record schedule { twin = false; marks = None; lasting = l; events = [] })))) (sym h.fleeting)
       (first_lines schedule h (profile_header_lines schedule.profile ++ client_header_lines 1 schedule.clients) last
-      (profile_leads schedule schedule.profile h.profile (client_header_lines 1 schedule.clients) last (clients_lead (profiled schedule) schedule.clients h.clients count))))
+      (profile_leads schedule schedule.profile h.profile (client_header_lines 1 schedule.clients) last (clients_lead (profiled schedule) schedule.clients h.clients count)))))

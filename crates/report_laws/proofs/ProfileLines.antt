@@ -7,7 +7,7 @@ use Rattle.std.proofs.lemmas.Bool.{eqb-true}
 use Rattle.ft_io.proofs.Booleans.{left_true, right_true}
 use Rattle.tcp_rules.specs.declared.profile.Profile.{Profile}
 use Rattle.tcp_rules.specs.declared.profile.Profile.TheVariants.{Plain, Wan}
-use Rattle.ft_model.specs.Grammar.{line_of, line_of_words, line_behind, line_from, may_stand, keyword_of, is_misnamed, is_printable, is_unnamed, has_only_server, service_line, server_line, profile_line, marks_line, client_line, event_line}
+use Rattle.ft_model.specs.Grammar.{line_of, line_of_words, line_behind, line_from, may_stand, keyword_of, is_misnamed, is_printable, is_unnamed, has_only_server, service_line, server_line, profile_line, marks_line, lasting_line, client_line, event_line}
 use Rattle.ft_model.specs.Report.{header, twin_line, schedule_lines}
 use Rattle.ft_model.specs.Report as written
 use Rattle.ft_model.specs.Spelling.{profile_named}
@@ -17,6 +17,7 @@ use Rattle.ft_model.specs.declared.line.Keyword.{Keyword}
 use Rattle.ft_model.specs.declared.line.Keyword.TheVariants as keyword
 use Rattle.ft_model.specs.declared.line.Line.TheVariants as says
 use Rattle.ft_model.specs.declared.schedule.ClientLine.{ClientLine}
+use Rattle.ft_model.specs.declared.schedule.Lasting.{Lasting}
 use Rattle.ft_model.specs.declared.schedule.LineWhy.{LineWhy}
 use Rattle.ft_model.specs.declared.schedule.LineWhy.TheVariants as why
 use Rattle.ft_model.specs.declared.schedule.Schedule.{Schedule}
@@ -56,7 +57,8 @@ has_no_clients : (schedule : Schedule) → has_only_server schedule ≡ true →
 unfolding has_only_server
 has_no_clients schedule e =
     let counts : Bool = length schedule.events == 0 && length schedule.clients == 0 in
-    let both : counts ≡ true = left_true counts (not schedule.twin) (left_true (counts && not schedule.twin) (is_none schedule.marks) e) in
+    let unmarked : (counts && not schedule.twin && is_none schedule.marks) ≡ true = left_true (counts && not schedule.twin && is_none schedule.marks) (is_none schedule.lasting) e in
+    let both : counts ≡ true = left_true counts (not schedule.twin) (left_true (counts && not schedule.twin) (is_none schedule.marks) unmarked) in
     no_clients schedule.clients (eqb-true (length schedule.clients) 0 (right_true (length schedule.events == 0) (length schedule.clients == 0) both))
 
 by_keyword : (schedule : Schedule) (k : Keyword) (words : List (List ℕ)) (profile : Profile) → may_stand (Begun schedule) k words ≡ true
@@ -65,6 +67,7 @@ by_keyword schedule keyword.Service words profile stands h = let b = bind_ok (se
 by_keyword schedule keyword.Server words profile stands h = let b = bind_ok (server_line words) (λ at. Ok (says.Server at)) (says.Profile profile) h in absurd (cc b.2)
 by_keyword schedule keyword.Twin words profile stands h = absurd (bare_says says.Twin words (says.Profile profile) (λ f. cc) h)
 by_keyword schedule keyword.Marks words profile stands h = let b = bind_ok (marks_line words) (λ every. Ok (says.Marks every)) (says.Profile profile) h in absurd (cc b.2)
+by_keyword schedule keyword.Lasting words profile stands h = let b = bind_ok (lasting_line words) (λ waits. Ok (says.Lasting waits)) (says.Profile profile) h in absurd (cc b.2)
 by_keyword schedule keyword.Client words profile stands h =
     let b = bind_ok (client_line (Begun schedule) words) (λ client. Ok (says.Client client)) (says.Profile profile) h in absurd (cc b.2)
 by_keyword schedule (keyword.Event verb) words profile stands h = let b = bind_ok (event_line verb words) (λ e. Ok (says.Event e)) (says.Profile profile) h in absurd (cc b.2)
@@ -92,22 +95,25 @@ profile_stands schedule text profile e =
     by_words schedule (words_of text) profile (provided (is_printable text) why.Character (line_of_words (Begun schedule) (words_of text)) (says.Profile profile) e).1
 
 -- a header without clients, and the same with the line of a profile
-abbrev from_profile : Profile → Bool → Option ℕ → List ClientLine → List ℕ
-from_profile profile twin marks clients = written.profile_line profile ++ (twin_line twin ++ (written.marks_line marks ++ schedule_lines 1 clients))
+abbrev from_profile : Profile → Bool → Option ℕ → Option Lasting → List ClientLine → List ℕ
+from_profile profile twin marks lasting clients =
+    written.profile_line profile ++ (twin_line twin ++ (written.marks_line marks ++ (written.lasting_line lasting ++ schedule_lines 1 clients)))
 
-pub profile_text : (schedule : Schedule) (text line : List ℕ) → IsNaming schedule Wan → schedule.twin ≡ false → schedule.marks ≡ None → text ≡ header schedule
+pub profile_text : (schedule : Schedule) (text line : List ℕ) → IsNaming schedule Wan → schedule.twin ≡ false → schedule.marks ≡ None → schedule.lasting ≡ None → text ≡ header schedule
     → line ≡ written.profile_line Wan → text ++ line ≡ header (record schedule { profile = Wan })
 unfolding header
-profile_text schedule text line naming one unmarked is spelled =
+profile_text schedule text line naming one unmarked fleeting is spelled =
     let name : List ℕ = codes "ftreplay 1\n" in
     let a : List ℕ = canonical_line Empty (says.Service schedule.service) in
     let b : List ℕ = canonical_line (Named schedule.service) (says.Server schedule.server) in
     let wide : List ℕ = written.profile_line Wan in
-    let before : name ++ (a ++ (b ++ from_profile schedule.profile schedule.twin schedule.marks schedule.clients)) ≡ name ++ (a ++ (b ++ [])) =
-    ap₂ (λ p t. name ++ (a ++ (b ++ from_profile p t schedule.marks schedule.clients))) naming.unnamed one
-    ∙ ap₂ (λ m cs. name ++ (a ++ (b ++ from_profile Plain false m cs))) unmarked naming.alone in
-    let after : name ++ (a ++ (b ++ from_profile Wan schedule.twin schedule.marks schedule.clients)) ≡ name ++ (a ++ (b ++ wide)) =
-    ap₂ (λ t m. name ++ (a ++ (b ++ from_profile Wan t m schedule.clients))) one unmarked ∙ ap (λ cs. name ++ (a ++ (b ++ from_profile Wan false None cs))) naming.alone in
+    let before : name ++ (a ++ (b ++ from_profile schedule.profile schedule.twin schedule.marks schedule.lasting schedule.clients)) ≡ name ++ (a ++ (b ++ [])) =
+    ap₂ (λ p t. name ++ (a ++ (b ++ from_profile p t schedule.marks schedule.lasting schedule.clients))) naming.unnamed one
+    ∙ (ap (λ m. name ++ (a ++ (b ++ from_profile Plain false m schedule.lasting schedule.clients))) unmarked
+    ∙ ap₂ (λ l cs. name ++ (a ++ (b ++ from_profile Plain false None l cs))) fleeting naming.alone) in
+    let after : name ++ (a ++ (b ++ from_profile Wan schedule.twin schedule.marks schedule.lasting schedule.clients)) ≡ name ++ (a ++ (b ++ wide)) =
+    ap₂ (λ t m. name ++ (a ++ (b ++ from_profile Wan t m schedule.lasting schedule.clients))) one unmarked
+    ∙ ap₂ (λ l cs. name ++ (a ++ (b ++ from_profile Wan false None l cs))) fleeting naming.alone in
     ap₂ ◌++◌ (is ∙ before) spelled
     ∙ (append_assoc name (a ++ (b ++ [])) wide
     ∙ (ap (λ t. name ++ t) (append_assoc a (b ++ []) wide ∙ ap (λ t. a ++ t) (append_assoc b [] wide)) ∙ sym after))
@@ -117,10 +123,11 @@ pub profile_accepted : (schedule : Schedule) → HeaderAccepted schedule → IsN
     → HeaderAccepted (record schedule { profile = Wan })
 profile_accepted schedule h naming none follows =
     let same : schedule ≡ bare schedule =
-    λ i. record schedule { profile = naming.unnamed i; twin = h.one_logger i; marks = h.unmarked i; clients = naming.alone i; events = none i } in
+    λ i. record schedule { profile = naming.unnamed i; twin = h.one_logger i; marks = h.unmarked i; lasting = h.fleeting i; clients = naming.alone i; events = none i } in
     record {
       one_logger = h.one_logger;
       unmarked = h.unmarked;
+      fleeting = h.fleeting;
       service = h.service;
       server = h.server;
       profile = subst (λ s. Follows (Begun s) (says.Profile Wan)) same follows;

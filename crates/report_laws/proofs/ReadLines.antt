@@ -50,6 +50,7 @@ not_comment n (says.Profile Plain) = refl
 not_comment n (says.Profile Wan) = refl
 not_comment n says.Twin = refl
 not_comment n (says.Marks every) = refl
+not_comment n (says.Lasting waits) = refl
 not_comment n (says.Client c) = refl
 not_comment n (says.Event (Boot boot isn)) = refl
 not_comment n (says.Event Crash) = refl
@@ -187,9 +188,11 @@ events_short s (e ∷ more) short h =
     subst (λ es. FitsLimit (Begun (record s { events = es }))) (append_assoc s.events (e ∷ []) more) (events_short (record s { events = s.events ++ e ∷ [] }) more h.0.short h.1)
 
 -- with one logger, the schedule before its clients
-with_one : (schedule : Schedule) (P : Schedule → Type 0) → schedule.twin ≡ false → schedule.marks ≡ None → P (record schedule { twin = false; marks = None }) → P schedule
-with_one schedule P one unmarked p =
-    subst (λ t. P (record schedule { twin = t })) (sym one) (subst (λ m. P (record schedule { twin = false; marks = m })) (sym unmarked) p)
+with_one : (schedule : Schedule) (P : Schedule → Type 0) → schedule.twin ≡ false → schedule.marks ≡ None → schedule.lasting ≡ None
+    → P (record schedule { twin = false; marks = None; lasting = None }) → P schedule
+with_one schedule P one unmarked fleeting p =
+    subst (λ t. P (record schedule { twin = t })) (sym one)
+    (subst (λ m. P (record schedule { twin = false; marks = m })) (sym unmarked) (subst (λ l. P (record schedule { twin = false; marks = None; lasting = l })) (sym fleeting) p))
 
 profile_read : (schedule : Schedule) (text : List ℕ) (profile : Profile) → Reads text (Begun (bare schedule)) → ProfileAccepted (bare schedule) profile
     → Reads (text ++ profile_line profile) (Begun (record (bare schedule) { profile = profile }))
@@ -207,10 +210,10 @@ within_read schedule w =
     let service : Reads ([] ++ a) (Named schedule.service) = more_read [] a Empty (says.Service schedule.service) start w.header.service refl in
     let server : Reads (([] ++ a) ++ b) (Begun (bare schedule)) = more_read ([] ++ a) b (Named schedule.service) (says.Server schedule.server) service w.header.server refl in
     let profile : Reads ((([] ++ a) ++ b) ++ p) (Begun (profiled schedule)) = profile_read schedule (([] ++ a) ++ b) schedule.profile server w.header.profile in
-    let clients : Reads (((([] ++ a) ++ b) ++ p) ++ c) (Begun (record schedule { twin = false; marks = None; events = [] })) =
+    let clients : Reads (((([] ++ a) ++ b) ++ p) ++ c) (Begun (record schedule { twin = false; marks = None; lasting = None; events = [] })) =
     clients_read (profiled schedule) ((([] ++ a) ++ b) ++ p) schedule.clients profile w.header.clients refl in
     let single : Reads (((([] ++ a) ++ b) ++ p) ++ c) (Begun (record schedule { events = [] })) =
-    with_one (record schedule { events = [] }) (λ s. Reads (((([] ++ a) ++ b) ++ p) ++ c) (Begun s)) w.header.one_logger w.header.unmarked clients in
+    with_one (record schedule { events = [] }) (λ s. Reads (((([] ++ a) ++ b) ++ p) ++ c) (Begun s)) w.header.one_logger w.header.unmarked w.header.fleeting clients in
     let few : length {A = Event} [] + length schedule.events ≤ 100000 = omega (arith, w.few) in
     let events : Reads ((((([] ++ a) ++ b) ++ p) ++ c) ++ d) (Begun schedule) =
     events_read (record schedule { events = [] }) (((([] ++ a) ++ b) ++ p) ++ c) schedule.events single w.events few in
@@ -223,9 +226,9 @@ profile_short schedule Wan short h = h.short
 
 within_short : (schedule : Schedule) → IsWithinLimits schedule → FitsLimit (Begun schedule)
 within_short schedule w =
-    let clients : FitsLimit (Begun (record schedule { twin = false; marks = None; events = [] })) =
+    let clients : FitsLimit (Begun (record schedule { twin = false; marks = None; lasting = None; events = [] })) =
     clients_short (profiled schedule) schedule.clients (profile_short schedule schedule.profile w.header.server.short w.header.profile) w.header.clients in
-    let single : FitsLimit (Begun (record schedule { events = [] })) = with_one (record schedule { events = [] }) (λ s. FitsLimit (Begun s)) w.header.one_logger w.header.unmarked clients in
+    let single : FitsLimit (Begun (record schedule { events = [] })) = with_one (record schedule { events = [] }) (λ s. FitsLimit (Begun s)) w.header.one_logger w.header.unmarked w.header.fleeting clients in
     events_short (record schedule { events = [] }) schedule.events single w.events
 
 at_end : (n : ℕ) (schedule : Schedule) → read_lines no_objection n (Begun schedule) [] ≡ Ok schedule

@@ -5,13 +5,14 @@ use Rattle.server_trait.specs.Service.{Machine}
 use Rattle.ft_model.specs.Legal.{IsLegalFor, IsAllowed, start_of, refusal}
 use Rattle.ft_model.specs.Network.{Packet}
 use Rattle.ft_model.specs.Readable.{IsReadable}
+use Rattle.ft_model.specs.Wire.{HasWireBy}
 use Rattle.ft_model.specs.Report.{event_line, packet_line, packet_count, way_of}
 use Rattle.ft_model.specs.World.{Moment, world_after, events_of}
 use Rattle.ft_model.specs.declared.event.Event.{Event}
 use Rattle.ft_model.specs.declared.way.Way.{Way}
 use Rattle.ft_model.specs.declared.schedule.Schedule.{Schedule}
 use Rattle.report_laws.specs.declared.Law.TheVariants as law
-use Rattle.report_laws.specs.Transitions.{Position, IsPacketLine, begins_with, EventLine, AfterTurn, clients_in}
+use Rattle.report_laws.specs.Transitions.{Position, IsPacketLine, begins_with, EventLine, AfterTurn, clients_in, grammar_in}
 use Rattle.report_laws.specs.Transitions.Position.{InTurn}
 use Rattle.report_laws.specs.Transitions.Step.{Continues, Rejects}
 use Rattle.report_laws.specs.Verdict.{AcceptedFrom}
@@ -72,20 +73,20 @@ module _ {State : Type 0} (service : ℕ → Machine State) where
 
   packets_read : (schedule : Schedule) (m : Moment) (earlier : List Moment) (rest : List (List ℕ)) (done todo : List Packet) → done ++ todo ≡ m.sent
       → packet_count earlier + length done + length todo ≤ 200000 → AllByRecursion (IsReadable schedule.server (clients_in schedule)) todo
-      → AcceptedFrom service (InTurn (schedule_through schedule (m ∷ earlier)) earlier m.event m.sent) rest
+      → AllByRecursion (HasWireBy (grammar_in schedule)) todo → AcceptedFrom service (InTurn (schedule_through schedule (m ∷ earlier)) earlier m.event m.sent) rest
       → AcceptedFrom service (InTurn (schedule_through schedule (m ∷ earlier)) earlier m.event done) (packet_line_list (clients_in schedule) (packet_count earlier + length done + 1) todo ++ rest)
-  packets_read schedule m earlier rest done [] all few readable ends =
+  packets_read schedule m earlier rest done [] all few readable written ends =
       subst (λ s. AcceptedFrom service (InTurn (schedule_through schedule (m ∷ earlier)) earlier m.event s) rest) (sym (sym (append-nil done) ∙ all)) ends
-  packets_read schedule m earlier rest done (p ∷ todo) all few readable ends =
+  packets_read schedule m earlier rest done (p ∷ todo) all few readable written ends =
       let n : ℕ = packet_count earlier + length done + 1 in
       let longer : length (done ++ p ∷ []) ≡ length done + 1 = length-append done (p ∷ []) in
       let number : packet_count earlier + length (done ++ p ∷ []) + 1 ≡ n + 1 = omega (arith, longer) in
       let within : n ≤ 200000 = omega (arith, few) in
       let on : packet_count earlier + length (done ++ p ∷ []) + length todo ≤ 200000 = omega (arith, few, longer) in
-      let line : IsPacketLine (schedule_through schedule (m ∷ earlier)) n p (packet_line n (way_of (clients_in schedule) p) p) = record { readable = readable.0; number = within; spelled = refl } in
+      let line : IsPacketLine (schedule_through schedule (m ∷ earlier)) n p (packet_line n (way_of (clients_in schedule) p) p) = record { readable = readable.0; written = written.0; number = within; spelled = refl } in
       let more : AcceptedFrom service (InTurn (schedule_through schedule (m ∷ earlier)) earlier m.event (done ++ p ∷ []))
       (packet_line_list (clients_in schedule) (packet_count earlier + length (done ++ p ∷ []) + 1) todo ++ rest) =
-      packets_read schedule m earlier rest (done ++ p ∷ []) todo (append_assoc done (p ∷ []) todo ∙ all) on readable.1 ends in (
+      packets_read schedule m earlier rest (done ++ p ∷ []) todo (append_assoc done (p ∷ []) todo ∙ all) on readable.1 written.1 ends in (
         InTurn (schedule_through schedule (m ∷ earlier)) earlier m.event (done ++ p ∷ []),
         inl (p, (packet_line n (way_of (clients_in schedule) p) p, refl, line), refl),
         subst (λ k. AcceptedFrom service (InTurn (schedule_through schedule (m ∷ earlier)) earlier m.event (done ++ p ∷ [])) (packet_line_list (clients_in schedule) k todo ++ rest)) number more,
@@ -111,7 +112,7 @@ module _ {State : Type 0} (service : ℕ → Machine State) where
         next,
         first,
         subst (λ k. AcceptedFrom service next (packet_line_list (clients_in schedule) k m.sent ++ rest)) start
-            (packets_read schedule m earlier rest [] m.sent refl count asked.readable.1 (turn_done schedule m earlier rest legal none ends)),
+            (packets_read schedule m earlier rest [] m.sent refl count asked.readable.1 asked.written (turn_done schedule m earlier rest legal none ends)),
       )
 
   -- all turns of a trace

@@ -3,6 +3,8 @@ use Rattle.std.proofs.Common.{◌≡◌, ℕ, ◌+◌, ◌-◌, ◌≤◌, ◌<�
 use Rattle.std.specs.List.{AllByRecursion}
 use Rattle.server_trait.specs.Service.{Machine, WritesBytes}
 use Rattle.ft_model.specs.Legal.{IsLegalFor, start_of}
+use Rattle.ft_model.specs.Schedule.{kind_of}
+use Rattle.ft_model.specs.Image.{HasWires}
 use Rattle.ft_model.specs.Readable.{FitsSchedule, IsReadableTurn}
 use Rattle.ft_model.specs.Report.{event_line, event_lines, closing_lines}
 use Rattle.ft_model.specs.World.{Moment, world_after, events_of}
@@ -13,12 +15,13 @@ use Rattle.ft_model.specs.declared.schedule.Schedule.{Schedule}
 use Rattle.ft_model.proofs.FitsLemmas.{text_fits}
 use Rattle.ft_model.proofs.Running.{HasSmallOutputs}
 use Rattle.ft_model.proofs.AcceptedLemmas.{accepted}
+use Rattle.ft_model.proofs.FormedWorld.{wires_sent}
 use Rattle.ft_model.proofs.Readable.{legal_readable}
 use Rattle.schedule_text.specs.EventLines.{asked_line}
 use Rattle.schedule_text.proofs.RoundTrip.{asked_in_line}
 use Rattle.report_laws.specs.Canonical.{Follows, EventsAccepted, IsWithinLimits, header_lines, schedule_bytes}
 use Rattle.report_laws.specs.Lines.{lines_in}
-use Rattle.report_laws.specs.Transitions.{Position, HeaderLine, AfterTurn, IsEventLine, IsReport, clients_in, is_header_line, pieces}
+use Rattle.report_laws.specs.Transitions.{Position, HeaderLine, AfterTurn, IsEventLine, IsReport, clients_in, grammar_in, is_header_line, pieces}
 use Rattle.report_laws.specs.Transitions.Position.{AtStart, InHeader}
 use Rattle.report_laws.specs.Transitions.Step.{Continues}
 use Rattle.report_laws.specs.Verdict.{AcceptedFrom, LeadsTo}
@@ -44,15 +47,15 @@ event_line_is : (s : Schedule) (n : ℕ) (e : Event) → Follows (Begun s) (says
 event_line_is s n e h = record { asked = asked_line e ++ 10 ∷ []; spelled = asked_in_line n e; canonical = h }
 
 all_canonical : (schedule : Schedule) (trace : List Moment) → EventsAccepted (record schedule { events = [] }) (events_of trace) → length trace ≤ 100000
-    → AllByRecursion (IsReadableTurn schedule.server (clients_in schedule)) trace → AllCanonical schedule trace
-all_canonical schedule [] h few readable = tt
-all_canonical schedule (m ∷ earlier) h few readable =
+    → AllByRecursion (IsReadableTurn schedule.server (clients_in schedule)) trace → AllByRecursion (HasWires (grammar_in schedule)) trace → AllCanonical schedule trace
+all_canonical schedule [] h few readable written = tt
+all_canonical schedule (m ∷ earlier) h few readable written =
     let both : EventsAccepted (record schedule { events = [] }) (events_of earlier) × Follows (Begun (record schedule { events = events_of earlier })) (says.Event m.event) =
     last_accepted (record schedule { events = [] }) (events_of earlier) m.event h in
     let less : length earlier ≤ 100000 = omega (arith, few) in
     let below : length earlier < 100000 = omega (arith, few) in (
-      all_canonical schedule earlier both.0 less readable.1,
-      record { event = event_line_is (schedule_through schedule earlier) (length earlier + 1) m.event both.1; few = below; readable = readable.0 },
+      all_canonical schedule earlier both.0 less readable.1 written.1,
+      record { event = event_line_is (schedule_through schedule earlier) (length earlier + 1) m.event both.1; few = below; readable = readable.0; written = written.0 },
     )
 
 -- a schedule within the limits is one that a text spells
@@ -85,8 +88,10 @@ module _ {State : Type 0} (service : ℕ → Machine State) (small : (kind : ℕ
       let few : length trace ≤ 100000 = omega (arith, same, count, r.within.few) in
       let fits : FitsSchedule schedule = fits_schedule schedule r.within in
       let readable : AllByRecursion (IsReadableTurn schedule.server (clients_in schedule)) trace = legal_readable service small writes schedule trace fits r.legal in
+      let kind : ℕ = kind_of schedule.service in
+      let written : AllByRecursion (HasWires (grammar_in schedule)) trace = wires_sent (service kind) (small kind) (writes kind) (start_of schedule) trace r.legal.joint in
       let clients : length schedule.clients < 2 ^ 63 = omega (arith, few_clients schedule r.within) in
-      let canonical : AllCanonical schedule trace = all_canonical schedule trace events few readable in
+      let canonical : AllCanonical schedule trace = all_canonical schedule trace events few readable written in
       let turns : AcceptedAfter service (schedule_through schedule []) [] (lines_in rest) = report_read service schedule trace legal r.packets canonical in
       let none : NoHeaderFirst (record schedule { events = [] }) (lines_in rest) =
       header_ends (record schedule { events = [] }) trace closing clients (λ e. ap (λ t. closing_lines (world_after (start_of schedule) t) (length t)) e) in

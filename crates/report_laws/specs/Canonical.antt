@@ -1,6 +1,6 @@
 -- A report contains its schedule, line by line, in one spelling: the lines of its header after the first, and its event lines without the number. The limit
--- on a schedule's text applies to these lines together. Reports of schedules with two loggers or with marks aren't checked, so `twin` and `marks` have no
--- spelling here.
+-- on a schedule's text applies to these lines together. Reports of schedules with two loggers, with marks or with a server that lasts aren't checked, so
+-- `twin`, `marks` and `lasting` have no spelling here.
 use Rattle.std.specs.Prelude.{◌≡◌, ℕ, false, None, ◌+◌, ◌-◌, ◌≤◌, Ok, codes, List, [], ◌∷◌, ◌++◌, length, take}
 use Rattle.std.specs.List.{flat_map}
 use Rattle.tcp_rules.specs.declared.profile.Profile.{Profile}
@@ -24,6 +24,7 @@ line_for n (says.Server at) = line (codes "server") (address_text at.ip at.port 
 line_for n (says.Profile profile) = profile_line profile
 line_for n says.Twin = []
 line_for n (says.Marks every) = []
+line_for n (says.Lasting waits) = []
 line_for n (says.Client asked) = schedule_line n asked
 line_for n (says.Event e) = asked_line e ++ 10 ∷ []
 
@@ -71,7 +72,7 @@ EventsAccepted schedule (e ∷ more) = Follows (Begun schedule) (says.Event e) �
 
 -- the schedule with only a service and a server's address
 abbrev pub bare : Schedule → Schedule
-bare schedule = record schedule { profile = Plain; twin = false; marks = None; clients = []; events = [] }
+bare schedule = record schedule { profile = Plain; twin = false; marks = None; lasting = None; clients = []; events = [] }
 
 -- .. and with its profile
 abbrev pub profiled : Schedule → Schedule
@@ -86,12 +87,14 @@ ProfileAccepted schedule Wan = Follows (Begun schedule) (says.Profile Wan)
 pub record HeaderAccepted (schedule : Schedule) : Type 0 where
   pub one_logger : schedule.twin ≡ false
   pub unmarked : schedule.marks ≡ None
+  pub fleeting : schedule.lasting ≡ None
   pub service : Follows Empty (says.Service schedule.service)
   pub server : Follows (Named schedule.service) (says.Server schedule.server)
   pub profile : ProfileAccepted (bare schedule) schedule.profile
   pub clients : ClientsAccepted (profiled schedule) schedule.clients
 
--- A schedule within the limits: it has one logger and no marks, the grammar accepts its lines one after another, and it has at most 100,000 events.
+-- A schedule within the limits: it has one logger, no marks and no server that lasts, the grammar accepts its lines one after another, and it has at most
+-- 100,000 events.
 pub record IsWithinLimits (schedule : Schedule) : Type 0 where
   pub header : HeaderAccepted schedule
   pub events : EventsAccepted (record schedule { events = [] }) schedule.events

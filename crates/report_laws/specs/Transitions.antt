@@ -8,10 +8,14 @@
 -- | text | a line of the header, or the line of the next event, isn't in its one spelling |
 -- | event | the next event isn't allowed, or is the 100,001st |
 -- | end | a closing line is expected and another line follows, the text ends early, or it continues after the last line |
-use Rattle.std.specs.Prelude.{◌≡◌, ℕ, Bool, false, ◌+◌, ◌≤◌, ◌&&◌, nat_eq, nat_le, ◌||◌, ◌⊎◌, codes, decimal, Option, Some, None, is_some, List, [], ◌∷◌, ◌++◌, length, if◌then◌else◌}
+use Rattle.std.specs.Prelude.{◌≡◌, ℕ, Bool, false, ◌+◌, ◌≤◌, ◌&&◌, nat_eq, nat_le, ◌||◌, ◌⊎◌, codes, decimal, Option, Some, None, is_some, List, []}
+use Rattle.std.specs.Prelude.{◌∷◌, ◌++◌, length, if◌then◌else◌}
 use Rattle.std.specs.Bool.{MatchBool}
 use Rattle.std.specs.List.{starts_with, slice_split}
 use Rattle.std.specs.Str.{bytes_eq}
+use Rattle.seq_arith.specs.declared.kinds.Grammar.{Grammar}
+use Rattle.tcp_rules.specs.Profile.{grammar_of}
+use Rattle.tcp_rules.specs.Profiles.{profile_of}
 use Rattle.server_trait.specs.Service.{Machine}
 use Rattle.ft_model.specs.Client.{Client, mover_of}
 use Rattle.ft_model.specs.Grammar.{with_line}
@@ -21,6 +25,7 @@ use Rattle.ft_model.specs.Network.Packet.{To_client, To_logger}
 use Rattle.ft_model.specs.Readable.{IsReadable}
 use Rattle.ft_model.specs.Report.{report, header, event_line, event_lines, packet_line, packet_lines, way_of, packet_count, closing_lines}
 use Rattle.ft_model.specs.Schedule.{clients_of}
+use Rattle.ft_model.specs.Wire.{HasWireBy}
 use Rattle.ft_model.specs.Words.{is}
 use Rattle.ft_model.specs.World.{World, Moment, world_after}
 use Rattle.ft_model.specs.declared.event.Event.{Event}
@@ -37,6 +42,10 @@ use Rattle.report_laws.specs.Canonical.{IsWithinLimits, IsCanonical}
 
 abbrev pub clients_in : Schedule → List Client
 clients_in schedule = clients_of schedule.server schedule.clients
+
+-- the grammar in which server and log write their messages
+abbrev pub grammar_in : Schedule → Grammar
+grammar_in schedule = grammar_of (profile_of schedule.profile)
 
 -- The text is the report of a legal trace of at most 200,000 packets, for a schedule within the limits.
 pub record IsReport {State : Type 0} (service : ℕ → Machine State) (text : List ℕ) : Type 0 where
@@ -73,6 +82,7 @@ pub record IsEventLine (schedule : Schedule) (n : ℕ) (event : Event) (text : L
 -- the line of packet n, between the server and a client of the schedule, or between the server and the logger
 pub record IsPacketLine (schedule : Schedule) (n : ℕ) (packet : Packet) (text : List ℕ) : Type 0 where
   pub readable : IsReadable schedule.server (clients_in schedule) packet
+  pub written : HasWireBy (grammar_in schedule) packet
   pub number : n ≤ 200000
   pub spelled : text ≡ packet_line n (way_of (clients_in schedule) packet) packet
 
@@ -127,7 +137,8 @@ abbrev pub HeaderLine : Draft → List ℕ → Step → Type 0
 HeaderLine Empty text step =
     IfExists (λ kind. IsCanonical Empty (says.Service kind) text) (λ kind. step ≡ Continues (InHeader (Named kind))) (step ≡ Rejects law.Text)
 HeaderLine (Named kind) text step =
-    IfExists (λ at. IsCanonical (Named kind) (says.Server at) text) (λ at. step ≡ Continues (InHeader (with_line (Named kind) (says.Server at)))) (step ≡ Rejects law.Text)
+    IfExists (λ at. IsCanonical (Named kind) (says.Server at) text) (λ at. step ≡ Continues (InHeader (with_line (Named kind) (says.Server at)))) (step
+    ≡ Rejects law.Text)
 HeaderLine (Begun schedule) text step =
     IfExists (λ l. SaysMore l × IsCanonical (Begun schedule) l text) (λ l. step ≡ Continues (InHeader (with_line (Begun schedule) l))) (step ≡ Rejects law.Text)
 
@@ -135,14 +146,16 @@ HeaderLine (Begun schedule) text step =
 abbrev pub pieces : List ℕ → List (List ℕ)
 pieces text = slice_split (λ c. is 32 c || is 10 c) text
 
--- After the server's line, a line belongs to the header if it is one for the next client, or has the word `profile`. Schedules with the words `twin` and
--- `marks` aren't checked, so a line with one of these belongs to the header too, and is rejected there
+-- After the server's line, a line belongs to the header if it is one for the next client, or has the word `profile`. Schedules with the words `twin`,
+-- `marks` and `lasting` aren't checked, so a line with one of these belongs to the header too, and is rejected there
+abbrev pub is_lone_word : List ℕ → Bool
+is_lone_word word = bytes_eq word (codes "profile") || bytes_eq word (codes "twin") || bytes_eq word (codes "marks") || bytes_eq word (codes "lasting")
+
 abbrev pub is_header_line : Schedule → List (List ℕ) → Bool
 is_header_line schedule [] = false
-is_header_line schedule (first ∷ []) = bytes_eq first (codes "profile") || bytes_eq first (codes "twin") || bytes_eq first (codes "marks")
+is_header_line schedule (first ∷ []) = is_lone_word first
 is_header_line schedule (first ∷ second ∷ more) =
-    bytes_eq first (codes "profile") || bytes_eq first (codes "twin") || bytes_eq first (codes "marks")
-    || bytes_eq first (codes "client") && bytes_eq second (decimal (length schedule.clients + 1))
+    is_lone_word first || bytes_eq first (codes "client") && bytes_eq second (decimal (length schedule.clients + 1))
 
 -- The effect of a line at a position.
 abbrev pub LineGives : {State : Type 0} → (ℕ → Machine State) → Position → Option (List ℕ) → Step → Type 0

@@ -3,11 +3,12 @@ use Rattle.std.specs.Prelude.{◌≡◌, ℕ, ◌+◌, ◌<◌, false, codes, So
 use Rattle.server_trait.specs.Service.{Machine}
 use Rattle.ft_model.specs.Client.{Client}
 use Rattle.ft_model.specs.Network.{Packet}
+use Rattle.ft_model.specs.Image.{HasWires}
 use Rattle.ft_model.specs.Readable.{IsReadableTurn}
 use Rattle.ft_model.specs.Report.{event_line, packet_line, packet_count, way_of}
 use Rattle.ft_model.specs.World.{Moment, events_of}
 use Rattle.ft_model.specs.declared.schedule.Schedule.{Schedule}
-use Rattle.report_laws.specs.Transitions.{Position, AfterTurn, IsEventLine, begins_with, clients_in}
+use Rattle.report_laws.specs.Transitions.{Position, AfterTurn, IsEventLine, begins_with, clients_in, grammar_in}
 use Rattle.report_laws.specs.Transitions.Step.{Continues, Accepts}
 use Rattle.report_laws.specs.Verdict.{AcceptedFrom}
 
@@ -31,6 +32,7 @@ pub record IsCanonicalTurn (schedule : Schedule) (m : Moment) (earlier : List Mo
   pub event : IsEventLine (schedule_through schedule earlier) (length earlier + 1) m.event (event_line (length earlier + 1) m.event)
   pub few : length earlier < 100000
   pub readable : IsReadableTurn schedule.server (clients_in schedule) m
+  pub written : HasWires (grammar_in schedule) m
 
 abbrev pub AllCanonical : Schedule → List Moment → Type 0
 AllCanonical schedule [] = Unit {0}
@@ -44,4 +46,5 @@ NoPacketFirst (line ∷ lines) = begins_with (codes "packet ") line ≡ false
 -- after a legal trace, these lines are accepted
 abbrev pub AcceptedAfter : {State : Type 0} → (ℕ → Machine State) → Schedule → List Moment → List (List ℕ) → Type 0
 AcceptedAfter service schedule trace [] = AfterTurn schedule trace None Accepts
-AcceptedAfter service schedule trace (line ∷ lines) = (next : Position) × AfterTurn schedule trace (Some line) (Continues next) × AcceptedFrom service next lines
+AcceptedAfter service schedule trace (line ∷ lines) = (next : Position) × AfterTurn schedule trace (Some line) (Continues next)
+    × AcceptedFrom service next lines

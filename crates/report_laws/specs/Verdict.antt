@@ -12,7 +12,8 @@ abbrev pub RejectedFrom : {State : Type 0} → (ℕ → Machine State) → Posit
 RejectedFrom service position [] line law = (line ≡ 1) × LineGives service position None (Rejects law)
 RejectedFrom service position (text ∷ lines) line law =
     ((line ≡ 1) × LineGives service position (Some text) (Rejects law))
-    ⊎ ((next : Position) × (before : ℕ) × (line ≡ suc before) × LineGives service position (Some text) (Continues next) × RejectedFrom service next lines before law)
+    ⊎ ((next : Position) × (before : ℕ) × (line ≡ suc before) × LineGives service position (Some text) (Continues next)
+    × RejectedFrom service next lines before law)
 
 -- .. or accepted at their end
 abbrev pub AcceptedFrom : {State : Type 0} → (ℕ → Machine State) → Position → List (List ℕ) → Type 0

@@ -38,25 +38,29 @@ pub enum Law {
 /// At a position, a line has at most one outcome.
 pub fn a_line_has_one_outcome<S: Service>()
     ensures { (position : Position) (text : Option (List ℕ)) (one other : Step)
-        → LineGives (machines S.started S.after) position text one → LineGives (machines S.started S.after) position text other → one ≡ other }
+        → LineGives (machines S.started S.after S.greeting) position text one → LineGives (machines S.started S.after S.greeting) position text other
+        → one ≡ other }
 {}
 
 /// A text is rejected at one line at most, and by one law.
 pub fn a_rejection_is_unique<S: Service>()
     ensures { (text : List ℕ) (line other : ℕ) (law also : Law)
-        → IsRejected (machines S.started S.after) text line law → IsRejected (machines S.started S.after) text other also → (line ≡ other) × (law ≡ also) }
+        → IsRejected (machines S.started S.after S.greeting) text line law → IsRejected (machines S.started S.after S.greeting) text other also
+        → (line ≡ other) × (law ≡ also) }
 {}
 
 /// No report begins with the lines of a rejected text up to the rejected one. The end of a text counts as a line.
 pub fn no_report_has_a_rejected_prefix<S: Service>()
-    ensures { (text other : List ℕ) (line : ℕ) (law : Law) → IsRejected (machines S.started S.after) text line law
-        → SameLines line (lines_in text) (lines_in other) → IsReport (machines S.started S.after) other → ⊥ }
+    ensures { (text other : List ℕ) (line : ℕ) (law : Law) → IsRejected (machines S.started S.after S.greeting) text line law
+        → SameLines line (lines_in text) (lines_in other) → IsReport (machines S.started S.after S.greeting) other → ⊥ }
 {}
 
 /// A text is accepted if and only if it is the report of a legal trace.
 pub fn accepted_texts_are_reports<S: Service>()
-    ensures reports { (text : List ℕ) → AcceptedFrom (machines S.started S.after) AtStart (lines_in text) → IsReport (machines S.started S.after) text }
-    ensures accepted { (text : List ℕ) → IsReport (machines S.started S.after) text → AcceptedFrom (machines S.started S.after) AtStart (lines_in text) }
+    ensures reports { (text : List ℕ) → AcceptedFrom (machines S.started S.after S.greeting) AtStart (lines_in text)
+        → IsReport (machines S.started S.after S.greeting) text }
+    ensures accepted { (text : List ℕ) → IsReport (machines S.started S.after S.greeting) text
+        → AcceptedFrom (machines S.started S.after S.greeting) AtStart (lines_in text) }
 {}
 
 /// The text of a schedule within the limits, without its last line feed, spells that schedule.

@@ -1,13 +1,14 @@
 -- A store with marks and its journal, which is the log without the marks and drops nothing; and what becomes of both when bytes arrive.
 use Rattle.std.specs.Prelude.{◌≡◌, ℕ, ◌≤◌, false, List, [], map, length}
 use Rattle.ft_io.specs.declared.Key.{Key}
+use Rattle.seq_arith.specs.declared.kinds.Grammar.{Grammar}
 use Rattle.seq_arith.specs.Message.{Part}
 use Rattle.ft_model.specs.Log.{Log}
 use Rattle.ft_model.specs.declared.way.Way.{Way}
 use Rattle.ft_model.specs.declared.way.Way.TheVariants.{ClientToServer, ServerToClient, ServerToLogger, LoggerToServer, HeadToTail, TailToHead}
 use Rattle.ft_model.specs.Keys.{AreDistinct}
 use Rattle.mark_laws.specs.MarkedLog.{MarkedLog}
-use Rattle.mark_store.specs.Bytes.{after_bytes, reply_to}
+use Rattle.mark_store.specs.Bytes.{after_bytes_by, reply_to_by}
 use Rattle.mark_store.specs.Refinement.{TrimmedAtMarks, IsLeftOfMarked}
 use Rattle.schedule_network.specs.StoredPackets.{Carried, with_answer}
 
@@ -26,7 +27,7 @@ HasDistinctKeys l = AreDistinct (map (λ e. e.key) l.log.entries)
 
 -- a Data without bytes, which only acknowledges
 abbrev pub no_bytes : Key → (offset units : ℕ) → Part
-no_bytes key offset units = record { key = key; offset = offset; acked = units; fin = false; bytes = [] }
+no_bytes key offset units = record { key = key; offset = offset; acked = units; fin = false; more = false; bytes = [] }
 
 -- the store has made this change to the log, and now the journal makes it too
 abbrev pub Notes : (MarkedLog → MarkedLog) → StoreAndJournal → StoreAndJournal → Type 0
@@ -34,24 +35,24 @@ Notes change before after =
     (l : MarkedLog) → IsLeftOfMarked before.store (change l) → before.journal ≡ l.log → HasDistinctKeys l → AreAt after (change l)
 
 -- the log after bytes of this direction, if it leads to the logger, and the bytes of the answer
-abbrev pub log_along : Way → List ℕ → MarkedLog → MarkedLog
-log_along ServerToLogger bytes l = after_bytes bytes l
-log_along (ClientToServer number) bytes l = l
-log_along (ServerToClient number) bytes l = l
-log_along LoggerToServer bytes l = l
-log_along HeadToTail bytes l = l
-log_along TailToHead bytes l = l
+abbrev pub log_along : Grammar → Way → List ℕ → MarkedLog → MarkedLog
+log_along grammar ServerToLogger bytes l = after_bytes_by grammar bytes l
+log_along grammar (ClientToServer number) bytes l = l
+log_along grammar (ServerToClient number) bytes l = l
+log_along grammar LoggerToServer bytes l = l
+log_along grammar HeadToTail bytes l = l
+log_along grammar TailToHead bytes l = l
 
-abbrev pub answer_along : Way → List ℕ → MarkedLog → List ℕ
-answer_along ServerToLogger bytes l = reply_to bytes l
-answer_along (ClientToServer number) bytes l = []
-answer_along (ServerToClient number) bytes l = []
-answer_along LoggerToServer bytes l = []
-answer_along HeadToTail bytes l = []
-answer_along TailToHead bytes l = []
+abbrev pub answer_along : Grammar → Way → List ℕ → MarkedLog → List ℕ
+answer_along grammar ServerToLogger bytes l = reply_to_by grammar bytes l
+answer_along grammar (ClientToServer number) bytes l = []
+answer_along grammar (ServerToClient number) bytes l = []
+answer_along grammar LoggerToServer bytes l = []
+answer_along grammar HeadToTail bytes l = []
+answer_along grammar TailToHead bytes l = []
 
 -- what becomes of the store, the journal and the stored packets
-pub record MarksHear (way : Way) (bytes : List ℕ) (before after : StoreAndJournal × Carried) : Type 0 where
-  pub log : (l : MarkedLog) → AreAt before.0 l → HasDistinctKeys l → AreAt after.0 (log_along way bytes l)
-  pub sent : (l : MarkedLog) → AreAt before.0 l → HasDistinctKeys l → after.1 ≡ with_answer before.1 (answer_along way bytes l)
+pub record MarksHear (grammar : Grammar) (way : Way) (bytes : List ℕ) (before after : StoreAndJournal × Carried) : Type 0 where
+  pub log : (l : MarkedLog) → AreAt before.0 l → HasDistinctKeys l → AreAt after.0 (log_along grammar way bytes l)
+  pub sent : (l : MarkedLog) → AreAt before.0 l → HasDistinctKeys l → after.1 ≡ with_answer before.1 (answer_along grammar way bytes l)
   pub grew : length before.1.bytes ≤ length after.1.bytes

@@ -1,5 +1,6 @@
 -- A head and a tail as the code stores them, what each of them does with bytes that arrive, and what it sends, as the network stores it.
 use Rattle.std.specs.Prelude.{ℕ, ◌==◌, Option, None, Some, List, ◌++◌, map, if◌then◌else◌}
+use Rattle.seq_arith.specs.declared.kinds.Grammar.{Grammar}
 use Rattle.ft_model.specs.Log.{Log}
 use Rattle.ft_model.specs.declared.way.Way.{Way}
 use Rattle.ft_model.specs.declared.way.Way.TheVariants.{ClientToServer, ServerToClient, ServerToLogger, LoggerToServer, HeadToTail, TailToHead}
@@ -15,8 +16,9 @@ pub record Loggers : Type 0 where
   pub head : Kept
   pub tail : Kept
 
-abbrev pub new_loggers : Loggers
-new_loggers = record { head = new_kept parts.Head; tail = new_kept parts.Tail }
+-- .. with nothing logged, and messages of this grammar
+abbrev pub new_loggers : Grammar → Loggers
+new_loggers grammar = record { head = new_kept grammar parts.Head; tail = new_kept grammar parts.Tail }
 
 -- the log that serves is the tail's, until the tail stops
 abbrev pub serving_log : Loggers → Log

@@ -1,12 +1,14 @@
--- What keeps the log of a world: one logger, two, or one that keeps marks; and what becomes of it when bytes arrive.
+-- What keeps the log of a world: one logger, two, or one that keeps marks; and what becomes of it when bytes arrive. It takes messages of one grammar, and
+-- answers in that.
 use Rattle.std.specs.Prelude.{◌≡◌, ℕ, List, Result, Ok, Err}
 use Rattle.seq_arith.specs.Message.{Message}
-use Rattle.seq_arith.specs.MessageGrammar.{reading}
+use Rattle.seq_arith.specs.MessageGrammar.{reading_by}
 use Rattle.seq_arith.specs.declared.kinds.BadMsg.{BadMsg}
+use Rattle.seq_arith.specs.declared.kinds.Grammar.{Grammar}
 use Rattle.ft_model.specs.Log.{Log, log_after, answer_to}
 use Rattle.ft_model.specs.declared.way.Way.{Way}
 use Rattle.ft_model.specs.declared.way.Way.TheVariants.{ClientToServer, ServerToClient, ServerToLogger, LoggerToServer, HeadToTail, TailToHead}
-use Rattle.logger_store.specs.StoreState.{answer_bytes}
+use Rattle.logger_store.specs.StoreState.{answer_bytes_by}
 use Rattle.mark_laws.specs.MarkedLog.{nothing_logged}
 use Rattle.mark_store.specs.Refinement.{TrimmedAtMarks}
 use Rattle.schedule_network.specs.StoredPackets.{Carried, with_answer}
@@ -37,25 +39,27 @@ keepers_in (Two loggers) = Paired loggers
 keepers_in (Marked kept) = With_marks kept.store
 
 -- the only logger takes a message, and its answer is sent. What is no message changes nothing
-abbrev pub log_reads : Result Message BadMsg → Log × Carried → Log × Carried
-log_reads (Err bad) h = h
-log_reads (Ok message) h = (log_after h.0 message, with_answer h.1 (answer_bytes (answer_to h.0 message)))
+abbrev pub log_reads : Grammar → Result Message BadMsg → Log × Carried → Log × Carried
+log_reads grammar (Err bad) h = h
+log_reads grammar (Ok message) h = (log_after h.0 message, with_answer h.1 (answer_bytes_by grammar (answer_to h.0 message)))
 
 -- bytes of this direction arrive at the only logger, if it leads there
-abbrev pub log_hears : Way → List ℕ → Log × Carried → Log × Carried
-log_hears ServerToLogger bytes h = log_reads (reading bytes) h
-log_hears (ClientToServer number) bytes h = h
-log_hears (ServerToClient number) bytes h = h
-log_hears LoggerToServer bytes h = h
-log_hears HeadToTail bytes h = h
-log_hears TailToHead bytes h = h
+abbrev pub log_hears : Grammar → Way → List ℕ → Log × Carried → Log × Carried
+log_hears grammar ServerToLogger bytes h = log_reads grammar (reading_by grammar bytes) h
+log_hears grammar (ClientToServer number) bytes h = h
+log_hears grammar (ServerToClient number) bytes h = h
+log_hears grammar LoggerToServer bytes h = h
+log_hears grammar HeadToTail bytes h = h
+log_hears grammar TailToHead bytes h = h
 
 -- what keeps the log, and the packets
 abbrev pub both : Logs → Carried → Logs × Carried
 both logs packets = (logs, packets)
 
--- bytes of this direction arrive at what keeps the log: `now` is its state after that, and `sent` are the stored packets with what it sends
-abbrev pub HearsIn : Logs → Way → List ℕ → Carried → Logs → Carried → Type 0
-HearsIn (One log) way bytes packets now sent = let h = log_hears way bytes (log, packets) in both now sent ≡ both (One h.0) h.1
-HearsIn (Two loggers) way bytes packets now sent = let h = pair_hears way bytes (loggers, packets) in both now sent ≡ both (Two h.0) h.1
-HearsIn (Marked kept) way bytes packets now sent = (after : StoreAndJournal) × (now ≡ Marked after) × MarksHear way bytes (kept, packets) (after, sent)
+-- bytes of this direction arrive at what keeps the log: `now` is its state after that, and `sent` are the stored packets with what it sends. Two loggers know
+-- their grammar
+abbrev pub HearsIn : Grammar → Logs → Way → List ℕ → Carried → Logs → Carried → Type 0
+HearsIn grammar (One log) way bytes packets now sent = let h = log_hears grammar way bytes (log, packets) in both now sent ≡ both (One h.0) h.1
+HearsIn grammar (Two loggers) way bytes packets now sent = let h = pair_hears way bytes (loggers, packets) in both now sent ≡ both (Two h.0) h.1
+HearsIn grammar (Marked kept) way bytes packets now sent =
+    (after : StoreAndJournal) × (now ≡ Marked after) × MarksHear grammar way bytes (kept, packets) (after, sent)

@@ -13,6 +13,7 @@ use crate::pair::LogPair;
 use ft_io::NoMemory;
 use ft_model::Way;
 use logger_store::LogStore;
+use logger_wire::Grammar;
 use std::alloc::Global;
 
 /// The logger or the two loggers that keep the log of a world.
@@ -27,14 +28,14 @@ pub enum Logs {
 }
 
 impl Logs {
-    /// Creates two loggers, or one that keeps marks or doesn't, with empty logs.
-    pub fn new(alloc: Global, twin: bool, marks: bool) -> Result<Logs, NoMemory>
+    /// Creates two loggers, or one that keeps marks or doesn't, with empty logs and messages of this grammar.
+    pub fn new(alloc: Global, grammar: Grammar, twin: bool, marks: bool) -> Result<Logs, NoMemory>
         ensures one { twin ≡ false → marks ≡ false → IfOk result (λ logs. logs ≡ OneLog empty_log) }
-        ensures two { twin ≡ true → IfOk result (λ logs. logs ≡ TwoLogs new_loggers) }
+        ensures two { twin ≡ true → IfOk result (λ logs. logs ≡ TwoLogs (new_loggers grammar)) }
         ensures marked { twin ≡ false → marks ≡ true → IfOk result (λ logs. IsNewMarked logs) }
     {
         if twin {
-            return Ok(Logs::Two(LogPair::new(alloc)?));
+            return Ok(Logs::Two(LogPair::new(alloc, grammar)?));
         }
         if marks {
             return Ok(Logs::Marked(MarkedLog::new(alloc)));
@@ -53,20 +54,21 @@ impl Logs {
         }
     }
 
-    /// Passes bytes of this direction to a logger, and stores what it sends.
-    pub fn hear(
+    /// Passes bytes of this direction to a logger, and stores what it sends. A single logger takes messages of this grammar; two know theirs.
+    pub fn receive(
         &mut self,
         alloc: Global,
+        grammar: Grammar,
         way: Way,
         bytes: &[u8],
         packets: &mut Packets,
     ) -> Result<(), NoMemory>
-        ensures { OnOk result (HearsIn self.old way bytes.now packets.old self.new packets.new) }
+        ensures { OnOk result (HearsIn grammar self.old way bytes.now packets.old self.new packets.new) }
     {
         match self {
-            Logs::One(only) => only.hear(alloc, way, bytes, packets),
-            Logs::Two(pair) => pair.hear(alloc, way, bytes, packets),
-            Logs::Marked(marked) => marked.hear(alloc, way, bytes, packets),
+            Logs::One(only) => only.receive(alloc, grammar, way, bytes, packets),
+            Logs::Two(pair) => pair.receive(alloc, way, bytes, packets),
+            Logs::Marked(marked) => marked.receive(alloc, grammar, way, bytes, packets),
         }
     }
 }

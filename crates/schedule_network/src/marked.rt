@@ -11,7 +11,7 @@ ghost use Rattle.seq_arith.specs.MarkGrammar.{IsSpellable};
 ghost use Rattle.logger_wire.specs.MarkValue.{message_of as mark_message_of};
 ghost use Rattle.ft_model.specs.declared.way.Way.TheVariants.{ServerToLogger};
 ghost use Rattle.mark_laws.specs.MarkedLog.{after_mark};
-ghost use Rattle.mark_store.specs.Bytes.{after_bytes};
+ghost use Rattle.mark_store.specs.Bytes.{after_bytes_by};
 ghost use Rattle.schedule_network.specs.Journal.{AreAt, MarksHear, Notes, no_bytes};
 
 use crate::answers::keep_answer;
@@ -19,7 +19,7 @@ use crate::packets::Packets;
 use ft_io::{Key, NoMemory};
 use ft_model::Way;
 use logger_store::{LogStore, MsgOut};
-use logger_wire::{Body, MarkBody, MarkMsg, Msg, Part, read_mark, read_msg};
+use logger_wire::{Body, Grammar, MarkBody, MarkMsg, Msg, Part, read_mark, read_msg_by};
 use mark_store::MarkStore;
 use std::alloc::Global;
 use std::marker::Model;
@@ -78,7 +78,7 @@ impl MarkedLog {
     }
 
     /// Enters in the journal that this much output of a key is acknowledged.
-    #[tactic(auto, unfolding(seq_arith::specs::MessageGrammar::has_length, seq_arith::specs::MessageGrammar::is_sound))]
+    #[tactic(auto, unfolding(seq_arith::specs::MessageGrammar::has_length, seq_arith::specs::MessageGrammar::is_sound_by))]
     fn acknowledge(
         &mut self,
         alloc: Global,
@@ -90,13 +90,19 @@ impl MarkedLog {
         requires boot { 1 ≤ boot }
         requires length { length ≤ longest_stream }
         requires made { made ≤ longest_stream }
-        ensures { OnOk result (self.new ≡ record self.old { journal = log_after self.old.journal (record { boot = boot; body = DataMsg (no_bytes key length made) }) }) }
+        ensures { OnOk result (self.new ≡ record self.old {
+          journal = log_after self.old.journal (record {
+            boot = boot;
+            body = DataMsg (no_bytes key length made);
+          });
+        }) }
     {
         let body = Body::Data(Part {
             key,
             offset: length,
             acked: made,
             fin: false,
+            more: false,
             bytes: &[],
         });
         self.journal
@@ -120,11 +126,13 @@ impl MarkedLog {
     }
 
     /// Enters in the journal the message in these bytes, which the store has read.
-    fn note(&mut self, alloc: Global, bytes: &[u8]) -> Result<(), NoMemory>
-        ensures { OnOk result (Notes (after_bytes bytes.now) self.old self.new) }
+    fn note(&mut self, alloc: Global, grammar: Grammar, bytes: &[u8]) -> Result<(), NoMemory>
+        ensures { OnOk result (Notes (after_bytes_by grammar bytes.now) self.old self.new) }
     {
-        if let Ok(message) = read_msg(bytes) {
-            return self.journal.answer(alloc, &message, &mut self.answer);
+        if let Ok(message) = read_msg_by(grammar, bytes) {
+            return self
+                .journal
+                .answer_by(alloc, grammar, &message, &mut self.answer);
         }
         match read_mark(bytes) {
             Ok(message) => self.enter(alloc, &message),
@@ -133,26 +141,34 @@ impl MarkedLog {
     }
 
     /// Reads bytes that arrive, and stores the answer. Bytes that are no message change nothing.
-    fn read(&mut self, alloc: Global, bytes: &[u8], packets: &mut Packets) -> Result<(), NoMemory>
-        ensures { OnOk result (MarksHear ServerToLogger bytes.now (self.old, packets.old) (self.new, packets.new)) }
-    {
-        self.store.answer(alloc, bytes, &mut self.answer)?;
-        keep_answer(&self.answer, packets)?;
-        self.note(alloc, bytes)
-    }
-
-    /// Reads bytes of this direction, if it leads to the logger.
-    pub fn hear(
+    fn read(
         &mut self,
         alloc: Global,
+        grammar: Grammar,
+        bytes: &[u8],
+        packets: &mut Packets,
+    ) -> Result<(), NoMemory>
+        ensures { OnOk result (MarksHear grammar ServerToLogger bytes.now (self.old, packets.old) (self.new, packets.new)) }
+    {
+        self.store
+            .answer_by(alloc, grammar, bytes, &mut self.answer)?;
+        keep_answer(&self.answer, packets)?;
+        self.note(alloc, grammar, bytes)
+    }
+
+    /// Reads bytes of this direction, if it leads to the logger, in this grammar.
+    pub fn receive(
+        &mut self,
+        alloc: Global,
+        grammar: Grammar,
         way: Way,
         bytes: &[u8],
         packets: &mut Packets,
     ) -> Result<(), NoMemory>
-        ensures { OnOk result (MarksHear way bytes.now (self.old, packets.old) (self.new, packets.new)) }
+        ensures { OnOk result (MarksHear grammar way bytes.now (self.old, packets.old) (self.new, packets.new)) }
     {
         if matches!(way, Way::ServerToLogger) {
-            return self.read(alloc, bytes, packets);
+            return self.read(alloc, grammar, bytes, packets);
         }
         Ok(())
     }

@@ -1,9 +1,9 @@
 //! The only logger of a world.
 
 ghost use Rattle.std.specs.Prelude.{◌≡◌, Ok, OnOk};
-ghost use Rattle.seq_arith.specs.MessageGrammar.{reading};
+ghost use Rattle.seq_arith.specs.MessageGrammar.{reading_by};
 ghost use Rattle.ft_model.specs.Log.{empty_log};
-ghost use Rattle.logger_wire.specs.Value.{message_of, IsSendable};
+ghost use Rattle.logger_wire.specs.Value.{message_of, IsSendableBy};
 ghost use Rattle.schedule_network.specs.Logs.{log_reads, log_hears};
 
 use crate::answers::keep_answer;
@@ -11,7 +11,7 @@ use crate::packets::Packets;
 use ft_io::NoMemory;
 use ft_model::Way;
 use logger_store::{LogStore, MsgOut};
-use logger_wire::{Msg, read_msg};
+use logger_wire::{Grammar, Msg, read_msg_by};
 use std::alloc::Global;
 use std::marker::Model;
 
@@ -53,38 +53,47 @@ impl OnlyLogger {
     fn take(
         &mut self,
         alloc: Global,
+        grammar: Grammar,
         message: &Msg<'_>,
         packets: &mut Packets,
     ) -> Result<(), NoMemory>
-        requires { IsSendable message.now }
-        ensures { OnOk result ((self.new, packets.new) ≡ log_reads (Ok (message_of message.now)) (self.old, packets.old)) }
+        requires { IsSendableBy grammar message.now }
+        ensures { OnOk result ((self.new, packets.new) ≡ log_reads grammar (Ok (message_of message.now)) (self.old, packets.old)) }
     {
-        self.log.answer(alloc, message, &mut self.answer)?;
+        self.log
+            .answer_by(alloc, grammar, message, &mut self.answer)?;
         keep_answer(&self.answer, packets)
     }
 
     /// Reads bytes that arrive. Bytes that are no message change nothing.
-    fn read(&mut self, alloc: Global, bytes: &[u8], packets: &mut Packets) -> Result<(), NoMemory>
-        ensures { OnOk result ((self.new, packets.new) ≡ log_reads (reading bytes.now) (self.old, packets.old)) }
+    fn read(
+        &mut self,
+        alloc: Global,
+        grammar: Grammar,
+        bytes: &[u8],
+        packets: &mut Packets,
+    ) -> Result<(), NoMemory>
+        ensures { OnOk result ((self.new, packets.new) ≡ log_reads grammar (reading_by grammar bytes.now) (self.old, packets.old)) }
     {
-        match read_msg(bytes) {
-            Ok(message) => self.take(alloc, &message, packets),
+        match read_msg_by(grammar, bytes) {
+            Ok(message) => self.take(alloc, grammar, &message, packets),
             Err(_) => Ok(()),
         }
     }
 
-    /// Reads bytes of this direction, if it leads to the logger.
-    pub fn hear(
+    /// Reads bytes of this direction, if it leads to the logger, in this grammar.
+    pub fn receive(
         &mut self,
         alloc: Global,
+        grammar: Grammar,
         way: Way,
         bytes: &[u8],
         packets: &mut Packets,
     ) -> Result<(), NoMemory>
-        ensures { OnOk result ((self.new, packets.new) ≡ log_hears way bytes.now (self.old, packets.old)) }
+        ensures { OnOk result ((self.new, packets.new) ≡ log_hears grammar way bytes.now (self.old, packets.old)) }
     {
         if matches!(way, Way::ServerToLogger) {
-            return self.read(alloc, bytes, packets);
+            return self.read(alloc, grammar, bytes, packets);
         }
         Ok(())
     }

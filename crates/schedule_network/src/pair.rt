@@ -8,6 +8,7 @@ use crate::packets::Packets;
 use ft_io::NoMemory;
 use ft_model::Way;
 use logger_store::LogStore;
+use logger_wire::Grammar;
 use std::alloc::Global;
 use std::marker::Model;
 use twin_log::{Part, Side, TwinLog, TwinOut};
@@ -30,13 +31,13 @@ impl Model for LogPair {
 }
 
 impl LogPair {
-    /// Creates two running loggers with empty logs.
-    pub fn new(alloc: Global) -> Result<LogPair, NoMemory>
-        ensures { IfOk result (λ pair. pair ≡ new_loggers) }
+    /// Creates two running loggers with empty logs and messages of this grammar.
+    pub fn new(alloc: Global, grammar: Grammar) -> Result<LogPair, NoMemory>
+        ensures { IfOk result (λ pair. pair ≡ new_loggers grammar) }
     {
         Ok(LogPair {
-            head: TwinLog::new(alloc, Part::Head)?,
-            tail: TwinLog::new(alloc, Part::Tail)?,
+            head: TwinLog::new_by(alloc, grammar, Part::Head)?,
+            tail: TwinLog::new_by(alloc, grammar, Part::Tail)?,
             out: TwinOut::new(alloc)?,
         })
     }
@@ -134,7 +135,7 @@ impl LogPair {
     }
 
     /// Passes bytes of this direction to the logger to which it leads, and stores what that logger sends.
-    pub fn hear(
+    pub fn receive(
         &mut self,
         alloc: Global,
         way: Way,

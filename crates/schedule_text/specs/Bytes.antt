@@ -1,5 +1,5 @@
 -- What bytes spell by the grammar of their direction: a segment between a client and the server, a message between the server and the logger, which may be
--- about marks, or a datagram between two loggers.
+-- about marks, or a datagram between two loggers. A run has one of the two grammars of messages.
 use Rattle.std.specs.Prelude.{ℕ, Option, None, Some, option_map, Result, Ok, Err, List}
 use Rattle.seq_arith.specs.PacketGrammar as segments
 use Rattle.seq_arith.specs.MessageGrammar as messages
@@ -10,6 +10,8 @@ use Rattle.seq_arith.specs.Message.{Message}
 use Rattle.seq_arith.specs.TwinDatagram.{TwinDatagram}
 use Rattle.seq_arith.specs.TwinDatagram.{TwinDatagram as datagrams}
 use Rattle.seq_arith.specs.declared.kinds.BadMsg.{BadMsg}
+use Rattle.seq_arith.specs.declared.kinds.Grammar.{Grammar}
+use Rattle.seq_arith.specs.declared.kinds.Grammar.TheVariants.{Plain}
 use Rattle.seq_arith.specs.declared.mark.BadMark.{BadMark}
 use Rattle.seq_arith.specs.declared.twin.BadTwin.{BadTwin}
 use Rattle.ft_model.specs.Network.{Packet}
@@ -24,13 +26,13 @@ said_as packet (Ok x) = Some (packet x)
 said_as packet (Err why) = None
 
 -- the packet; none if the grammar refuses the bytes, and none for messages about marks and for datagrams between two loggers
-abbrev pub packet_in : Way → List ℕ → Option Packet
-packet_in (ClientToServer n) bytes = said_as To_server (segments.reading bytes)
-packet_in (ServerToClient n) bytes = said_as To_client (segments.reading bytes)
-packet_in ServerToLogger bytes = said_as To_logger (messages.reading bytes)
-packet_in LoggerToServer bytes = said_as From_logger (messages.reading bytes)
-packet_in HeadToTail bytes = None
-packet_in TailToHead bytes = None
+abbrev pub packet_by : Grammar → Way → List ℕ → Option Packet
+packet_by grammar (ClientToServer n) bytes = said_as To_server (segments.reading bytes)
+packet_by grammar (ServerToClient n) bytes = said_as To_client (segments.reading bytes)
+packet_by grammar ServerToLogger bytes = said_as To_logger (messages.reading_by grammar bytes)
+packet_by grammar LoggerToServer bytes = said_as From_logger (messages.reading_by grammar bytes)
+packet_by grammar HeadToTail bytes = None
+packet_by grammar TailToHead bytes = None
 
 -- the words of a message between server and logger, or of one about marks. Their magics differ, so no bytes are both
 abbrev pub logged_words : Result Message BadMsg → Result MarkMessage BadMark → Option (List (List ℕ))
@@ -43,15 +45,19 @@ abbrev pub forwarded_words : ℕ → Result Message BadMsg → Option (List (Lis
 forwarded_words number (Ok message) = Some (forward_words number message)
 forwarded_words number (Err why) = None
 
-abbrev pub told_words : Result TwinDatagram BadTwin → Option (List (List ℕ))
-told_words (Ok (datagrams.Forward number message)) = forwarded_words number (messages.reading message)
-told_words (Ok (datagrams.Got number)) = Some (got_words number)
-told_words _ = None
+abbrev pub told_words : Grammar → Result TwinDatagram BadTwin → Option (List (List ℕ))
+told_words grammar (Ok (datagrams.Forward number message)) = forwarded_words number (messages.reading_by grammar message)
+told_words grammar (Ok (datagrams.Got number)) = Some (got_words number)
+told_words grammar _ = None
 
 -- the words of a packet's line after its direction
+abbrev pub content_by : Grammar → Way → List ℕ → Option (List (List ℕ))
+content_by grammar ServerToLogger bytes = logged_words (messages.reading_by grammar bytes) (marks.reading bytes)
+content_by grammar LoggerToServer bytes = logged_words (messages.reading_by grammar bytes) (marks.reading bytes)
+content_by grammar HeadToTail bytes = told_words grammar (twins.reading_by grammar bytes)
+content_by grammar TailToHead bytes = told_words grammar (twins.reading_by grammar bytes)
+content_by grammar way bytes = option_map content_words (packet_by grammar way bytes)
+
+-- .. in a run of the plain grammar
 abbrev pub content_in : Way → List ℕ → Option (List (List ℕ))
-content_in ServerToLogger bytes = logged_words (messages.reading bytes) (marks.reading bytes)
-content_in LoggerToServer bytes = logged_words (messages.reading bytes) (marks.reading bytes)
-content_in HeadToTail bytes = told_words (twins.reading bytes)
-content_in TailToHead bytes = told_words (twins.reading bytes)
-content_in way bytes = option_map content_words (packet_in way bytes)
+content_in way bytes = content_by Plain way bytes

@@ -1,17 +1,29 @@
 -- What reading returns, in terms of the grammar.
-use Rattle.std.specs.Prelude.{◌≡◌, ℕ, List, Result, Ok, Err}
-use Rattle.ft_model.specs.Grammar.{◌>>=◌, Refusal, line_of, with_line}
+use Rattle.std.specs.Prelude.{◌≡◌, ℕ, Option, None, List, Result, Ok, Err}
+use Rattle.ft_model.specs.Grammar.{◌>>=◌, Objection, Refusal, line_of, unless_objected, with_line}
 use Rattle.ft_model.specs.Grammar.Refusal.{BadLine, TooLong}
 use Rattle.ft_model.specs.declared.line.Draft.{Draft}
+use Rattle.ft_model.specs.declared.line.Line.{Line}
 use Rattle.ft_model.specs.declared.schedule.LineWhy.{LineWhy}
+use Rattle.schedule_text.specs.Fleeting.{refusal_of_lasting}
 use Rattle.schedule_text.specs.declared.end.LineEnd.{LineEnd}
 use Rattle.schedule_text.specs.declared.end.LineEnd.TheVariants as line_end
 use Rattle.schedule_text.specs.declared.end.ScheduleEnd.{ScheduleEnd}
 use Rattle.schedule_text.specs.declared.end.ScheduleEnd.TheVariants as end
+use Rattle.schedule_text.specs.declared.read.Known.{Known}
+use Rattle.schedule_text.specs.declared.read.Known.TheVariants.{All, Fleeting}
+
+-- why a reader refuses a well-formed line
+abbrev pub refusal_of_line : Known → Line → Option LineWhy
+refusal_of_line All l = None
+refusal_of_line Fleeting l = refusal_of_lasting l
+
+abbrev pub objection_of : Known → Objection
+objection_of known draft l = refusal_of_line known l
 
 -- the draft after a line
-abbrev pub with_text : Draft → List ℕ → Result Draft LineWhy
-with_text draft text = line_of draft text >>= λ l. Ok (with_line draft l)
+abbrev pub with_text : Known → Draft → List ℕ → Result Draft LineWhy
+with_text known draft text = line_of draft text >>= λ l. unless_objected (refusal_of_line known l) (with_line draft l)
 
 -- the result for a line is the grammar's, unless an allocation failed
 abbrev pub GivesLine : {X : Type 0} → Result X LineEnd → Result X LineWhy → Type 0

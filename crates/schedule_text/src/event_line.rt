@@ -3,7 +3,8 @@
 ghost use Rattle.std.specs.Prelude.{◌≡◌, ◌-◌, ◌^◌, ◌≤◌, ℕ, List, [], ◌∷◌, IfOk, MatchResult};
 ghost use Rattle.ft_model.specs.Words.{words_of};
 ghost use Rattle.ft_model.specs.Grammar.{number, boot_number, packet_number, client_number, window, long_number, boot_line, bare_line, deliver_line, flip_line};
-ghost use Rattle.ft_model.specs.Grammar.{client_and_window, send_line, client_alone, part_number, every_number, stop_line, event_line};
+ghost use Rattle.ft_model.specs.Grammar.{client_and_window, send_line, client_alone, part_number, every_number, wait_number, silence_number};
+ghost use Rattle.ft_model.specs.Grammar.{stop_line, event_line};
 
 use crate::spelling::read_number;
 use crate::words::next_word;
@@ -70,6 +71,20 @@ pub(crate) fn read_every(word: &[u8]) -> Result<u32, LineWhy>
     ensures { result ≡ every_number word.now }
 {
     Ok(number_in(word, 1, 1_000)? as u32)
+}
+
+/// Reads for how many ticks a server that lasts keeps what is done.
+pub(crate) fn read_wait(word: &[u8]) -> Result<u32, LineWhy>
+    ensures { result ≡ wait_number word.now }
+{
+    Ok(number_in(word, 1, 100_000)? as u32)
+}
+
+/// Reads after how many ticks a server that lasts asks a silent client.
+pub(crate) fn read_silence(word: &[u8]) -> Result<u32, LineWhy>
+    ensures { result ≡ silence_number word.now }
+{
+    Ok(number_in(word, 0, 100_000)? as u32)
 }
 
 fn read_window(word: &[u8]) -> Result<u16, LineWhy>

@@ -1,21 +1,21 @@
-//! Wrong results that the contracts of this crate exclude. Each function calls another one of the crate, and promises of its result what a wrong body would make
-//! false. It is proved from the other's contract alone, so it is no longer proved once that contract lets the wrong body pass.
+//! Wrong results that the contracts of this crate exclude. Each function calls another one of the crate, and promises of its result what a wrong body would
+//! make false. It is proved from the other's contract alone, so it is no longer proved once that contract lets the wrong body pass.
 
-ghost use Rattle.std.specs.Prelude.{◌≡◌, ◌∷◌, [], ◌++◌, false, length, Err, OnOk, codes};
-ghost use Rattle.ft_model.specs.Report.{event_line};
+ghost use Rattle.std.specs.Prelude.{◌≡◌, ◌∷◌, [], ◌++◌, false, length, Err, OnOk, codes, Some};
+ghost use Rattle.ft_model.specs.Report.{event_line, lasting_line};
 ghost use Rattle.ft_model.specs.Texts.{spaced};
 ghost use Rattle.ft_model.specs.Words.{words_of};
 ghost use Rattle.mark_laws.specs.MarkedReport.{words_of_mark};
 
 use crate::event_line::end_of;
 use crate::event_text::put_event_line;
-use crate::header_text::put_profile;
+use crate::header_text::{put_lasting, put_profile};
 use crate::line::{takes_client, takes_profile};
 use crate::line_out::LineOut;
 use crate::line_text::put_letters;
 use crate::mark_text::put_mark;
 use ft_io::{Key, NoMemory};
-use ft_model::{Event, LineWhy, Schedule};
+use ft_model::{Event, Lasting, LineWhy, Schedule};
 use logger_wire::Mark;
 use tcp_rules::Profile;
 
@@ -63,6 +63,17 @@ fn writing_hides_the_profile(line: &mut LineOut) -> Result<(), NoMemory>
     ensures { OnOk result (line.new.words ≡ line.old.words ++ codes "profile wan\n") }
 {
     put_profile(Profile::Wan, line)
+}
+
+/// The quarantine stands before the silence: the clause `ok` of `put_lasting`.
+fn writing_the_silence_before_the_quarantine(line: &mut LineOut) -> Result<(), NoMemory>
+    ensures { OnOk result (line.new.words ≡ line.old.words ++ lasting_line (Some (record { wait = 2; silence = 0 }))) }
+{
+    let lasting = Lasting {
+        wait: 2,
+        silence: 0,
+    };
+    put_lasting(Some(lasting), line)
 }
 
 /// The words of a mark have its reads, and then its length: the clause `ok` of `put_mark`.

@@ -3,12 +3,12 @@
 ghost use Rattle.std.specs.Prelude.{◌≡◌, ◌+◌, ◌++◌, ◌∷◌, ◌==◌, if◌then◌else◌, codes, length, OnOk, OnErr};
 ghost use Rattle.hex.specs.Hex.{encode_lower};
 ghost use Rattle.ft_model.specs.Texts.{address_text, service_text, script_text};
-ghost use Rattle.ft_model.specs.Report.{schedule_line, schedule_lines, profile_line, twin_line, marks_line, header};
+ghost use Rattle.ft_model.specs.Report.{schedule_line, schedule_lines, profile_line, twin_line, marks_line, lasting_line, header};
 
 use crate::line_out::LineOut;
 use crate::line_text::{put_address, put_digits, put_hex_digits, put_number, put_word};
 use ft_io::{Addr, NoMemory};
-use ft_model::{ClientLine, Schedule, Script, ServiceKind};
+use ft_model::{ClientLine, Lasting, Schedule, Script, ServiceKind};
 use std::alloc::Global;
 use tcp_rules::Profile;
 
@@ -30,7 +30,14 @@ fn put_header(s: &Schedule, line: &mut LineOut) -> Result<(), NoMemory>
     line.append_text("ftreplay 1\nservice")?;
     put_word(service_word(s.service), line)?;
     put_server(s.server, line)?;
-    put_rest(s.profile, s.twin, s.marks, s.clients.as_slice(), line)
+    put_rest(
+        s.profile,
+        s.twin,
+        s.marks,
+        s.lasting,
+        s.clients.as_slice(),
+        line,
+    )
 }
 
 /// Appends the end of the service's line, and the server's line.
@@ -61,15 +68,16 @@ fn put_rest(
     profile: Profile,
     twin: bool,
     marks: Option<u32>,
+    lasting: Option<Lasting>,
     clients: &[ClientLine],
     line: &mut LineOut,
 ) -> Result<(), NoMemory>
     ensures ok { OnOk result (line.new.words ≡ line.old.words
-        ++ (profile_line profile ++ (twin_line twin ++ (marks_line marks ++ schedule_lines 1 clients.now)))) }
+        ++ (profile_line profile ++ (twin_line twin ++ (marks_line marks ++ (lasting_line lasting ++ schedule_lines 1 clients.now))))) }
     ensures before { line.new.before ≡ line.old.before }
 {
     put_profile(profile, line)?;
-    put_loggers_and_clients(twin, marks, clients, line)
+    put_loggers_and_clients(twin, marks, lasting, clients, line)
 }
 
 /// Appends the lines after those of the server and its profile.
@@ -77,14 +85,17 @@ fn put_rest(
 fn put_loggers_and_clients(
     twin: bool,
     marks: Option<u32>,
+    lasting: Option<Lasting>,
     clients: &[ClientLine],
     line: &mut LineOut,
 ) -> Result<(), NoMemory>
-    ensures ok { OnOk result (line.new.words ≡ line.old.words ++ (twin_line twin ++ (marks_line marks ++ schedule_lines 1 clients.now))) }
+    ensures ok { OnOk result (line.new.words ≡ line.old.words
+        ++ (twin_line twin ++ (marks_line marks ++ (lasting_line lasting ++ schedule_lines 1 clients.now)))) }
     ensures before { line.new.before ≡ line.old.before }
 {
     put_twin(twin, line)?;
     put_marks(marks, line)?;
+    put_lasting(lasting, line)?;
     put_clients(clients, line)
 }
 
@@ -108,6 +119,21 @@ fn put_marks(marks: Option<u32>, line: &mut LineOut) -> Result<(), NoMemory>
     if let Some(every) = marks {
         line.append_text("marks")?;
         put_number(u64::from(every), line)?;
+        line.push(b'\n')?;
+    }
+    Ok(())
+}
+
+/// Appends the line that says how long the server waits, if it is one that lasts.
+#[tactic(auto, using(crate::proofs::LineLemmas::line_rules))]
+pub(crate) fn put_lasting(lasting: Option<Lasting>, line: &mut LineOut) -> Result<(), NoMemory>
+    ensures ok { OnOk result (line.new.words ≡ line.old.words ++ lasting_line lasting) }
+    ensures before { line.new.before ≡ line.old.before }
+{
+    if let Some(waits) = lasting {
+        line.append_text("lasting")?;
+        put_number(u64::from(waits.wait), line)?;
+        put_number(u64::from(waits.silence), line)?;
         line.push(b'\n')?;
     }
     Ok(())

@@ -6,8 +6,8 @@ pub use end::ScheduleEnd;
 pub use event_text::write_event;
 pub use ft_model::{ClientLine, ClientLines, Events, Limit, LineWhy, Schedule, Script, Way};
 pub use header_text::write_header;
-pub use packet_text::{is_packet, write_packet_line};
-pub use read::read_schedule;
+pub use packet_text::{is_packet, write_packet_line, write_packet_line_by};
+pub use read::{read_fleeting_schedule, read_schedule};
 pub use spelling::{read_addr, read_number, read_profile, read_script, read_service};
 
 mod closing_text;
@@ -15,6 +15,7 @@ mod end;
 mod event_line;
 mod event_text;
 mod excluded;
+pub mod fleeting;
 mod header_text;
 mod line;
 mod line_out;

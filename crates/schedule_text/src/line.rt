@@ -3,20 +3,22 @@
 ghost use Rattle.std.specs.Prelude.{◌≡◌, ◌==◌, ◌&&◌, ◌||◌, ◌<◌, nat_le};
 ghost use Rattle.std.specs.List.{list_any};
 ghost use Rattle.ft_model.specs.Words.{words_of};
-ghost use Rattle.ft_model.specs.Grammar.{service_line, server_line, is_taken, free_address, client_line, bare_line, profile_line, marks_line, line_from, verb_of, keyword_of};
-ghost use Rattle.ft_model.specs.Grammar.{is_unnamed, is_misnamed, is_next, has_next_number, may_join, has_only_server, may_stand, is_printable, line_behind, line_of, begins_event};
+ghost use Rattle.ft_model.specs.Grammar.{service_line, server_line, is_taken, free_address, client_line, bare_line, profile_line, marks_line, lasting_line};
+ghost use Rattle.ft_model.specs.Grammar.{line_from, verb_of, keyword_of, is_unnamed, is_misnamed, is_next, has_next_number, may_join};
+ghost use Rattle.ft_model.specs.Grammar.{has_only_server, may_stand, is_printable, line_behind, line_of, begins_event};
 ghost use Rattle.schedule_text.specs.ReadResult.{GivesLine};
 
 use crate::end::LineEnd;
 use crate::event_line::{
-    end_of, read_client_number, read_event, read_every, read_long_number, word_of,
+    end_of, read_client_number, read_event, read_every, read_long_number, read_silence, read_wait,
+    word_of,
 };
 use crate::spelling::{
     NUMBER_DIGITS, read_addr, read_numeral, read_profile, read_script, read_service,
 };
 use crate::words::{is_text, next_word};
 use ft_io::{Addr, Key};
-use ft_model::{ClientLine, Draft, Keyword, Line, LineWhy, Schedule, ServiceKind, Verb};
+use ft_model::{ClientLine, Draft, Keyword, Lasting, Line, LineWhy, Schedule, ServiceKind, Verb};
 use std::alloc::Global;
 use tcp_rules::Profile;
 
@@ -48,7 +50,7 @@ fn has_address(clients: &[ClientLine], addr: Addr) -> bool
     clients.iter().any(|client| client.key.ip == addr.ip && client.key.port == addr.port)
 }
 
-/// Returns whether the server or a client has this address.
+/// Returns whether the server has this address, or a client. At a server that lasts a client may have another's.
 #[tactic(auto, unfolding(ft_model::specs::Grammar::is_taken))]
 fn takes_address(draft: &Draft, addr: Addr) -> bool
     ensures { result ≡ is_taken draft.now addr }
@@ -57,6 +59,9 @@ fn takes_address(draft: &Draft, addr: Addr) -> bool
         Draft::Begun(schedule) => {
             if schedule.server.ip == addr.ip && schedule.server.port == addr.port {
                 return true;
+            }
+            if schedule.lasting.is_some() {
+                return false;
             }
             has_address(schedule.clients.as_slice(), addr)
         }
@@ -124,6 +129,19 @@ fn read_marks_line(words: &[u8]) -> Result<u32, LineWhy>
     read_every(every)
 }
 
+/// Reads the line that says how long a server that lasts waits.
+#[tactic(auto, unfolding(ft_model::specs::Grammar::lasting_line))]
+fn read_lasting_line(words: &[u8]) -> Result<Lasting, LineWhy>
+    ensures { result ≡ lasting_line (words_of words.now) }
+{
+    let (wait, rest) = word_of(words)?;
+    let (silence, rest) = word_of(rest)?;
+    end_of(rest)?;
+    let wait = read_wait(wait)?;
+    let silence = read_silence(silence)?;
+    Ok(Lasting { wait, silence })
+}
+
 /// Reads the meaning of a line, from the words after its keyword.
 fn read_words(alloc: Global, draft: &Draft, keyword: Keyword, words: &[u8]) -> Result<Line, LineEnd>
     ensures { GivesLine result (line_from draft.now keyword (words_of words.now)) }
@@ -134,6 +152,7 @@ fn read_words(alloc: Global, draft: &Draft, keyword: Keyword, words: &[u8]) -> R
         Keyword::Profile => Ok(Line::Profile(read_profile_line(words)?)),
         Keyword::Twin => Ok(read_twin_line(words)?),
         Keyword::Marks => Ok(Line::Marks(read_marks_line(words)?)),
+        Keyword::Lasting => Ok(Line::Lasting(read_lasting_line(words)?)),
         Keyword::Client => Ok(Line::Client(read_client_line(alloc, draft, words)?)),
         Keyword::Event(verb) => Ok(Line::Event(read_event(verb, words)?)),
     }
@@ -186,6 +205,8 @@ fn read_keyword(word: &[u8]) -> Option<Keyword>
         Some(Keyword::Twin)
     } else if is_text(word, "marks") {
         Some(Keyword::Marks)
+    } else if is_text(word, "lasting") {
+        Some(Keyword::Lasting)
     } else if is_text(word, "client") {
         Some(Keyword::Client)
     } else {
@@ -237,7 +258,7 @@ pub(crate) fn takes_client(schedule: &Schedule, words: &[u8]) -> bool
     fits_number(count, words)
 }
 
-/// Returns whether a line for two loggers or for marks may follow: nothing but a profile follows the server's line yet.
+/// Returns whether a line for two loggers, for marks or for a server that lasts may follow: nothing but a profile follows the server's line yet.
 #[tactic(auto, unfolding(ft_model::specs::Grammar::has_only_server))]
 fn ends_with_server(schedule: &Schedule) -> bool
     ensures { result ≡ has_only_server schedule.now }
@@ -251,7 +272,7 @@ fn ends_with_server(schedule: &Schedule) -> bool
     if schedule.twin {
         return false;
     }
-    schedule.marks.is_none()
+    schedule.marks.is_none() && schedule.lasting.is_none()
 }
 
 /// Returns whether the line that names the server's profile may follow.
@@ -273,6 +294,7 @@ fn takes_line(draft: &Draft, keyword: Keyword, words: &[u8]) -> bool
         (Draft::Begun(schedule), Keyword::Profile) => takes_profile(schedule),
         (Draft::Begun(schedule), Keyword::Twin) => ends_with_server(schedule),
         (Draft::Begun(schedule), Keyword::Marks) => ends_with_server(schedule),
+        (Draft::Begun(schedule), Keyword::Lasting) => ends_with_server(schedule),
         (Draft::Begun(schedule), Keyword::Client) => takes_client(schedule, words),
         (Draft::Begun(_), Keyword::Event(_)) => true,
         _ => false,

@@ -3,7 +3,7 @@
 ghost use Rattle.std.specs.Prelude.{◌≡◌, ◌+◌, ◌*◌, ◌++◌, ◌∷◌, [], codes, decimal, map, OnOk};
 ghost use Rattle.std.specs.List.{join_with_byte};
 ghost use Rattle.seq_arith.specs.MessageGrammar.{lens_in};
-ghost use Rattle.ft_model.specs.Texts.{spaced, key_text, bit_text, hex_text, list_text, behind_commas};
+ghost use Rattle.ft_model.specs.Texts.{spaced, key_text, bit_text, ending_text, hex_text, list_text, behind_commas};
 ghost use Rattle.ft_model.specs.Report.{key_words, numbers_words, kept_words, entry_words, part_words, read_words, field_words, name_of, message_words};
 ghost use Rattle.logger_wire.specs.Records.{numbers_said, kept_said, head_said, part_said};
 ghost use Rattle.logger_wire.specs.Value.{body_of, message_of};
@@ -161,6 +161,19 @@ fn put_part(key: Key, offset: u32, bytes: &[u8], line: &mut LineOut) -> Result<(
     put_hex(bytes, line)
 }
 
+/// Appends what follows the bytes of a Data: nothing, the FIN, or another Data of the same turn.
+#[tactic(auto, unfolding(ft_model::specs::Texts::ending_text))]
+fn put_ending(fin: bool, more: bool, line: &mut LineOut) -> Result<(), NoMemory>
+    ensures ok { OnOk result (line.new.words ≡ line.old.words ++ (codes " fin " ++ ending_text fin more)) }
+    ensures before { line.new.before ≡ line.old.before }
+{
+    if !more {
+        return put_bit(" fin ", fin, line);
+    }
+    line.append_text(" fin ")?;
+    line.push(if fin { b'3' } else { b'2' })
+}
+
 /// Appends bytes to be logged.
 #[tactic(auto, using(crate::proofs::LineLemmas::line_rules))]
 fn put_data(part: &Part<'_>, line: &mut LineOut) -> Result<(), NoMemory>
@@ -169,7 +182,7 @@ fn put_data(part: &Part<'_>, line: &mut LineOut) -> Result<(), NoMemory>
 {
     put_place(part.key, " offset ", part.offset, line)?;
     put_field(" acked ", u64::from(part.acked), line)?;
-    put_bit(" fin ", part.fin, line)?;
+    put_ending(part.fin, part.more, line)?;
     line.append_text(" bytes")?;
     put_hex(part.bytes, line)
 }

@@ -1,8 +1,9 @@
 //! Reading a complete text, line by line.
 
 ghost use Rattle.std.specs.Prelude.{◌≡◌, IfOk, length};
-ghost use Rattle.ft_model.specs.Grammar.{with_line, no_objection, is_comment, is_passed_over, is_full, is_too_much, after_line, schedule_of, read_text};
-ghost use Rattle.schedule_text.specs.ReadResult.{Gives, GivesLine, with_text};
+ghost use Rattle.ft_model.specs.Grammar.{with_line, is_comment, is_passed_over, is_full, is_too_much, after_line, schedule_of, read_with, read_text};
+ghost use Rattle.schedule_text.specs.Fleeting.{read_fleeting};
+ghost use Rattle.schedule_text.specs.ReadResult.{Gives, GivesLine, refusal_of_line, objection_of, with_text};
 
 use crate::end::{LineEnd, ScheduleEnd};
 use crate::line::{begins_with_event, read_line};
@@ -18,6 +19,14 @@ const TEXT_LIMIT: usize = 8_388_608;
 /// The largest number of event lines in a text.
 const EVENT_LIMIT: usize = 100_000;
 
+/// Which schedules a reader knows.
+#[derive(Clone, Copy)]
+pub(crate) enum Known {
+    All,
+    /// Those whose server doesn't last.
+    Fleeting,
+}
+
 fn starts_comment(text: &[u8]) -> bool
     ensures { result ≡ is_comment text.now }
 {
@@ -29,7 +38,7 @@ fn starts_comment(text: &[u8]) -> bool
 
 /// Returns whether a line is a comment or blank.
 #[tactic(auto, unfolding(ft_model::specs::Grammar::is_passed_over))]
-fn says_nothing(text: &[u8]) -> bool
+fn is_blank(text: &[u8]) -> bool
     ensures { result ≡ is_passed_over text.now }
 {
     if starts_comment(text) {
@@ -70,6 +79,7 @@ fn add_line(alloc: Global, draft: Draft, line: Line) -> Result<Draft, NoMemory>
             profile: Profile::Plain,
             twin: false,
             marks: None,
+            lasting: None,
             clients: ClientLines::new(Vec::new(alloc)),
             events: Events::new(Vec::new(alloc)),
         })),
@@ -85,6 +95,10 @@ fn add_line(alloc: Global, draft: Draft, line: Line) -> Result<Draft, NoMemory>
             schedule.marks = Some(every);
             Ok(Draft::Begun(schedule))
         }
+        (Draft::Begun(mut schedule), Line::Lasting(waits)) => {
+            schedule.lasting = Some(waits);
+            Ok(Draft::Begun(schedule))
+        }
         (Draft::Begun(mut schedule), Line::Client(client)) => {
             schedule.clients.push(client)?;
             Ok(Draft::Begun(schedule))
@@ -97,20 +111,39 @@ fn add_line(alloc: Global, draft: Draft, line: Line) -> Result<Draft, NoMemory>
     }
 }
 
+/// Returns why a reader refuses a well-formed line.
+fn refusal(known: Known, line: &Line) -> Option<LineWhy>
+    ensures { result ≡ refusal_of_line known line.now }
+{
+    match (known, line) {
+        (Known::Fleeting, Line::Lasting(_)) => Some(LineWhy::Word),
+        _ => None,
+    }
+}
+
 /// Reads a line and adds it to those before it.
-fn read_more(alloc: Global, draft: Draft, text: &[u8]) -> Result<Draft, LineEnd>
-    ensures { GivesLine result (with_text draft text.now) }
+fn read_more(alloc: Global, known: Known, draft: Draft, text: &[u8]) -> Result<Draft, LineEnd>
+    ensures { GivesLine result (with_text known draft text.now) }
 {
     let line = read_line(alloc, &draft, text)?;
+    if let Some(why) = refusal(known, &line) {
+        return Err(LineEnd::Refused(why));
+    }
     Ok(add_line(alloc, draft, line)?)
 }
 
 /// Reads line `number` of a text, after the lines before it.
 #[tactic(auto, unfolding(ft_model::specs::Grammar::after_line))]
-fn take_line(alloc: Global, number: u32, draft: Draft, text: &[u8]) -> Result<Draft, ScheduleEnd>
-    ensures { Gives result (after_line no_objection number draft text.now) }
+fn take_line(
+    alloc: Global,
+    known: Known,
+    number: u32,
+    draft: Draft,
+    text: &[u8],
+) -> Result<Draft, ScheduleEnd>
+    ensures { Gives result (after_line (objection_of known) number draft text.now) }
 {
-    if says_nothing(text) {
+    if is_blank(text) {
         return Ok(draft);
     }
     if passes_limit(&draft, text) {
@@ -118,7 +151,7 @@ fn take_line(alloc: Global, number: u32, draft: Draft, text: &[u8]) -> Result<Dr
             what: Limit::Events,
         });
     }
-    match read_more(alloc, draft, text) {
+    match read_more(alloc, known, draft, text) {
         Ok(later) => Ok(later),
         Err(LineEnd::NoMemory) => Err(ScheduleEnd::NoMemory),
         Err(LineEnd::Refused(why)) => Err(ScheduleEnd::BadLine { line: number, why }),
@@ -138,11 +171,10 @@ fn finish(number: u32, draft: Draft) -> Result<Schedule, ScheduleEnd>
     }
 }
 
-/// Reads a schedule from its text. Returns the schedule that the text spells. The error is the first line that is refused, with the reason, or the limit
-/// that is exceeded, or `NoMemory` where an allocation fails.
+/// Reads a text by a reader that knows these schedules.
 #[tactic(auto, using(crate::proofs::LineByLine::goes_on, crate::proofs::LineByLine::stops, crate::proofs::LineByLine::ends), unfolding(ft_model::specs::Grammar::read_with))]
-pub fn read_schedule(alloc: Global, text: &[u8]) -> Result<Schedule, ScheduleEnd>
-    ensures { Gives result (read_text text.now) }
+fn read_known(alloc: Global, known: Known, text: &[u8]) -> Result<Schedule, ScheduleEnd>
+    ensures { Gives result (read_with (objection_of known) text.now) }
 {
     if text.len() > TEXT_LIMIT {
         return Err(ScheduleEnd::TooLong { what: Limit::Text });
@@ -152,9 +184,24 @@ pub fn read_schedule(alloc: Global, text: &[u8]) -> Result<Schedule, ScheduleEnd
     let mut rest = text;
     while !rest.is_empty() {
         let (line, behind) = next_line(rest);
-        draft = take_line(alloc, number, draft, line)?;
+        draft = take_line(alloc, known, number, draft, line)?;
         number += 1;
         rest = behind;
     }
     finish(number, draft)
+}
+
+/// Reads a schedule from its text. Returns the schedule that the text spells. The error is the first line that is refused, with the reason, or the limit
+/// that is exceeded, or `NoMemory` where an allocation fails.
+pub fn read_schedule(alloc: Global, text: &[u8]) -> Result<Schedule, ScheduleEnd>
+    ensures { Gives result (read_text text.now) }
+{
+    read_known(alloc, Known::All, text)
+}
+
+/// Reads a schedule whose server doesn't last from its text, as `read_schedule` does. A well-formed line `lasting` is refused as a line with an unknown word.
+pub fn read_fleeting_schedule(alloc: Global, text: &[u8]) -> Result<Schedule, ScheduleEnd>
+    ensures { Gives result (read_fleeting text.now) }
+{
+    read_known(alloc, Known::Fleeting, text)
 }

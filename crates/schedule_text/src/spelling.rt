@@ -6,7 +6,8 @@ ghost use Rattle.std.specs.List.{list_all};
 ghost use Rattle.ft_model.specs.declared.schedule.Script.TheVariants.{Fill};
 ghost use Rattle.std.specs.Char.{digit_value, is_ascii_digit, is_ascii_hexdigit};
 ghost use Rattle.std.specs.Str.Parse.{digits_value};
-ghost use Rattle.ft_model.specs.Spelling.{numeral, within, number_of, short_number_of, octet_of, host_of, addr_of, service_of, profile_named, script_of, is_hex, hex_bytes};
+ghost use Rattle.ft_model.specs.Spelling.{numeral, within, number_of, short_number_of, octet_of, host_of, addr_of, service_of, profile_named};
+ghost use Rattle.ft_model.specs.Spelling.{script_of, is_hex, hex_bytes};
 
 use crate::words::{is_text, last_piece, next_piece};
 use ft_io::{Addr, NoMemory, Octets};

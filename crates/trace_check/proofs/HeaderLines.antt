@@ -37,13 +37,14 @@ grows Empty line schedule h gives = absurd h
 grows (Named kind) line schedule h (inr (never, e)) = absurd (cc)
 grows (Begun before) line schedule h (inr (never, e)) = absurd (cc)
 grows (Named kind) line schedule h (inl (at, c, e)) =
-    let own : Schedule = record { service = kind; server = at; profile = Plain; twin = false; marks = None; clients = []; events = [] } in
+    let own : Schedule = record { service = kind; server = at; profile = Plain; twin = false; marks = None; lasting = None; clients = []; events = [] } in
     let same : schedule ≡ own = cc in
     let a : List ℕ = canonical_line Empty (says.Service kind) in
     let b : List ℕ = canonical_line (Named kind) (says.Server at) in
     let accepted : HeaderAccepted own = record {
       one_logger = refl;
       unmarked = refl;
+      fleeting = refl;
       service = service_follows kind;
       server = subst (IsCanonical (Named kind) (says.Server at)) c.spelled c;
       profile = tt;
@@ -56,6 +57,7 @@ grows (Begun before) line schedule h (inl (says.Service kind, c, e)) = absurd c.
 grows (Begun before) line schedule h (inl (says.Server at, c, e)) = absurd c.0
 grows (Begun before) line schedule h (inl (says.Twin, c, e)) = absurd c.0
 grows (Begun before) line schedule h (inl (says.Marks every, c, e)) = absurd c.0
+grows (Begun before) line schedule h (inl (says.Lasting waits, c, e)) = absurd c.0
 grows (Begun before) line schedule h (inl (says.Event x, c, e)) = absurd c.0
 grows (Begun before) line schedule h (inl (says.Profile profile, c, e)) =
     let naming : IsNaming before profile = profile_stands before (take (length line - 1) line) profile c.1.accepted in
@@ -66,15 +68,15 @@ grows (Begun before) line schedule h (inl (says.Profile profile, c, e)) =
     let same : schedule ≡ later = said ∙ ap (λ p. let s : Schedule = record before { profile = p } in s) naming.named in
     let accepted : HeaderAccepted later = profile_accepted before h.0 wide h.1 (subst (IsCanonical (Begun before) (says.Profile Wan)) named.spelled named) in
     let text : header_so_far (Begun later) ≡ header_so_far (Begun before) ++ line =
-    sym (header_is later h.0.one_logger h.0.unmarked h.1)
-    ∙ sym (profile_text before (header_so_far (Begun before)) line wide h.0.one_logger h.0.unmarked (sym (header_is before h.0.one_logger h.0.unmarked h.1)) named.spelled) in
+    sym (header_is later h.0.one_logger h.0.unmarked h.0.fleeting h.1)
+    ∙ sym (profile_text before (header_so_far (Begun before)) line wide h.0.one_logger h.0.unmarked h.0.fleeting (sym (header_is before h.0.one_logger h.0.unmarked h.0.fleeting h.1)) named.spelled) in
     subst (λ s. IsHeaderSoFar (Begun s) × (header_so_far (Begun s) ≡ header_so_far (Begun before) ++ line)) (sym same) ((accepted, h.1), text)
 grows (Begun before) line schedule h (inl (says.Client client, c, e)) =
     let later : Schedule = record before { clients = before.clients ++ client ∷ [] } in
     let same : schedule ≡ later = cc in
     let accepted : HeaderAccepted later = more_accepted before client h.0 h.1 (subst (IsCanonical (Begun before) (says.Client client)) c.1.spelled c.1) in
     let text : header_so_far (Begun later) ≡ header_so_far (Begun before) ++ line =
-    sym (header_is later h.0.one_logger h.0.unmarked h.1) ∙ sym (client_text before client (header_so_far (Begun before)) line (sym (header_is before h.0.one_logger h.0.unmarked h.1)) c.1.spelled) in
+    sym (header_is later h.0.one_logger h.0.unmarked h.0.fleeting h.1) ∙ sym (client_text before client (header_so_far (Begun before)) line (sym (header_is before h.0.one_logger h.0.unmarked h.0.fleeting h.1)) c.1.spelled) in
     subst (λ s. IsHeaderSoFar (Begun s) × (header_so_far (Begun s) ≡ header_so_far (Begun before) ++ line)) (sym same) ((accepted, h.1), text)
 
 module _ {State : Type 0} (service : ℕ → Machine State) where

@@ -8,6 +8,7 @@ use Rattle.std.specs.List.{AllByRecursion}
 use Rattle.ft_io.specs.declared.Key.{Key}
 use Rattle.ft_io.specs.declared.Addr.{Addr}
 use Rattle.ft_io.specs.Key.{key_eq}
+use Rattle.seq_arith.specs.declared.kinds.Grammar.TheVariants.{Wide}
 use Rattle.seq_arith.specs.Message.{Message}
 use Rattle.seq_arith.specs.MessageGrammar as messages
 use Rattle.seq_arith.specs.MarkGrammar as marks
@@ -18,13 +19,13 @@ use Rattle.ft_model.specs.Network.{Packet, packet_at}
 use Rattle.ft_model.specs.Network.Packet.{To_server, To_client, To_logger, From_logger}
 use Rattle.ft_model.specs.Report.{content_words, line_of_packet, message_words, number_of_client, packet_line, packet_lines, way_of}
 use Rattle.ft_model.specs.Schedule.{client_of, clients_of}
-use Rattle.ft_model.specs.Wire.{Wire, wire_of, HasWire}
+use Rattle.ft_model.specs.Wire.{Wire}
 use Rattle.ft_model.specs.World.{World}
 use Rattle.ft_model.specs.declared.event.Event.{Event}
 use Rattle.ft_model.specs.declared.event.Event.TheVariants as events
 use Rattle.ft_model.specs.declared.schedule.ClientLine.{ClientLine}
 use Rattle.ft_model.specs.declared.schedule.Schedule.{Schedule}
-use Rattle.plain_packets.specs.Sent.{wire_at}
+use Rattle.plain_packets.specs.Sent.{wire_at, kept_wire, CanBeKept}
 use Rattle.plain_packets.proofs.Sent.{wire_numbered}
 use Rattle.report_laws.specs.Transitions.{actor, clients_in, receiver}
 use Rattle.schedule_text.specs.Bytes.{logged_words}
@@ -62,47 +63,47 @@ wire_is_readable clients (w ∷ wires) zero wire within is all = subst (λ v. Is
 wire_is_readable clients (w ∷ wires) (suc i) wire within is all = wire_is_readable clients wires i wire (omega (arith, within)) is all.1
 
 -- the words of what can be written
-words_of_message : (message : Message) → messages.IsSpellable message
-    → logged_words (messages.reading (messages.spelling message)) (marks.reading (messages.spelling message)) ≡ Some (message_words message)
-words_of_message message spelled = ap (λ r. logged_words r (marks.reading (messages.spelling message))) (message_is_read message spelled)
+words_of_message : (message : Message) → messages.IsSpellableBy Wide message
+    → logged_words (messages.reading_by Wide (messages.spelling_by Wide message)) (marks.reading (messages.spelling_by Wide message)) ≡ Some (message_words message)
+words_of_message message spelled = ap (λ r. logged_words r (marks.reading (messages.spelling_by Wide message))) (message_is_read message spelled)
 
-pub words_are : (clients : List Client) (packet : Packet) → HasWire packet → words_in clients (wire_of packet) ≡ Some (content_words packet)
+pub words_are : (clients : List Client) (packet : Packet) → CanBeKept packet → words_in clients (kept_wire packet) ≡ Some (content_words packet)
 unfolding content_words
 words_are clients (To_server segment) has = rw (spelling_is_read segment has.0) refl
 words_are clients (To_client segment) has = rw (spelling_is_read segment has.0) refl
 words_are clients (To_logger message) has = words_of_message message has.0
 words_are clients (From_logger message) has = words_of_message message has.0
 
-way_is : (clients : List Client) (packet : Packet) → way_along clients (wire_of packet) ≡ way_of clients packet
+way_is : (clients : List Client) (packet : Packet) → way_along clients (kept_wire packet) ≡ way_of clients packet
 way_is clients (To_server segment) = refl
 way_is clients (To_client segment) = refl
 way_is clients (To_logger message) = refl
 way_is clients (From_logger message) = refl
 
-line_is : (clients : List Client) (n : ℕ) (packet : Packet) → HasWire packet → wire_line clients n (wire_of packet) ≡ packet_line n (way_of clients packet) packet
+line_is : (clients : List Client) (n : ℕ) (packet : Packet) → CanBeKept packet → wire_line clients n (kept_wire packet) ≡ packet_line n (way_of clients packet) packet
 unfolding packet_line
 line_is clients n packet has = ap₂ (λ way words. option_map_or (line_of_packet n way) words []) (way_is clients packet) (words_are clients packet has)
 
-pub lines_are : (clients : List Client) (n : ℕ) (sent : List Packet) → AllByRecursion HasWire sent → wire_lines clients n (map wire_of sent) ≡ packet_lines clients n sent
+pub lines_are : (clients : List Client) (n : ℕ) (sent : List Packet) → AllByRecursion CanBeKept sent → wire_lines clients n (map kept_wire sent) ≡ packet_lines clients n sent
 lines_are clients n [] have = refl
 lines_are clients n (packet ∷ sent) have = ap₂ ◌++◌ (line_is clients n packet have.0) (lines_are clients (n + 1) sent have.1)
 
-pub can_be_read : (clients : List Client) (sent : List Packet) → AllByRecursion HasWire sent → CanBeRead clients (map wire_of sent)
+pub can_be_read : (clients : List Client) (sent : List Packet) → AllByRecursion CanBeKept sent → CanBeRead clients (map kept_wire sent)
 can_be_read clients [] have = tt
 can_be_read clients (packet ∷ sent) have = (subst IsSome (sym (words_are clients packet have.0)) refl, can_be_read clients sent have.1)
 
 -- whose turn an event is
-law_is : (packet : Option Packet) → law_at (option_map wire_of packet) ≡ receiver packet
+law_is : (packet : Option Packet) → law_at (option_map kept_wire packet) ≡ receiver packet
 law_is None = refl
 law_is (Some (To_server segment)) = refl
 law_is (Some (To_client segment)) = refl
 law_is (Some (To_logger message)) = refl
 law_is (Some (From_logger message)) = refl
 
-numbered_law : (sent : List Packet) (n : ℕ) → law_at (wire_at (map wire_of sent) n) ≡ receiver (packet_at sent n)
+numbered_law : (sent : List Packet) (n : ℕ) → law_at (wire_at (map kept_wire sent) n) ≡ receiver (packet_at sent n)
 numbered_law sent n = ap law_at (wire_numbered sent n) ∙ law_is (packet_at sent n)
 
-pub actor_is : (w : World) (event : Event) → actor_along (map wire_of w.packets) event ≡ actor w event
+pub actor_is : (w : World) (event : Event) → actor_along (map kept_wire w.packets) event ≡ actor w event
 actor_is w (events.Boot boot isn) = refl
 actor_is w events.Crash = refl
 actor_is w events.Tick = refl

@@ -9,7 +9,7 @@ use Rattle.std.proofs.lemmas.List.{drop-take, drop-drop}
 use Rattle.ft_model.specs.Words.{is}
 use Rattle.ft_model.specs.declared.schedule.Schedule.{Schedule}
 use Rattle.report_laws.specs.Lines.{lines_in, onto_first}
-use Rattle.report_laws.specs.Transitions.{is_header_line, pieces}
+use Rattle.report_laws.specs.Transitions.{is_lone_word, is_header_line, pieces}
 
 first_by : (c : ℕ) (text : List ℕ) (b : Bool) → is 10 c ≡ b
     → (position_or_len (is 10) text < length text → lines_in text ≡ take (position_or_len (is 10) text + 1) text ∷ lines_in (drop (position_or_len (is 10) text + 1) text))
@@ -70,14 +70,14 @@ pub nothing_after : (text : List ℕ) (at : ℕ) → at ≡ length text → line
 nothing_after text at e = ap lines_in (ap (λ k. drop k text) e ∙ drop-length text) ∙ no_lines
 
 -- the pieces of a line decide whether it belongs to a header
-pub one_piece : (schedule : Schedule) (line : List ℕ) (test : Bool) → pieces line ≡ line ∷ [] → test ≡ (bytes_eq line (codes "profile") || bytes_eq line (codes "twin") || bytes_eq line (codes "marks"))
+pub one_piece : (schedule : Schedule) (line : List ℕ) (test : Bool) → pieces line ≡ line ∷ [] → test ≡ is_lone_word line
     → test ≡ is_header_line schedule (pieces line)
 one_piece schedule line test cut e = e ∙ sym (ap (is_header_line schedule) cut)
 
 pub two_pieces : (schedule : Schedule) (line first rest second : List ℕ) (n : ℕ) (test : Bool) → pieces line ≡ first ∷ pieces rest
     → (more : List (List ℕ)) × (pieces rest ≡ second ∷ more) → n ≡ length schedule.clients + 1
-    → test ≡ (bytes_eq first (codes "profile") || bytes_eq first (codes "twin") || bytes_eq first (codes "marks") || bytes_eq first (codes "client") && bytes_eq second (decimal n))
+    → test ≡ (is_lone_word first || bytes_eq first (codes "client") && bytes_eq second (decimal n))
     → test ≡ is_header_line schedule (pieces line)
 two_pieces schedule line first rest second n test cut (more, behind) count e =
-    e ∙ (ap (λ k. bytes_eq first (codes "profile") || bytes_eq first (codes "twin") || bytes_eq first (codes "marks") || bytes_eq first (codes "client") && bytes_eq second (decimal k)) count
+    e ∙ (ap (λ k. is_lone_word first || bytes_eq first (codes "client") && bytes_eq second (decimal k)) count
     ∙ sym (ap (is_header_line schedule) (cut ∙ ap (λ ps. first ∷ ps) behind)))

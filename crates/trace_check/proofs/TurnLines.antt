@@ -25,7 +25,7 @@ between_grows text from at end first more within =
     ap (drop from) (front_grows text at end more) ∙ drop-append-le from (take at text) (drop at (take end text)) (omega (arith, size, first))
 
 with_other_events : (schedule : Schedule) (events : List Event) (n : ℕ) (packet : Packet) (line : List ℕ) → IsPacketLine schedule n packet line → IsPacketLine (with_events schedule events) n packet line
-with_other_events schedule events n packet line is = record { readable = is.readable; number = is.number; spelled = is.spelled }
+with_other_events schedule events n packet line is = record { readable = is.readable; written = is.written; number = is.number; spelled = is.spelled }
 
 module _ {State : Type 0} (service : ℕ → Machine State) where
   pub turn_begins : (text : List ℕ) (schedule : Schedule) (trace : List Moment) (event : Event) (at lines : ℕ) → at ≤ length text

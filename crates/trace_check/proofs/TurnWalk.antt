@@ -4,29 +4,36 @@ use Rattle.std.specs.List.{AllByRecursion}
 use Rattle.std.proofs.lemmas.Bool.{leb-false, or_parts}
 use Rattle.std.proofs.lemmas.List.{take-append-drop, drop-append-le, length-take-le, length-map}
 use Rattle.std.proofs.Math.Seq.{drop-append_seam}
-use Rattle.server_trait.specs.Service.{Machine}
+use Rattle.server_trait.specs.Service.{Machine, WritesBytes}
 use Rattle.ft_model.specs.Client.{Client}
+use Rattle.ft_model.specs.Image.{HasWires}
 use Rattle.ft_model.specs.Legal.{IsLegalFor, Legal, start_of, refusal}
 use Rattle.ft_model.specs.Network.{Packet}
 use Rattle.ft_model.specs.Readable.{FitsEvent, FitsSchedule, IsReadable, IsReadableTurn}
 use Rattle.ft_model.specs.Report.{content_words, event_line, packet_count, packet_line, packet_lines, way_of}
+use Rattle.ft_model.specs.Schedule.{kind_of}
 use Rattle.ft_model.specs.Texts.{line, way_text}
-use Rattle.ft_model.specs.Wire.{wire_of, HasWire}
+use Rattle.ft_model.specs.Wire.{HasWireBy}
 use Rattle.ft_model.specs.World.{World, Moment, events_of, world_after}
 use Rattle.ft_model.specs.declared.event.Event.{Event}
 use Rattle.ft_model.specs.declared.event.EventWhy.{EventWhy}
 use Rattle.ft_model.specs.declared.line.Draft.TheVariants.{Begun}
 use Rattle.ft_model.specs.declared.line.Line.TheVariants as says
 use Rattle.ft_model.specs.declared.schedule.Schedule.{Schedule}
+use Rattle.ft_model.proofs.FormedWorld.{wires_sent}
+use Rattle.ft_model.proofs.Readable.{legal_readable}
+use Rattle.ft_model.proofs.Running.{HasSmallOutputs}
 use Rattle.ft_model.proofs.ReportContent.{word_way, words_content}
 use Rattle.ft_model.proofs.ReportPackets.{way_fits}
 use Rattle.ft_model.proofs.ReportWords.{word_decimal}
+use Rattle.plain_packets.specs.Sent.{kept_wire, CanBeKept}
+use Rattle.plain_packets.proofs.Kept.{can_be_kept}
 use Rattle.line_check.proofs.EventRanges.{askable_of, fits_of}
 use Rattle.plain_world.specs.WorldState.{WorldState, IsAt, Steps}
 use Rattle.report_laws.specs.declared.Law.{Law}
 use Rattle.report_laws.specs.Canonical.{Follows, IsCanonical, IsWithinLimits}
 use Rattle.report_laws.specs.Lines.{lines_in}
-use Rattle.report_laws.specs.Transitions.{IsEventLine, IsPacketLine, actor, clients_in, report_so_far, report_with_turn}
+use Rattle.report_laws.specs.Transitions.{IsEventLine, IsPacketLine, actor, clients_in, grammar_in, report_so_far, report_with_turn}
 use Rattle.report_laws.specs.Transitions.Position.{InTurn}
 use Rattle.report_laws.specs.TurnLines.{schedule_through}
 use Rattle.report_laws.specs.Verdict.{IsRejected}
@@ -56,11 +63,11 @@ packet_cut schedule n packet rest small h =
 -- the events of a schedule don't matter to a packet's line
 any_events : (schedule : Schedule) (events : List Event) (n : ℕ) (lines : List (List ℕ)) → EndsTurn schedule n lines → EndsTurn (with_events schedule events) n lines
 any_events schedule events n [] ends = tt
-any_events schedule events n (line ∷ lines) ends = λ packet is. ends packet (record { readable = is.readable; number = is.number; spelled = is.spelled })
+any_events schedule events n (line ∷ lines) ends = λ packet is. ends packet (record { readable = is.readable; written = is.written; number = is.number; spelled = is.spelled })
 
-all_have_wires : (schedule : Schedule) (sent : List Packet) → AllByRecursion (IsReadable schedule.server (clients_in schedule)) sent → AllByRecursion HasWire sent
+all_have_wires : (schedule : Schedule) (sent : List Packet) → AllByRecursion (IsReadable schedule.server (clients_in schedule)) sent → AllByRecursion CanBeKept sent
 all_have_wires schedule [] all = tt
-all_have_wires schedule (packet ∷ sent) all = (all.0.1, all_have_wires schedule sent all.1)
+all_have_wires schedule (packet ∷ sent) all = (can_be_kept all.0.1 packet all.0.2, all_have_wires schedule sent all.1)
 
 -- one event more, within the limits
 limits_grow : (schedule : Schedule) (trace : List Moment) (event : Event) → IsWithinLimits (schedule_through schedule trace) → Follows (Begun (schedule_through schedule trace)) (says.Event event)
@@ -72,6 +79,7 @@ limits_grow schedule trace event within follows few =
       header = record {
         one_logger = within.header.one_logger;
         unmarked = within.header.unmarked;
+        fleeting = within.header.fleeting;
         service = within.header.service;
         server = within.header.server;
         profile = within.header.profile;
@@ -98,13 +106,14 @@ module _ {State : Type 0} (service : ℕ → Machine State) where
   -- the lines of a turn's packets lead on in the turn
   packets_lead : (text : List ℕ) (schedule : Schedule) (trace : List Moment) (event : Event) (done todo : List Packet) (front rest : List ℕ) (lines : ℕ)
       → packet_count trace + length done + length todo ≤ 200000 → AllByRecursion (IsReadable schedule.server (clients_in schedule)) todo
+      → AllByRecursion (HasWireBy (grammar_in schedule)) todo
       → front ≡ packet_lines (clients_in schedule) (packet_count trace + length done + 1) todo ++ rest
       → Leads service text (InTurn schedule trace event done) front lines → Leads service text (InTurn schedule trace event (done ++ todo)) rest (lines + length todo)
-  packets_lead text schedule trace event done [] front rest lines few all is l =
+  packets_lead text schedule trace event done [] front rest lines few all written is l =
       let same : lines ≡ lines + length {A = Packet} [] = omega arith in
       subst (Leads service text (InTurn schedule trace event (done ++ [])) rest) same
       (subst (λ s. Leads service text (InTurn schedule trace event s) rest lines) (sym (append-nil done)) (subst (λ f. Leads service text (InTurn schedule trace event done) f lines) is l))
-  packets_lead text schedule trace event done (packet ∷ todo) front rest lines few all is l =
+  packets_lead text schedule trace event done (packet ∷ todo) front rest lines few all written is l =
       let clients : List Client = clients_in schedule in
       let n : ℕ = packet_count trace + length done + 1 in
       let first : List ℕ = packet_line n (way_of clients packet) packet in
@@ -113,7 +122,7 @@ module _ {State : Type 0} (service : ℕ → Machine State) where
       let small : n < 2 ^ 64 = omega (arith, few) in
       let cut : lines_in front ≡ first ∷ lines_in more = ap lines_in whole ∙ packet_cut schedule n packet more small all.0 in
       let within : n ≤ 200000 = omega (arith, few) in
-      let here : IsPacketLine schedule n packet first = record { readable = all.0; number = within; spelled = refl } in
+      let here : IsPacketLine schedule n packet first = record { readable = all.0; written = written.0; number = within; spelled = refl } in
       let next : Leads service text (InTurn schedule trace event (done ++ packet ∷ [])) more (lines + 1) =
       leads_on service text first front more (InTurn schedule trace event done) (InTurn schedule trace event (done ++ packet ∷ [])) lines l cut (inl (packet, (first, refl, here), refl)) in
       let longer : length (done ++ packet ∷ []) ≡ length done + 1 = length-append done (packet ∷ []) in
@@ -122,16 +131,22 @@ module _ {State : Type 0} (service : ℕ → Machine State) where
       let count : (lines + 1) + length todo ≡ lines + length (packet ∷ todo) = omega arith in
       subst (Leads service text (InTurn schedule trace event (done ++ packet ∷ todo)) rest) count
       (subst (λ s. Leads service text (InTurn schedule trace event s) rest ((lines + 1) + length todo)) (append_assoc done (packet ∷ []) todo)
-      (packets_lead text schedule trace event (done ++ packet ∷ []) todo more rest (lines + 1) on all.1 (ap (λ k. packet_lines clients k todo ++ rest) number) next))
+      (packets_lead text schedule trace event (done ++ packet ∷ []) todo more rest (lines + 1) on all.1 written.1 (ap (λ k. packet_lines clients k todo ++ rest) number) next))
 
   -- the trace with an event that was played
   legal_so : (schedule : Schedule) (trace : List Moment) (world : WorldState State) → IsAt service schedule trace world → Legal service (schedule_through schedule trace) trace
   legal_so schedule trace world at = record { joint = at.legal.joint; events_are = at.legal.events_are; allowed = at.legal.allowed }
 
-  -- the law by which what is sent can be read
+  -- the law by which what is sent can be written and read
   abbrev AllReadable : Type 0
   AllReadable = (schedule : Schedule) (trace : List Moment) → FitsSchedule schedule → Legal service schedule trace
-      → AllByRecursion (IsReadableTurn schedule.server (clients_in schedule)) trace
+      → AllByRecursion (IsReadableTurn schedule.server (clients_in schedule)) trace × AllByRecursion (HasWires (grammar_in schedule)) trace
+
+  pub all_readable : ((kind : ℕ) → HasSmallOutputs (service kind)) → ((kind : ℕ) → WritesBytes (service kind)) → AllReadable
+  all_readable small writes schedule trace fits legal = (
+    legal_readable service small writes schedule trace fits legal,
+    wires_sent (service (kind_of schedule.service)) (small (kind_of schedule.service)) (writes (kind_of schedule.service)) (start_of schedule) trace legal.joint,
+  )
 
   -- .. and that by which a schedule has one trace
   abbrev OneTrace : Type 0
@@ -141,7 +156,13 @@ module _ {State : Type 0} (service : ℕ → Machine State) where
       → IsPlayed service text schedule trace moment place before turn world → AllByRecursion (IsReadable schedule.server (clients_in schedule)) moment.sent
   sent_readable readable text schedule trace moment place before turn world p =
       (readable (schedule_through schedule (moment ∷ trace)) (moment ∷ trace) (fits_schedule (schedule_through schedule (moment ∷ trace)) p.limits)
-      (legal_so schedule (moment ∷ trace) world p.stands)).0.1
+      (legal_so schedule (moment ∷ trace) world p.stands)).0.0.1
+
+  sent_written : AllReadable → (text : List ℕ) (schedule : Schedule) (trace : List Moment) (moment : Moment) (place : Place) (before : ℕ) (turn : Law) (world : WorldState State)
+      → IsPlayed service text schedule trace moment place before turn world → AllByRecursion (HasWireBy (grammar_in schedule)) moment.sent
+  sent_written readable text schedule trace moment place before turn world p =
+      (readable (schedule_through schedule (moment ∷ trace)) (moment ∷ trace) (fits_schedule (schedule_through schedule (moment ∷ trace)) p.limits)
+      (legal_so schedule (moment ∷ trace) world p.stands)).1.0
 
   pub moment_is_sent : AllReadable → (text : List ℕ) (schedule : Schedule) (trace : List Moment) (moment : Moment) (place : Place) (before : ℕ) (turn : Law) (world : WorldState State)
       → IsPlayed service text schedule trace moment place before turn world → AreSent world.packets before moment.sent
@@ -188,7 +209,7 @@ module _ {State : Type 0} (service : ℕ → Machine State) where
       ∙ ap (λ l. l ++ drop after.at text) (told ∙ ap (λ k. packet_lines (clients_in schedule) k moment.sent) first)) in
       let on : Leads service text (InTurn s trace moment.event moment.sent) (drop after.at text) (place.lines + m) =
       packets_lead text s trace moment.event [] moment.sent (drop place.at text) (drop after.at text) place.lines few
-      (sent_readable readable text schedule trace moment place before turn world p) behind p.leads in
+      (sent_readable readable text schedule trace moment place before turn world p) (sent_written readable text schedule trace moment place before turn world p) behind p.leads in
       let counts : place.lines + m ≡ after.lines = omega (arith, same, lines) in
       let next : (before + 1) + m ≡ packet_count trace + m + 1 = omega (arith, known) in
       let ends : EndsTurn s (packet_count trace + m + 1) (lines_in (drop after.at text)) =
@@ -262,22 +283,22 @@ module _ {State : Type 0} (service : ℕ → Machine State) where
       let e : Event = s.moment.event in
       let w : World = world_after (start_of schedule) trace in
       let through : Schedule = schedule_through schedule trace in
-      let wires : old.packets ≡ map wire_of w.packets = walked.stands.represents.packets in
+      let wires : old.packets ≡ map kept_wire w.packets = walked.stands.represents.packets in
       let r : ReadsEvent service text through trace e place.at next.at place.lines next.size =
       subst (λ e. ReadsEvent service text through trace e place.at next.at place.lines next.size) (sym s.event) reads in
       let open_to : is_refused schedule trace e ≡ false = subst (λ e. is_refused schedule trace e ≡ false) (sym s.event) free in
       let acts : turn ≡ actor_along old.packets e = subst (λ e. turn ≡ actor_along old.packets e) (sym s.event) law in
       let few : length trace < 100000 = (may_happen schedule trace e open_to).1 in
       let follows : Follows (Begun through) (says.Event e) = subst (IsCanonical (Begun through) (says.Event e)) r.is.canonical.spelled r.is.canonical in
-      let longer : length new.packets ≡ length old.packets + length (map wire_of s.moment.sent) = ap length s.packets ∙ length-append old.packets (map wire_of s.moment.sent) in
-      let mapped : length (map wire_of s.moment.sent) ≡ length s.moment.sent = length-map s.moment.sent wire_of in
+      let longer : length new.packets ≡ length old.packets + length (map kept_wire s.moment.sent) = ap length s.packets ∙ length-append old.packets (map kept_wire s.moment.sent) in
+      let mapped : length (map kept_wire s.moment.sent) ≡ length s.moment.sent = length-map s.moment.sent kept_wire in
       record {
         leads = subst (Leads service text (InTurn (schedule_through schedule (s.moment ∷ trace)) trace e []) (drop next.at text)) (sym lines) (r.allowed open_to);
         stands = s.at;
         limits = limits_grow schedule trace e walked.limits follows few;
         size_is = r.size_is;
         sent = known ∙ walked.sent;
-        packets = ap₂ drop known s.packets ∙ drop-append_seam old.packets (map wire_of s.moment.sent);
+        packets = ap₂ drop known s.packets ∙ drop-append_seam old.packets (map kept_wire s.moment.sent);
         count = omega (arith, longer, mapped, known);
         few = walked.few;
         law_is = acts ∙ (ap (λ ws. actor_along ws e) wires ∙ actor_is w e);

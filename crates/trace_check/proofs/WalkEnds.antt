@@ -56,7 +56,7 @@ header_short schedule h = clients_short (profiled schedule) schedule.clients (pr
 
 header_limits : (schedule : Schedule) → HeaderAccepted schedule → IsWithinLimits (schedule_through schedule [])
 header_limits schedule h = record {
-  header = record { one_logger = h.one_logger; unmarked = h.unmarked; service = h.service; server = h.server; profile = h.profile; clients = h.clients };
+  header = record { one_logger = h.one_logger; unmarked = h.unmarked; fleeting = h.fleeting; service = h.service; server = h.server; profile = h.profile; clients = h.clients };
   events = tt;
   few = omega arith;
 }
@@ -77,7 +77,7 @@ module _ {State : Type 0} (service : ℕ → Machine State) where
   header_is_checked text schedule at lines r = record {
     few = few_clients schedule (header_within text schedule at lines r);
     fits = fits_schedule schedule (header_within text schedule at lines r);
-    apart = (header_plays text schedule at lines r).apart;
+    apart = (header_plays text schedule at lines r).apart r.so_far.0.fleeting;
   }
 
   pub header_is_place : (text : List ℕ) (schedule : Schedule) (place : Place) → IsReadTo service text (Begun schedule) place.at place.lines
@@ -97,7 +97,7 @@ module _ {State : Type 0} (service : ℕ → Machine State) where
       let s : Schedule = schedule_through schedule [] in
       let same : schedule ≡ s = same_schedule text schedule place.at place.lines r in
       let bytes : length (schedule_bytes (Begun schedule)) ≡ length (schedule_bytes (Begun s)) = ap (λ t. length (schedule_bytes (Begun t))) same in
-      let headed : header s ≡ header_so_far (Begun s) = header_is s r.so_far.0.one_logger r.so_far.0.unmarked refl in
+      let headed : header s ≡ header_so_far (Begun s) = header_is s r.so_far.0.one_logger r.so_far.0.unmarked r.so_far.0.fleeting refl in
       record {
         after = subst (λ t. IsAfter service text t [] (drop place.at text) place.lines) same after;
         stands = at;

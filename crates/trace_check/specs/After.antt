@@ -22,7 +22,8 @@ first_of [] = None
 first_of (line ∷ lines) = Some line
 
 -- the turns of a trace are read: the next line has the effect that it has after them
-pub record IsAfter {State : Type 0} (service : ℕ → Machine State) (text : List ℕ) (schedule : Schedule) (trace : List Moment) (rest : List ℕ) (lines : ℕ) : Type 0 where
+pub record IsAfter {State : Type 0} (service : ℕ
+    → Machine State) (text : List ℕ) (schedule : Schedule) (trace : List Moment) (rest : List ℕ) (lines : ℕ) : Type 0 where
   pub position : Position
   pub leads : Leads service text position rest lines
   pub gives : (step : Step) → AfterTurn schedule trace (first_of (lines_in rest)) step → LineGives service position (first_of (lines_in rest)) step
@@ -35,7 +36,8 @@ abbrev pub is_refused : Schedule → List Moment → Event → Bool
 is_refused schedule trace event = is_some (refusal (world_after (start_of schedule) trace) event) || nat_le 100000 (length trace)
 
 -- the line of an event leads on to its turn, unless the event is refused
-pub record ReadsEvent {State : Type 0} (service : ℕ → Machine State) (text : List ℕ) (schedule : Schedule) (trace : List Moment) (event : Event) (at end lines size : ℕ) : Type 0 where
+pub record ReadsEvent {State : Type 0} (service : ℕ
+    → Machine State) (text : List ℕ) (schedule : Schedule) (trace : List Moment) (event : Event) (at end lines size : ℕ) : Type 0 where
   pub is : IsEventLine schedule (length trace + 1) event (drop at (take end text))
   pub allowed : is_refused schedule trace event ≡ false → Leads service text (InTurn (with_event schedule event) trace event []) (drop end text) (lines + 1)
   pub refused : is_refused schedule trace event ≡ true → IsRejected service text (lines + 1) law.Event

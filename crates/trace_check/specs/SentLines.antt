@@ -1,9 +1,10 @@
--- The lines of packets that are stored as bytes.
+-- The lines of packets that are kept as bytes.
 use Rattle.std.specs.Prelude.{ℕ, ◌+◌, Option, Some, None, is_some, List, [], ◌∷◌, ◌++◌, position, IsSome, if◌then◌else◌}
 use Rattle.std.specs.Option.{option_map_or}
 use Rattle.std.specs.List.{AllByRecursion}
 use Rattle.ft_io.specs.declared.Key.{Key}
 use Rattle.ft_io.specs.Key.{key_eq}
+use Rattle.seq_arith.specs.declared.kinds.Grammar.TheVariants.{Wide}
 use Rattle.ft_model.specs.Client.{Client, mover_of}
 use Rattle.ft_model.specs.Report.{line_of_packet, number_of_client}
 use Rattle.ft_model.specs.Wire.{Wire, Party}
@@ -16,7 +17,7 @@ use Rattle.ft_model.specs.declared.way.Way.TheVariants.{ClientToServer, ServerTo
 use Rattle.plain_packets.specs.Sent.{wire_at}
 use Rattle.report_laws.specs.declared.Law.{Law}
 use Rattle.report_laws.specs.declared.Law.TheVariants as law
-use Rattle.schedule_text.specs.Bytes.{content_in}
+use Rattle.schedule_text.specs.Bytes.{content_by}
 
 -- the number of the client with this key among a schedule's, counted from 1; 0 for none
 abbrev pub number_in : List ClientLine → Key → ℕ
@@ -34,7 +35,7 @@ way_along clients wire = way_between clients wire.from wire.to
 
 -- the words of a packet's line after its direction
 abbrev pub words_in : List Client → Wire → Option (List (List ℕ))
-words_in clients wire = content_in (way_along clients wire) wire.bytes
+words_in clients wire = content_by Wide (way_along clients wire) wire.bytes
 
 abbrev pub wire_line : List Client → ℕ → Wire → List ℕ
 wire_line clients n wire = option_map_or (line_of_packet n (way_along clients wire)) (words_in clients wire) []

@@ -5,7 +5,8 @@ use Rattle.server_trait.specs.Service.{Machine}
 use Rattle.ft_model.specs.Network.{Packet}
 use Rattle.ft_model.specs.Readable.{FitsSchedule}
 use Rattle.ft_model.specs.Report.{packet_count, packet_lines}
-use Rattle.ft_model.specs.Wire.{Wire, wire_of, HasWire}
+use Rattle.ft_model.specs.Wire.{Wire}
+use Rattle.plain_packets.specs.Sent.{kept_wire, CanBeKept}
 use Rattle.ft_model.specs.World.{Moment, are_apart}
 use Rattle.ft_model.specs.declared.event.Event.{Event}
 use Rattle.ft_model.specs.declared.schedule.Schedule.{Schedule}
@@ -19,7 +20,8 @@ abbrev pub with_events : Schedule → List Event → Schedule
 with_events schedule events = record schedule { events = events }
 
 -- the lines between two places are those of `count` packets, and lead on in the turn
-pub record TellsPackets {State : Type 0} (service : ℕ → Machine State) (text : List ℕ) (schedule : Schedule) (trace : List Moment) (event : Event) (from at lines count : ℕ) : Type 0 where
+pub record TellsPackets {State : Type 0} (service : ℕ
+    → Machine State) (text : List ℕ) (schedule : Schedule) (trace : List Moment) (event : Event) (from at lines count : ℕ) : Type 0 where
   pub sent : List Packet
   pub count_is : length sent ≡ count
   pub told : drop from (take at text) ≡ packet_lines (clients_in schedule) (packet_count trace + 1) sent
@@ -42,11 +44,11 @@ pub record TellsTurn (text : List ℕ) (schedule : Schedule) (from end first : �
   pub is : IsTold text schedule from end (first + length sent) (packet_lines (clients_in schedule) first sent)
   pub few : first + length sent ≤ 200001
 
--- the wires after the first `before` ones are those of these packets
+-- the kept wires after the first `before` ones are those of these packets
 pub record AreSent (wires : List Wire) (before : ℕ) (sent : List Packet) : Type 0 where
-  pub wires_are : drop before wires ≡ map wire_of sent
+  pub wires_are : drop before wires ≡ map kept_wire sent
   pub count : length wires ≡ before + length sent
-  pub have : AllByRecursion HasWire sent
+  pub have : AllByRecursion CanBeKept sent
 
 -- the facts about a schedule whose header is read
 pub record IsChecked (schedule : Schedule) : Type 0 where

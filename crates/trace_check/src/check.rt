@@ -45,10 +45,10 @@ fn close<S: Service>(
 ) -> Result<Yes, CheckEnd>
     requires schedule { IsChecked schedule.now }
     requires within { IsPlaceIn text.now place × (length text.now ≤ 2 ^ 28) }
-    requires walked { (trace : List Moment) × IsWalked (machines S.started S.after) text.now schedule.now trace place world.now
-        × Leads (machines S.started S.after) text.now (InClosing (closing_of schedule.now trace)) (drop place.at text.now) place.lines }
-    ensures legal { IfOk result (Tells (machines S.started S.after) text.now) }
-    ensures rejected { IfErr result (IsRejection (machines S.started S.after) text.now) }
+    requires walked { (trace : List Moment) × IsWalked (machines S.started S.after S.greeting) text.now schedule.now trace place world.now
+        × Leads (machines S.started S.after S.greeting) text.now (InClosing (closing_of schedule.now trace)) (drop place.at text.now) place.lines }
+    ensures legal { IfOk result (Tells (machines S.started S.after S.greeting) text.now) }
+    ensures rejected { IfErr result (IsRejection (machines S.started S.after S.greeting) text.now) }
 {
     let mut due = Vec::new(alloc);
     match write_closing(alloc, world, &mut due) {
@@ -73,9 +73,9 @@ fn check_turns<S: Service>(
 ) -> Result<Yes, CheckEnd>
     requires schedule { IsChecked schedule.now }
     requires within { IsPlaceIn text.now start × (length text.now ≤ 2 ^ 28) × (world.old.turns ≤ 100000) }
-    requires walked { (trace : List Moment) × IsWalked (machines S.started S.after) text.now schedule.now trace start world.old }
-    ensures legal { IfOk result (Tells (machines S.started S.after) text.now) }
-    ensures rejected { IfErr result (IsRejection (machines S.started S.after) text.now) }
+    requires walked { (trace : List Moment) × IsWalked (machines S.started S.after S.greeting) text.now schedule.now trace start world.old }
+    ensures legal { IfOk result (Tells (machines S.started S.after S.greeting) text.now) }
+    ensures rejected { IfErr result (IsRejection (machines S.started S.after S.greeting) text.now) }
 {
     let end = walk(alloc, schedule, text, start, world)?;
     close(alloc, schedule, text, end, world)
@@ -84,11 +84,11 @@ fn check_turns<S: Service>(
 /// Checks what follows a report's header.
 fn check_after<S: Service>(alloc: Global, header: &Header, text: &[u8]) -> Result<Yes, CheckEnd>
     requires short { length text.now ≤ 2 ^ 28 }
-    requires read { IsReadTo (machines S.started S.after) text.now (Begun header.now.schedule) header.now.bytes header.now.lines }
-    requires after { IsAfter (machines S.started S.after) text.now header.now.schedule [] (drop header.now.bytes text.now) header.now.lines }
+    requires read { IsReadTo (machines S.started S.after S.greeting) text.now (Begun header.now.schedule) header.now.bytes header.now.lines }
+    requires after { IsAfter (machines S.started S.after S.greeting) text.now header.now.schedule [] (drop header.now.bytes text.now) header.now.lines }
     requires size { length (schedule_bytes (Begun header.now.schedule)) + 11 ≡ header.now.bytes }
-    ensures legal { IfOk result (Tells (machines S.started S.after) text.now) }
-    ensures rejected { IfErr result (IsRejection (machines S.started S.after) text.now) }
+    ensures legal { IfOk result (Tells (machines S.started S.after S.greeting) text.now) }
+    ensures rejected { IfErr result (IsRejection (machines S.started S.after S.greeting) text.now) }
 {
     let Ok(mut world) = PlainWorld::<S>::new(alloc, &header.schedule) else {
         return Err(CheckEnd::NoMemory);
@@ -104,8 +104,9 @@ fn check_after<S: Service>(alloc: Global, header: &Header, text: &[u8]) -> Resul
 /// Checks a text. Returns the counts if it is the report of a legal trace. Otherwise returns the rejected line and the law that it breaks, or `NoMemory`.
 pub fn check_trace<S: Service>(alloc: Global, text: &[u8]) -> Result<Yes, CheckEnd>
     requires { length text.now ≤ 268435456 }
-    ensures legal { IfOk result (λ yes. (r : IsReport (machines S.started S.after) text.now) × (yes.events ≡ length r.trace) × (yes.packets ≡ packet_count r.trace)) }
-    ensures rejected { IfErr result (IsRejection (machines S.started S.after) text.now) }
+    ensures legal { IfOk result (λ yes. (r : IsReport (machines S.started S.after S.greeting) text.now) × (yes.events ≡ length r.trace)
+        × (yes.packets ≡ packet_count r.trace)) }
+    ensures rejected { IfErr result (IsRejection (machines S.started S.after S.greeting) text.now) }
 {
     let header = read_header::<S>(alloc, text)?;
     check_after::<S>(alloc, &header, text)

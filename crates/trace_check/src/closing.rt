@@ -102,9 +102,9 @@ pub fn check_closing<S: Service>(
     due: &[u8],
 ) -> Result<(), CheckEnd>
     requires within { (at ≤ length text.now) × (length text.now ≤ 2 ^ 28) × (lines ≤ at) }
-    requires leads { Leads (machines S.started S.after) text.now (InClosing (lines_in due.now)) (drop at text.now) lines }
+    requires leads { Leads (machines S.started S.after S.greeting) text.now (InClosing (lines_in due.now)) (drop at text.now) lines }
     ensures same { IfOk result (λ _. drop at text.now ≡ due.now) }
-    ensures rejected { IfErr result (IsRejection (machines S.started S.after) text.now) }
+    ensures rejected { IfErr result (IsRejection (machines S.started S.after S.greeting) text.now) }
 {
     let mut at = at;
     let mut lines = lines;

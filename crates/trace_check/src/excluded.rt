@@ -1,5 +1,5 @@
-//! Wrong results that the contracts of this crate exclude. Each function calls another one of the crate, and promises of its result what a wrong body would make
-//! false. It is proved from the other's contract alone, so it is no longer proved once that contract lets the wrong body pass.
+//! Wrong results that the contracts of this crate exclude. Each function calls another one of the crate, and promises of its result what a wrong body would
+//! make false. It is proved from the other's contract alone, so it is no longer proved once that contract lets the wrong body pass.
 
 ghost use Rattle.std.specs.Prelude.{◌≡◌, ℕ, ◌+◌, ◌≤◌, false, true, List, [], drop, take, is_some, length, IfSome};
 ghost use Rattle.ft_model.specs.Legal.{machines, refusal, start_of};
@@ -53,7 +53,7 @@ fn a_packet_is_told_twice<S: Service>(
     requires within { (at ≤ length text.now) × (told ≤ 200000) }
     requires schedule { IsChecked schedule.now }
     ensures { (events : List Asked) (trace : List Moment) (event : Asked) (lines : ℕ) → packet_count trace ≡ told
-        → Leads (machines S.started S.after) text.now (InTurn (with_events schedule.now events) trace event []) (drop at text.now) lines
+        → Leads (machines S.started S.after S.greeting) text.now (InTurn (with_events schedule.now events) trace event []) (drop at text.now) lines
         → (sent : List Packet) × (drop at (take result.end text.now) ≡ packet_lines (clients_in schedule.now) (packet_count trace + 1) sent) }
 {
     read_packet_lines::<S>(schedule, text, at, told)
@@ -61,7 +61,7 @@ fn a_packet_is_told_twice<S: Service>(
 
 /// An event that may not happen then is refused, however few came before it: the contract of `is_refused`.
 fn a_refused_event_passes<S: Service>(world: &PlainWorld<S>, event: &Event) -> bool
-    ensures { (schedule : Written) (trace : List Moment) → IsAt (machines S.started S.after) schedule trace world.now
+    ensures { (schedule : Written) (trace : List Moment) → IsAt (machines S.started S.after S.greeting) schedule trace world.now
         → is_some (refusal (world_after (start_of schedule) trace) event.now) ≡ true → result ≡ true }
 {
     is_refused(world, event)

@@ -41,8 +41,9 @@ fn is_name(line: &[u8]) -> bool
 /// Returns the length of a report's first line.
 #[tactic(auto, using(line_check::proofs::Spelled::same_bytes, crate::proofs::HeaderLines::empty_is_rejected, crate::proofs::HeaderLines::name_is_read, crate::proofs::HeaderLines::name_is_rejected))]
 fn read_name<S: Service>(text: &[u8]) -> Result<usize, CheckEnd>
-    ensures ok { IfOk result (λ at. (at ≤ length text.now) × (0 < at) × (take at text.now ≡ codes "ftreplay 1\n") × Leads (machines S.started S.after) text.now (InHeader Empty) (drop at text.now) 1) }
-    ensures rejected { IfErr result (IsRejection (machines S.started S.after) text.now) }
+    ensures ok { IfOk result (λ at. (at ≤ length text.now) × (0 < at) × (take at text.now ≡ codes "ftreplay 1\n")
+        × Leads (machines S.started S.after S.greeting) text.now (InHeader Empty) (drop at text.now) 1) }
+    ensures rejected { IfErr result (IsRejection (machines S.started S.after S.greeting) text.now) }
 {
     if text.is_empty() {
         return Err(CheckEnd::Reject {
@@ -66,9 +67,9 @@ fn read_name<S: Service>(text: &[u8]) -> Result<usize, CheckEnd>
 fn read_service<S: Service>(text: &[u8], at: usize) -> Result<(ServiceKind, usize), CheckEnd>
     requires within { (0 < at) × (at ≤ length text.now) }
     requires name { take at text.now ≡ codes "ftreplay 1\n" }
-    requires leads { Leads (machines S.started S.after) text.now (InHeader Empty) (drop at text.now) 1 }
-    ensures ok { IfOk result (λ read. IsReadTo (machines S.started S.after) text.now (Named read.0) read.1 2) }
-    ensures rejected { IfErr result (IsRejection (machines S.started S.after) text.now) }
+    requires leads { Leads (machines S.started S.after S.greeting) text.now (InHeader Empty) (drop at text.now) 1 }
+    ensures ok { IfOk result (λ read. IsReadTo (machines S.started S.after S.greeting) text.now (Named read.0) read.1 2) }
+    ensures rejected { IfErr result (IsRejection (machines S.started S.after S.greeting) text.now) }
 {
     if at == text.len() {
         return Err(CheckEnd::Reject {
@@ -99,10 +100,12 @@ fn read_line<S: Service>(
     requires line { lines_in (drop at text.now) ≡ drop at (take end text.now) ∷ lines_in (drop end text.now) }
     ensures bytes { IfOk result (λ header. header.bytes ≡ end) }
     ensures lines { IfOk result (λ header. header.lines ≡ lines + 1) }
-    ensures ok { IfOk result (λ header. (draft : Draft) → IsReadTo (machines S.started S.after) text.now draft at lines → Belongs draft (drop at (take end text.now))
-        → IsReadTo (machines S.started S.after) text.now (Begun header.schedule) end (lines + 1)) }
-    ensures rejected { IfErr result (λ why. (draft : Draft) → IsReadTo (machines S.started S.after) text.now draft at lines → Belongs draft (drop at (take end text.now))
-        → IsRejection (machines S.started S.after) text.now why) }
+    ensures ok { IfOk result (λ header. (draft : Draft) → IsReadTo (machines S.started S.after S.greeting) text.now draft at lines
+        → Belongs draft (drop at (take end text.now))
+        → IsReadTo (machines S.started S.after S.greeting) text.now (Begun header.schedule) end (lines + 1)) }
+    ensures rejected { IfErr result (λ why. (draft : Draft) → IsReadTo (machines S.started S.after S.greeting) text.now draft at lines
+        → Belongs draft (drop at (take end text.now))
+        → IsRejection (machines S.started S.after S.greeting) text.now why) }
 {
     match read_header_line(alloc, &text[..end], at) {
         Ok(Some(schedule)) => Ok(Header {
@@ -122,8 +125,8 @@ fn read_line<S: Service>(
 #[tactic(auto, using(crate::proofs::HeaderLines::no_server_is_rejected))]
 fn read_server<S: Service>(alloc: Global, text: &[u8]) -> Result<Header, CheckEnd>
     requires { length text.now < 2 ^ 32 }
-    ensures ok { IfOk result (λ header. IsReadTo (machines S.started S.after) text.now (Begun header.schedule) header.bytes header.lines) }
-    ensures rejected { IfErr result (IsRejection (machines S.started S.after) text.now) }
+    ensures ok { IfOk result (λ header. IsReadTo (machines S.started S.after S.greeting) text.now (Begun header.schedule) header.bytes header.lines) }
+    ensures rejected { IfErr result (IsRejection (machines S.started S.after S.greeting) text.now) }
 {
     let name = read_name::<S>(text)?;
     let (_kind, at) = read_service::<S>(text, name)?;
@@ -162,10 +165,11 @@ fn next_line_end(header: &Header, text: &[u8]) -> Option<usize>
 #[tactic(auto, using(crate::proofs::HeaderLines::header_leads, crate::proofs::HeaderLines::header_size))]
 pub fn read_header<S: Service>(alloc: Global, text: &[u8]) -> Result<Header, CheckEnd>
     requires { length text.now < 2 ^ 32 }
-    ensures read { IfOk result (λ header. IsReadTo (machines S.started S.after) text.now (Begun header.schedule) header.bytes header.lines) }
-    ensures after { IfOk result (λ header. IsAfter (machines S.started S.after) text.now header.schedule [] (drop header.bytes text.now) header.lines) }
+    ensures read { IfOk result (λ header. IsReadTo (machines S.started S.after S.greeting) text.now (Begun header.schedule) header.bytes header.lines) }
+    ensures after { IfOk result (λ header. IsAfter (machines S.started S.after S.greeting) text.now header.schedule []
+        (drop header.bytes text.now) header.lines) }
     ensures size { IfOk result (λ header. length (schedule_bytes (Begun header.schedule)) + 11 ≡ header.bytes) }
-    ensures rejected { IfErr result (IsRejection (machines S.started S.after) text.now) }
+    ensures rejected { IfErr result (IsRejection (machines S.started S.after S.greeting) text.now) }
 {
     let mut header = read_server::<S>(alloc, text)?;
     while let Some(end) = next_line_end(&header, text) {

@@ -5,7 +5,7 @@ ghost use Rattle.std.specs.List.{position, position_or_len};
 ghost use Rattle.std.specs.Str.{bytes_eq};
 ghost use Rattle.ft_model.specs.Words.{is};
 ghost use Rattle.report_laws.specs.Lines.{lines_in};
-ghost use Rattle.report_laws.specs.Transitions.{is_header_line, pieces};
+ghost use Rattle.report_laws.specs.Transitions.{is_lone_word, is_header_line, pieces};
 
 use itoa::Buffer;
 use schedule_text::Schedule;
@@ -110,9 +110,12 @@ fn is_number(n: usize, word: &[u8]) -> bool
 
 /// Returns whether a word begins the line of a profile, or a line that no report of one logger has.
 fn is_single(word: &[u8]) -> bool
-    ensures { result ≡ (bytes_eq word.now (codes "profile") || bytes_eq word.now (codes "twin") || bytes_eq word.now (codes "marks")) }
+    ensures { result ≡ is_lone_word word.now }
 {
-    word == b"profile".as_slice() || word == b"twin".as_slice() || word == b"marks".as_slice()
+    word == b"profile".as_slice()
+        || word == b"twin".as_slice()
+        || word == b"marks".as_slice()
+        || word == b"lasting".as_slice()
 }
 
 /// Returns whether these pieces begin the line of client `n`.
@@ -124,8 +127,7 @@ fn is_client(n: usize, first: &[u8], second: &[u8]) -> bool
 
 /// Returns whether these pieces begin a line of a header in which client `n` is the next.
 fn begins_header_line(n: usize, first: &[u8], second: &[u8]) -> bool
-    ensures { result ≡ (bytes_eq first.now (codes "profile") || bytes_eq first.now (codes "twin") || bytes_eq first.now (codes "marks")
-        || bytes_eq first.now (codes "client") && bytes_eq second.now (decimal n)) }
+    ensures { result ≡ (is_lone_word first.now || bytes_eq first.now (codes "client") && bytes_eq second.now (decimal n)) }
 {
     is_single(first) || is_client(n, first, second)
 }

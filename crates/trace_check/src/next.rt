@@ -55,11 +55,13 @@ pub fn read_event<S: Service>(
     requires limits { (size ≤ 8388609) × (events ≤ 100000) }
     ensures within { IfOk result (λ next. IfSome next (λ e. (at < e.end) × (e.end ≤ length text.now) × (e.size ≤ 8388609))) }
     ensures read { IfOk result (λ next. (schedule : Schedule) (trace : List Moment) → length trace ≡ events → length (schedule_bytes (Begun schedule)) ≡ size
-        → IsAfter (machines S.started S.after) text.now schedule trace (drop at text.now) lines
-        → MatchOption next (Leads (machines S.started S.after) text.now (InClosing (closing_of schedule trace)) (drop at text.now) lines)
-        (λ e. ReadsEvent (machines S.started S.after) text.now schedule trace e.event at e.end lines e.size)) }
-    ensures rejected { IfErr result (λ why. (schedule : Schedule) (trace : List Moment) → length trace ≡ events → length (schedule_bytes (Begun schedule)) ≡ size
-        → IsAfter (machines S.started S.after) text.now schedule trace (drop at text.now) lines → IsRejection (machines S.started S.after) text.now why) }
+        → IsAfter (machines S.started S.after S.greeting) text.now schedule trace (drop at text.now) lines
+        → MatchOption next (Leads (machines S.started S.after S.greeting) text.now (InClosing (closing_of schedule trace)) (drop at text.now) lines)
+        (λ e. ReadsEvent (machines S.started S.after S.greeting) text.now schedule trace e.event at e.end lines e.size)) }
+    ensures rejected { IfErr result (λ why. (schedule : Schedule) (trace : List Moment) → length trace ≡ events
+        → length (schedule_bytes (Begun schedule)) ≡ size
+        → IsAfter (machines S.started S.after S.greeting) text.now schedule trace (drop at text.now) lines
+        → IsRejection (machines S.started S.after S.greeting) text.now why) }
 {
     if at == text.len() {
         return Ok(None);

@@ -9,9 +9,10 @@ ghost use Rattle.trace_check.specs.SentLines as spelled;
 
 use ft_io::{Key, NoMemory};
 use ft_model::{ClientLine, Event, Schedule, Way};
+use logger_wire::Grammar;
 use plain_packets::{Path, PlainPackets, PlainWire};
 use report_laws::Law;
-use schedule_text::write_packet_line;
+use schedule_text::write_packet_line_by;
 use std::alloc::Global;
 
 /// Returns the index of the client with this key.
@@ -62,7 +63,7 @@ fn write_wire(
     ensures { OnOk result (lines.new.items ≡ lines.old.items ++ spelled.wire_line (clients_in schedule.now) n wire.now) }
 {
     let way = way_along(schedule, wire.path());
-    write_packet_line(alloc, n, way, wire.bytes(), lines)
+    write_packet_line_by(alloc, Grammar::Wide, n, way, wire.bytes(), lines)
 }
 
 /// Writes the lines of packets, numbered from `first` on.

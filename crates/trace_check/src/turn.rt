@@ -45,8 +45,9 @@ pub fn read_packet_lines<S: Service>(
     requires schedule { IsChecked schedule.now }
     ensures within { (at ≤ result.end) × (result.end ≤ length text.now) × (told + result.count ≤ 200000) }
     ensures packets { (events : List Event) (trace : List Moment) (event : Event) (lines : ℕ) → packet_count trace ≡ told
-        → Leads (machines S.started S.after) text.now (InTurn (with_events schedule.now events) trace event []) (drop at text.now) lines
-        → TellsPackets (machines S.started S.after) text.now (with_events schedule.now events) trace event at result.end (lines + result.count) result.count }
+        → Leads (machines S.started S.after S.greeting) text.now (InTurn (with_events schedule.now events) trace event []) (drop at text.now) lines
+        → TellsPackets (machines S.started S.after S.greeting) text.now (with_events schedule.now events) trace event at result.end
+        (lines + result.count) result.count }
     ensures complete { EndsTurn schedule.now (told + result.count + 1) (lines_in (drop result.end text.now)) }
 {
     let mut end = at;

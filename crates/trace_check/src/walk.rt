@@ -61,7 +61,8 @@ pub(crate) struct Played {
 
 /// Returns whether an event may not happen then, or is one too many.
 pub(crate) fn is_refused<S: Service>(world: &PlainWorld<S>, event: &Event) -> bool
-    ensures { (schedule : Written) (trace : List Moment) → IsAt (machines S.started S.after) schedule trace world.now → result ≡ refused_lem schedule trace event.now }
+    ensures { (schedule : Written) (trace : List Moment) → IsAt (machines S.started S.after S.greeting) schedule trace world.now
+        → result ≡ refused_lem schedule trace event.now }
 {
     world.refusal(event).is_some() || EVENT_LIMIT <= world.turns()
 }
@@ -77,11 +78,12 @@ fn reject_turn<S: Service>(
     requires schedule { IsChecked schedule.now }
     requires within { IsPlaceIn text.now place × (length text.now ≤ 2 ^ 28) × (told ≤ 200000) }
     ensures { (trace : List Moment) (event : Asked) → packet_count trace ≡ told → law ≡ actor_lem (world_after (start_of schedule.now) trace) event
-        → Leads (machines S.started S.after) text.now (InTurn (with_events schedule.now (events_of trace ++ event ∷ [])) trace event []) (drop place.at text.now) place.lines
+        → Leads (machines S.started S.after S.greeting) text.now (InTurn (with_events schedule.now (events_of trace ++ event ∷ [])) trace event [])
+        (drop place.at text.now) place.lines
         → ((sent : List Packet) (w : World) (end : ℕ) → TellsTurn text.now schedule.now place.at end (told + 1) sent
-        → IsLegalFor (machines S.started S.after) (with_events schedule.now (events_of trace ++ event ∷ [])) (events_of trace ++ event ∷ [])
+        → IsLegalFor (machines S.started S.after S.greeting) (with_events schedule.now (events_of trace ++ event ∷ [])) (events_of trace ++ event ∷ [])
         (record { event = event; sent = sent; world = w } ∷ trace) → ⊥)
-        → IsRejection (machines S.started S.after) text.now result }
+        → IsRejection (machines S.started S.after S.greeting) text.now result }
 {
     let read = read_packet_lines::<S>(schedule, text, place.at, told);
     CheckEnd::Reject {
@@ -103,10 +105,11 @@ fn judge<S: Service>(
     requires within { IsPlaceIn text.now played.place × (length text.now ≤ 2 ^ 28) }
     requires known { (played.before ≤ length world.now.packets) × (played.before ≤ 200000) }
     requires played { (trace : List Moment) × (moment : Moment)
-        × IsPlayed (machines S.started S.after) text.now schedule.now trace moment played.place played.before played.law world.now }
+        × IsPlayed (machines S.started S.after S.greeting) text.now schedule.now trace moment played.place played.before played.law world.now }
     ensures within { IfOk result (λ after. IsPlaceIn text.now after × (played.place.at ≤ after.at)) }
-    ensures walked { IfOk result (λ after. (trace : List Moment) × IsWalked (machines S.started S.after) text.now schedule.now trace after world.now) }
-    ensures rejected { IfErr result (IsRejection (machines S.started S.after) text.now) }
+    ensures walked { IfOk result (λ after. (trace : List Moment)
+        × IsWalked (machines S.started S.after S.greeting) text.now schedule.now trace after world.now) }
+    ensures rejected { IfErr result (IsRejection (machines S.started S.after S.greeting) text.now) }
 {
     let Played { place, before, law } = played;
     match read_sent(alloc, schedule, text, played, world.packets(), due) {
@@ -133,11 +136,13 @@ fn take_event<S: Service>(
     requires schedule { IsChecked schedule.now }
     requires within { IsPlaceIn text.now line.place × (length text.now ≤ 2 ^ 28) × (world.old.turns ≤ 100000) }
     requires read { (line.place.at < line.read.end) × (line.read.end ≤ length text.now) × (line.read.size ≤ 8388609) }
-    requires walked { (trace : List Moment) × IsWalked (machines S.started S.after) text.now schedule.now trace line.place world.old
-        × ReadsEvent (machines S.started S.after) text.now (schedule_through schedule.now trace) trace line.read.event line.place.at line.read.end line.place.lines line.read.size }
+    requires walked { (trace : List Moment) × IsWalked (machines S.started S.after S.greeting) text.now schedule.now trace line.place world.old
+        × ReadsEvent (machines S.started S.after S.greeting) text.now
+        (schedule_through schedule.now trace) trace line.read.event line.place.at line.read.end line.place.lines line.read.size }
     ensures within { IfOk result (λ after. IsPlaceIn text.now after × (line.place.at < after.at) × (world.new.turns ≤ 100000)) }
-    ensures walked { IfOk result (λ after. (trace : List Moment) × IsWalked (machines S.started S.after) text.now schedule.now trace after world.new) }
-    ensures rejected { IfErr result (IsRejection (machines S.started S.after) text.now) }
+    ensures walked { IfOk result (λ after. (trace : List Moment)
+        × IsWalked (machines S.started S.after S.greeting) text.now schedule.now trace after world.new) }
+    ensures rejected { IfErr result (IsRejection (machines S.started S.after S.greeting) text.now) }
 {
     let EventLine { place, read } = line;
     if is_refused(world, &read.event) {
@@ -170,11 +175,11 @@ pub(crate) fn walk<S: Service>(
 ) -> Result<Place, CheckEnd>
     requires schedule { IsChecked schedule.now }
     requires within { IsPlaceIn text.now start × (length text.now ≤ 2 ^ 28) × (world.old.turns ≤ 100000) }
-    requires walked { (trace : List Moment) × IsWalked (machines S.started S.after) text.now schedule.now trace start world.old }
+    requires walked { (trace : List Moment) × IsWalked (machines S.started S.after S.greeting) text.now schedule.now trace start world.old }
     ensures within { IfOk result (IsPlaceIn text.now) }
-    ensures walked { IfOk result (λ after. (trace : List Moment) × IsWalked (machines S.started S.after) text.now schedule.now trace after world.new
-        × Leads (machines S.started S.after) text.now (InClosing (closing_of schedule.now trace)) (drop after.at text.now) after.lines) }
-    ensures rejected { IfErr result (IsRejection (machines S.started S.after) text.now) }
+    ensures walked { IfOk result (λ after. (trace : List Moment) × IsWalked (machines S.started S.after S.greeting) text.now schedule.now trace after world.new
+        × Leads (machines S.started S.after S.greeting) text.now (InClosing (closing_of schedule.now trace)) (drop after.at text.now) after.lines) }
+    ensures rejected { IfErr result (IsRejection (machines S.started S.after S.greeting) text.now) }
 {
     let mut due = Vec::new(alloc);
     let mut place = start;

@@ -3,4 +3,4 @@ use Rattle.ft_model.specs.Legal.{machines}
 use Rattle.report_laws.proofs.OneOutcome.{step_once}
 
 pub returns : goal.returns
-returns g c = λ position text one other p q. step_once (machines g.S.Service.started g.S.Service.after) position text one other p q
+returns g c = λ position text one other p q. step_once (machines g.S.Service.started g.S.Service.after g.S.Service.greeting) position text one other p q

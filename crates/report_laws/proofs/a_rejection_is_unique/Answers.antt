@@ -5,4 +5,4 @@ use Rattle.report_laws.specs.Lines.{lines_in}
 use Rattle.report_laws.specs.Transitions.Position.{AtStart}
 
 pub returns : goal.returns
-returns g c = λ text line other law also p q. fails_once (machines g.S.Service.started g.S.Service.after) AtStart (lines_in text) line other law also p q
+returns g c = λ text line other law also p q. fails_once (machines g.S.Service.started g.S.Service.after g.S.Service.greeting) AtStart (lines_in text) line other law also p q

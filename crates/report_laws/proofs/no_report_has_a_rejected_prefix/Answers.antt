@@ -7,5 +7,5 @@ use Rattle.report_laws.specs.Transitions.Position.{AtStart}
 
 pub returns : goal.returns
 returns g c = λ text other line law p same r.
-    no_end (machines g.S.Service.started g.S.Service.after) AtStart (lines_in text) (lines_in other) line law p
-    (whole_read (machines g.S.Service.started g.S.Service.after) (λ kind. g.met.S.Service.is_short) g.met.S.Service.writes_bytes other r) same
+    no_end (machines g.S.Service.started g.S.Service.after g.S.Service.greeting) AtStart (lines_in text) (lines_in other) line law p
+    (whole_read (machines g.S.Service.started g.S.Service.after g.S.Service.greeting) (λ kind. (g.met.S.Service.greets_shortly (g.S.Service.started kind), g.met.S.Service.is_short)) g.met.S.Service.writes_bytes other r) same

@@ -21,12 +21,12 @@ returns-then-not-branch-clause-served g c =
     let same = not_taken _ c.args.fetched.now c.take.new.self c.in_ok-take.field-0 c.in_ok-take.ensures c.if-not-branch.true in
     subst (IsFetchedOf c.args.count) (sym same.1) c.requires.fetched
 
-pub go_on-requires : goal.go_on-requires
-go_on-requires g c =
+pub proceed-requires : goal.proceed-requires
+proceed-requires g c =
     still_fetched c.args.count _ c.args.fetched.now c.take.new.self c.requires.fetched
     (taken _ c.args.fetched.now c.take.new.self c.in_ok-take.field-0 c.in_ok-take.ensures c.if-not-branch.false)
 
 pub returns-clause-turn : goal.returns-clause-turn
 returns-clause-turn g c =
-    fetched_turns _ c.args.who (message_of c.args.msg.now) c.args.count c.args.fetched.now c.take.new.self c.go_on.new.fetched c.go_on.result c.args.sent.now c.go_on.new.sent
-    c.if-msg-who.false (taken _ c.args.fetched.now c.take.new.self c.in_ok-take.field-0 c.in_ok-take.ensures c.if-not-branch.false) c.go_on.ensures.turn
+    fetched_turns _ c.args.who (message_of c.args.msg.now) c.args.count c.args.fetched.now c.take.new.self c.proceed.new.fetched c.proceed.result c.args.sent.now c.proceed.new.sent
+    c.if-msg-who.false (taken _ c.args.fetched.now c.take.new.self c.in_ok-take.field-0 c.in_ok-take.ensures c.if-not-branch.false) c.proceed.ensures.turn

@@ -9,9 +9,9 @@ pub returns-in_ok-after-in-Some-clause-turn : goal.returns-in_ok-after-in-Some-c
 returns-in_ok-after-in-Some-clause-turn g c =
     λ (stage : Stage).
     rw c.in-Message.is
-    (count_is_told (machine (g.S.Service.started c.args.who.kind) g.S.Service.after) (node_of c.args.who stage) (message_of c.in-Message.msg) c.in-Some.count _ c.args.sent.now c.begin_fetching.new.sent (c.in-Some.ensures stage)
+    (count_is_told (machine (g.S.Service.started c.args.who.kind) g.S.Service.after g.S.Service.greeting) (node_of c.args.who stage) (message_of c.in-Message.msg) c.in-Some.count _ c.args.sent.now c.begin_fetching.new.sent (c.in-Some.ensures stage)
     (c.in_ok-after-in-Some.ensures.turn stage))
 
 pub returns-in-None-clause-turn : goal.returns-in-None-clause-turn
 returns-in-None-clause-turn g c =
-    λ (stage : Stage). rw c.in-Message.is (no_count_is_told (machine (g.S.Service.started c.args.who.kind) g.S.Service.after) (node_of c.args.who stage) (message_of c.in-Message.msg) c.args.sent.now (c.in-None.ensures stage))
+    λ (stage : Stage). rw c.in-Message.is (no_count_is_told (machine (g.S.Service.started c.args.who.kind) g.S.Service.after g.S.Service.greeting) (node_of c.args.who stage) (message_of c.in-Message.msg) c.args.sent.now (c.in-None.ensures stage))

@@ -18,18 +18,18 @@ returns-in-Err-clause-checked g c = record {
   ended = record {
     end = Err c.in-Err.end;
     did = c.in-Err.ensures.stops;
-    told = told_as c.in-Err.end (stream g.E.Sink.taken g.E.Sink.fault_count c.args.err.now c.tell.new.err) c.tell.result.code c.tell.ensures.told c.tell.ensures.untold;
+    told = told_as c.in-Err.end (stream g.E.Sink.taken g.E.Sink.fault_count c.args.err.now c.report_end.new.err) c.report_end.result.code c.report_end.ensures.told c.report_end.ensures.untold;
   };
   settled = λ input out err. of_told (g.I.Source.left c.args.input.now) (λ text told. ⊎_elim
-      (λ is. settles_end c.no_report_has_a_rejected_prefix.ensures text c.tell.result.code
+      (λ is. settles_end c.no_report_has_a_rejected_prefix.ensures text c.report_end.result.code
       (stream g.I.Source.left g.I.Source.fault_count c.args.input.now c.check.new.input) (stream g.O.Sink.taken g.O.Sink.fault_count c.args.out.now c.check.new.out) c.in-Err.end told is.0 c.in-Err.ensures.stops
       input out)
       (λ fault. absurd (err fault.1))
-      c.tell.ensures.told);
+      c.report_end.ensures.told);
   codes = is_told_code (stream g.I.Source.left g.I.Source.fault_count c.args.input.now c.check.new.input) (stream g.O.Sink.taken g.O.Sink.fault_count c.args.out.now c.check.new.out) c.in-Err.end
-      (stream g.E.Sink.taken g.E.Sink.fault_count c.args.err.now c.tell.new.err) c.tell.result.code c.in-Err.ensures.stops c.tell.ensures.told;
+      (stream g.E.Sink.taken g.E.Sink.fault_count c.args.err.now c.report_end.new.err) c.report_end.result.code c.in-Err.ensures.stops c.report_end.ensures.told;
 }
 
 pub returns-in-Err-clause-legal : goal.returns-in-Err-clause-legal
 returns-in-Err-clause-legal g c = λ e.
-    absurd (never_done c.in-Err.end (stream g.E.Sink.taken g.E.Sink.fault_count c.args.err.now c.tell.new.err) c.tell.result.code c.tell.ensures.told e)
+    absurd (never_done c.in-Err.end (stream g.E.Sink.taken g.E.Sink.fault_count c.args.err.now c.report_end.new.err) c.report_end.result.code c.report_end.ensures.told e)

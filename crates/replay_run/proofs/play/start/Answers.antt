@@ -12,14 +12,14 @@ pub returns-in_err-write_header-clause-stops : goal.returns-in_err-write_header-
 returns-in_err-write_header-clause-stops g c =
     of_error c.from_residual.result c.from_residual.ensures.1
     (λ end is. subst (HoldsAtEnd c.args.schedule.now (g.O.Sink.taken c.args.out.now) (g.O.Sink.taken c.args.out.now) c.write_header.new.out.items) (sym is)
-    (ends_before c.legal_traces_are_safe.ensures c.args.schedule.now (g.O.Sink.taken c.args.out.now) c.write_header.new.out.items (c.playable_schedules_start.ensures c.args.schedule.now c.requires.playable)
+    (ends_before c.legal_traces_are_safe.ensures c.args.schedule.now (g.O.Sink.taken c.args.out.now) c.write_header.new.out.items (c.playable_schedules_start.ensures c.args.schedule.now c.requires.playable c.requires.fleeting)
     (header c.args.schedule.now, ap (λ held. held ++ header c.args.schedule.now) (c.in_err-write_header.ensures.err ∙ c.requires.empty))))
 
 pub returns-in_err-world-clause-stops : goal.returns-in_err-world-clause-stops
 returns-in_err-world-clause-stops g c =
     of_error c.from_residual-in_err-world.result c.from_residual-in_err-world.ensures.1
     (λ end is. subst (HoldsAtEnd c.args.schedule.now (g.O.Sink.taken c.args.out.now) (g.O.Sink.taken c.args.out.now) c.write_header.new.out.items) (sym is)
-    (ends_before c.legal_traces_are_safe.ensures c.args.schedule.now (g.O.Sink.taken c.args.out.now) c.write_header.new.out.items (c.playable_schedules_start.ensures c.args.schedule.now c.requires.playable)
+    (ends_before c.legal_traces_are_safe.ensures c.args.schedule.now (g.O.Sink.taken c.args.out.now) c.write_header.new.out.items (c.playable_schedules_start.ensures c.args.schedule.now c.requires.playable c.requires.fleeting)
     ([], append-nil c.write_header.new.out.items ∙ (c.in_ok-write_header.ensures.ok ∙ ap (λ held. held ++ header c.args.schedule.now) c.requires.empty))))
 
 pub returns-in_err-flush_piece-clause-stops : goal.returns-in_err-flush_piece-clause-stops

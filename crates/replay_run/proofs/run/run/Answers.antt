@@ -1,5 +1,5 @@
 use Rattle.std.proofs.Common.{◌∙◌, ap, sym, subst, refl, Err}
-use Rattle.ft_model.specs.Grammar.{read_text}
+use Rattle.schedule_text.specs.Fleeting.{read_fleeting}
 use Rattle.replay_run.specs.PlayedRun.{ReportsAll}
 use Rattle.replay_run.specs.Runs.{StopsReading, RunStops}
 use Rattle.replay_check.specs.Stream.{stream}
@@ -26,12 +26,12 @@ pub returns-clause-stops : goal.returns-clause-stops
 returns-clause-stops g c =
     err_counts c.play.result (g.O.Sink.fault_count c.args.out.now) (g.O.Sink.fault_count c.play.new.out) c.play.ensures.faults
     (λ end counts s. playing_stops (stream g.I.Source.left g.I.Source.fault_count c.args.input.now c.read_to_limit.new.input) (stream g.O.Sink.taken g.O.Sink.fault_count c.args.out.now c.play.new.out) c.in_ok-text.text.items
-    c.in_ok-schedule.schedule end c.in_ok-text.ensures.end c.in_ok-text.ensures.no_fault c.in_ok-text.ensures.whole (ap read_text (sym c.deref.ensures.value) ∙ c.in_ok-schedule.ensures.spelled) counts s)
+    c.in_ok-schedule.schedule end c.in_ok-text.ensures.end c.in_ok-text.ensures.no_fault c.in_ok-text.ensures.whole (ap read_fleeting (sym c.deref.ensures.value) ∙ c.in_ok-schedule.ensures.spelled) counts s)
     c.play.ensures.stops
 
 pub returns-clause-done : goal.returns-clause-done
 returns-clause-done g c =
     ok_counts c.play.result (g.O.Sink.fault_count c.args.out.now) (g.O.Sink.fault_count c.play.new.out) c.play.ensures.faults
     (λ counts s. playing_reports (stream g.I.Source.left g.I.Source.fault_count c.args.input.now c.read_to_limit.new.input) (stream g.O.Sink.taken g.O.Sink.fault_count c.args.out.now c.play.new.out) c.in_ok-text.text.items
-    c.in_ok-schedule.schedule ReportsAll c.in_ok-text.ensures.end c.in_ok-text.ensures.no_fault c.in_ok-text.ensures.whole (ap read_text (sym c.deref.ensures.value) ∙ c.in_ok-schedule.ensures.spelled) counts s)
+    c.in_ok-schedule.schedule ReportsAll c.in_ok-text.ensures.end c.in_ok-text.ensures.no_fault c.in_ok-text.ensures.whole (ap read_fleeting (sym c.deref.ensures.value) ∙ c.in_ok-schedule.ensures.spelled) counts s)
     c.play.ensures.done

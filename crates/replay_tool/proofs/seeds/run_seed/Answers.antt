@@ -18,6 +18,6 @@ returns-in-Err-clause-ended g c =
       did = subst (SeedStops a (stream g.O.Sink.taken g.O.Sink.fault_count c.args.out.now c.seed.new.out)) (sym c.end_of_seed.ensures)
           (seed_stops a (stream g.O.Sink.taken g.O.Sink.fault_count c.args.out.now c.seed.new.out) c.in-Err.end ends (λ e. c.in-Err.ensures.write_fault (ap Err e)) (λ e. c.in-Err.ensures.no_memory_keeps_out (ap Err e))
           (λ e. c.in-Err.ensures.limit_keeps_out (ap Err e)));
-      told = told_as c.end_of_seed.result (stream g.E.Sink.taken g.E.Sink.fault_count c.args.err.now c.tell.new.err) c.tell.result.code c.tell.ensures.told c.tell.ensures.untold;
+      told = told_as c.end_of_seed.result (stream g.E.Sink.taken g.E.Sink.fault_count c.args.err.now c.report_end.new.err) c.report_end.result.code c.report_end.ensures.told c.report_end.ensures.untold;
     })
     c.in-Err.ensures.ends

@@ -23,7 +23,7 @@ loop-at-preserved g c =
     record {
       within = within;
       few = omega arith;
-      leads = subst (λ l. Leads (machines g.S.Service.started g.S.Service.after) text (InClosing (lines_in l)) (drop end text) (c.loop-at.lines + 1)) (sym rest)
-          (line_closes (machines g.S.Service.started g.S.Service.after) text left at end len c.loop-at.lines c.line_end-end.ensures.line c.line_length-len.ensures.first same c.loop-at.invariant.leads);
+      leads = subst (λ l. Leads (machines g.S.Service.started g.S.Service.after g.S.Service.greeting) text (InClosing (lines_in l)) (drop end text) (c.loop-at.lines + 1)) (sym rest)
+          (line_closes (machines g.S.Service.started g.S.Service.after g.S.Service.greeting) text left at end len c.loop-at.lines c.line_end-end.ensures.line c.line_length-len.ensures.first same c.loop-at.invariant.leads);
       same = λ e. c.loop-at.invariant.same (line_is_same text left at end len (omega arith) within same (e ∙ rest));
     }

@@ -9,7 +9,7 @@ abbrev pub invariant-loop-at : goal.invariant-loop-at
 invariant-loop-at g l = record {
   within : l.at ≤ length l.text;
   few : l.lines ≤ l.at;
-  leads : Leads (machines g.S.Service.started g.S.Service.after) l.text (InClosing (lines_in l.left)) (drop l.at l.text) l.lines;
+  leads : Leads (machines g.S.Service.started g.S.Service.after g.S.Service.greeting) l.text (InClosing (lines_in l.left)) (drop l.at l.text) l.lines;
   same : drop l.at l.text ≡ l.left → drop l.fn.at l.text ≡ l.due;
 }
 

@@ -21,7 +21,7 @@ loop-end-preserved g c =
       omega arith,
       within,
       omega (arith, few),
-      all_grow (machines g.S.Service.started g.S.Service.after) text c.args.schedule.now c.args.at at end c.args.told c.loop-end.count c.is_packet_line.result first more within c.line_end-next.ensures.line iff
+      all_grow (machines g.S.Service.started g.S.Service.after g.S.Service.greeting) text c.args.schedule.now c.args.at at end c.args.told c.loop-end.count c.is_packet_line.result first more within c.line_end-next.ensures.line iff
           c.if-not-is_packet_line.false c.loop-end.invariant.3,
     )
 

@@ -10,7 +10,7 @@ use Rattle.trace_check.proofs.turn.read_packet_lines.Given as goal
 
 abbrev pub invariant-loop-end : goal.invariant-loop-end
 invariant-loop-end g l =
-    let service = machines g.S.Service.started g.S.Service.after in
+    let service = machines g.S.Service.started g.S.Service.after g.S.Service.greeting in
     (l.at ≤ l.end) × (l.end ≤ length l.text) × (l.told + l.count ≤ 200000)
     × ((events : List Event) (trace : List Moment) (event : Event) (lines : ℕ) → packet_count trace ≡ l.told
     → Leads service l.text (InTurn (with_events l.schedule events) trace event []) (drop l.at l.text) lines

@@ -9,7 +9,7 @@ pub returns-in_err-read-clause-rejected : goal.returns-in_err-read-clause-reject
 returns-in_err-read-clause-rejected g c =
     let walked = c.loop-due.invariant.walked in
     of_error c.from_residual.result c.from_residual.ensures.1
-    (λ end is. subst (IsRejection (machines g.S.Service.started g.S.Service.after) c.args.text.now) (sym is)
+    (λ end is. subst (IsRejection (machines g.S.Service.started g.S.Service.after g.S.Service.greeting) c.args.text.now) (sym is)
     (c.in_err-read.ensures.rejected (schedule_through c.args.schedule.now walked.0) walked.0 (sym walked.1.stands.turns ∙ sym c.turns.ensures) walked.1.size_is walked.1.after))
 
 pub take_event-requires-clause-walked : goal.take_event-requires-clause-walked

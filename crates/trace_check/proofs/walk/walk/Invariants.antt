@@ -8,7 +8,7 @@ abbrev pub invariant-loop-due : goal.invariant-loop-due
 invariant-loop-due g l = record {
   within : IsPlaceIn l.text l.place;
   turns : l.world.turns ≤ 100000;
-  walked : (trace : List Moment) × IsWalked (machines g.S.Service.started g.S.Service.after) l.text l.schedule trace l.place l.world;
+  walked : (trace : List Moment) × IsWalked (machines g.S.Service.started g.S.Service.after g.S.Service.greeting) l.text l.schedule trace l.place l.world;
 }
 
 abbrev pub decreases-loop-due : goal.decreases-loop-due

@@ -38,7 +38,7 @@ returns-clause-done g c =
     let w = c.args.self.now in
     let kept_is : c.keep_sent.new.packets ≡ with_wires w.keys.items w.packets c.in_ok-node.node.turn.sent.items = cc (c.in_default.ensures) in
     record {
-      continues = record { same_kind = refl; grew = subst (λ ps. length w.packets.bytes ≤ length ps.bytes) (sym kept_is) (wires_grow w.keys.items w.packets c.in_ok-node.node.turn.sent.items) };
+      continues = record { same_kind = refl; same_profile = refl; grew = subst (λ ps. length w.packets.bytes ≤ length ps.bytes) (sym kept_is) (wires_grow w.keys.items w.packets c.in_ok-node.node.turn.sent.items) };
       advances = λ v st p.
           boots (service_of w) (kept w) _ v c.args.boot c.args.isn (server_of c.in_ok-node.node) c.in_ok-node.node.turn.sent.items st
           (not_there server_of w.node (cc)) (omega arith) (omega arith) (c.in_ok-node.ensures.plain st.unmarked) c.in_ok-node.ensures.hello c.in_ok-node.ensures.same

@@ -23,7 +23,7 @@ pub returns-clause-done : goal.returns-clause-done
 returns-clause-done g c =
     let w = c.args.self.now in
     record {
-      continues = record { same_kind = refl; grew = le_refl _ };
+      continues = record { same_kind = refl; same_profile = refl; grew = le_refl _ };
       advances = λ v st p.
           crashes (service_of w) (kept w) _ v st (is_up server_of w.node c.is_none.result c.is_none.ensures c.if-is_none.false)
           (ap (λ n. record (kept w) { node = option_map server_of n }) c.take.ensures.after);

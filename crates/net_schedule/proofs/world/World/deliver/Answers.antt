@@ -1,5 +1,6 @@
 use Rattle.std.proofs.Common.{◌≡◌, ◌∙◌, sym, ap, refl, Some}
 use Rattle.std.specs.Prelude.{option_copied}
+use Rattle.tcp_rules.specs.Profile.{grammar_of}
 use Rattle.schedule_network.specs.AtNumber.{at_number}
 use Rattle.node_serving.specs.Markers.{saving}
 use Rattle.net_schedule.specs.MarkedTurns.{marker_in}
@@ -17,9 +18,9 @@ returns-in_default-clause-ends g c =
     let w = c.args.self.now in
     let none = sym c.way.ensures ∙ c.in_default.is in (
       record {
-        one = λ v st p. refuses_packet (service_of w) v c.args.number (no_way w.keys.items w.packets v.packets c.args.number st.packets none);
-        two = λ v st p. twin_refuses_packet (service_of w) v c.args.number (no_parcel_way w.keys.items w.packets v.parcels c.args.number st.packets none);
-        marked = λ savable every v st p. marked_refuses_packet (marker_in (saving g.S.Saved.form g.S.Saved.state_of g.S.Saved.is_savable) every w) v c.args.number (no_marked_way w.keys.items w.packets v.parcels c.args.number st.packets none);
+        one = λ v st p. refuses_packet (service_of w) v c.args.number (no_way (grammar_of v.profile) w.keys.items w.packets v.packets c.args.number st.packets none);
+        two = λ v st p. twin_refuses_packet (service_of w) v c.args.number (no_parcel_way (grammar_of v.profile) w.keys.items w.packets v.parcels c.args.number st.packets none);
+        marked = λ savable every v st p. marked_refuses_packet (marker_in (saving g.S.Saved.form g.S.Saved.state_of g.S.Saved.is_savable) every w) v c.args.number (no_marked_way (grammar_of v.profile) w.keys.items w.packets v.parcels c.args.number st.packets none);
       },
       refl,
     )
@@ -29,9 +30,9 @@ returns-in_default-bytes-clause-ends g c =
     let w = c.args.self.now in
     let none = sym c.bytes.ensures ∙ ap option_copied c.in_default-bytes.is in (
       record {
-        one = λ v st p. refuses_packet (service_of w) v c.args.number (no_bytes w.keys.items w.packets v.packets c.args.number st.packets none);
-        two = λ v st p. twin_refuses_packet (service_of w) v c.args.number (no_parcel_bytes w.keys.items w.packets v.parcels c.args.number st.packets none);
-        marked = λ savable every v st p. marked_refuses_packet (marker_in (saving g.S.Saved.form g.S.Saved.state_of g.S.Saved.is_savable) every w) v c.args.number (no_marked_bytes w.keys.items w.packets v.parcels c.args.number st.packets none);
+        one = λ v st p. refuses_packet (service_of w) v c.args.number (no_bytes (grammar_of v.profile) w.keys.items w.packets v.packets c.args.number st.packets none);
+        two = λ v st p. twin_refuses_packet (service_of w) v c.args.number (no_parcel_bytes (grammar_of v.profile) w.keys.items w.packets v.parcels c.args.number st.packets none);
+        marked = λ savable every v st p. marked_refuses_packet (marker_in (saving g.S.Saved.form g.S.Saved.state_of g.S.Saved.is_savable) every w) v c.args.number (no_marked_bytes (grammar_of v.profile) w.keys.items w.packets v.parcels c.args.number st.packets none);
       },
       refl,
     )
@@ -43,7 +44,7 @@ returns-clause-done g c =
     let spelled : at_number w.packets.bytes c.args.number ≡ Some c.as_slice.result.now = sym c.in-Some-bytes.ensures ∙ ap Some (sym (c.as_slice.ensures.value ∙ c.in_ok-refill.ensures)) in
     let so = c.in_ok-bring.ensures in
     record {
-      continues = record { same_kind = so.continues.same_kind; grew = so.continues.grew };
+      continues = record { same_kind = so.continues.same_kind; same_profile = so.continues.same_profile; grew = so.continues.grew };
       one = λ v st p.
           delivers (service_of w) (kept w) (kept c.bring.new.self) v c.args.number c.in-Some.way c.as_slice.result.now st p way_is spelled (λ packet goes came. so.one v packet st p goes came);
       two = λ v st p.

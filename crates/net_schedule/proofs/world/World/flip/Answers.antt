@@ -1,6 +1,7 @@
 use Rattle.std.proofs.Common.{◌≡◌, ◌∙◌, sym, ap, subst, refl, ◌<◌, ◌≤◌, ◌*◌, length, arith}
 use Rattle.std.specs.Prelude.{option_copied}
 use Rattle.seq_arith.specs.Damage.{flipped}
+use Rattle.tcp_rules.specs.Profile.{grammar_of}
 use Rattle.ft_model.specs.World.{DeliveredAs}
 use Rattle.twin_laws.specs.TwinWorld.{seen}
 use Rattle.node_serving.specs.Markers.{saving}
@@ -24,10 +25,10 @@ returns-in_default-clause-ends g c =
     let w = c.args.self.now in
     let none = sym c.way.ensures ∙ c.in_default.is in (
       record {
-        one = λ v st p. refuses_no_packet (service_of w) v c.args.number c.args.bit (no_way w.keys.items w.packets v.packets c.args.number st.packets none);
-        two = λ v st p. twin_refuses_no_packet (service_of w) v c.args.number c.args.bit (no_parcel_way w.keys.items w.packets v.parcels c.args.number st.packets none);
+        one = λ v st p. refuses_no_packet (service_of w) v c.args.number c.args.bit (no_way (grammar_of v.profile) w.keys.items w.packets v.packets c.args.number st.packets none);
+        two = λ v st p. twin_refuses_no_packet (service_of w) v c.args.number c.args.bit (no_parcel_way (grammar_of v.profile) w.keys.items w.packets v.parcels c.args.number st.packets none);
         marked = λ savable every v st p.
-            marked_refuses_no_packet (marker_in (saving g.S.Saved.form g.S.Saved.state_of g.S.Saved.is_savable) every w) v c.args.number c.args.bit (no_marked_way w.keys.items w.packets v.parcels c.args.number st.packets none);
+            marked_refuses_no_packet (marker_in (saving g.S.Saved.form g.S.Saved.state_of g.S.Saved.is_savable) every w) v c.args.number c.args.bit (no_marked_way (grammar_of v.profile) w.keys.items w.packets v.parcels c.args.number st.packets none);
       },
       refl,
     )
@@ -37,10 +38,10 @@ returns-in_default-bytes-clause-ends g c =
     let w = c.args.self.now in
     let none = sym c.bytes.ensures ∙ ap option_copied c.in_default-bytes.is in (
       record {
-        one = λ v st p. refuses_no_packet (service_of w) v c.args.number c.args.bit (no_bytes w.keys.items w.packets v.packets c.args.number st.packets none);
-        two = λ v st p. twin_refuses_no_packet (service_of w) v c.args.number c.args.bit (no_parcel_bytes w.keys.items w.packets v.parcels c.args.number st.packets none);
+        one = λ v st p. refuses_no_packet (service_of w) v c.args.number c.args.bit (no_bytes (grammar_of v.profile) w.keys.items w.packets v.packets c.args.number st.packets none);
+        two = λ v st p. twin_refuses_no_packet (service_of w) v c.args.number c.args.bit (no_parcel_bytes (grammar_of v.profile) w.keys.items w.packets v.parcels c.args.number st.packets none);
         marked = λ savable every v st p.
-            marked_refuses_no_packet (marker_in (saving g.S.Saved.form g.S.Saved.state_of g.S.Saved.is_savable) every w) v c.args.number c.args.bit (no_marked_bytes w.keys.items w.packets v.parcels c.args.number st.packets none);
+            marked_refuses_no_packet (marker_in (saving g.S.Saved.form g.S.Saved.state_of g.S.Saved.is_savable) every w) v c.args.number c.args.bit (no_marked_bytes (grammar_of v.profile) w.keys.items w.packets v.parcels c.args.number st.packets none);
       },
       refl,
     )
@@ -69,7 +70,7 @@ returns-clause-done g c =
     let is : c.as_slice.result.now ≡ flipped c.args.bit bytes = c.as_slice.ensures.value ∙ c.in_ok-refill_flipped.ensures in
     let so = c.in_ok-bring.ensures in
     record {
-      continues = record { same_kind = so.continues.same_kind; grew = so.continues.grew };
+      continues = record { same_kind = so.continues.same_kind; same_profile = so.continues.same_profile; grew = so.continues.grew };
       one = λ v st p.
           flips (service_of w) (kept w) (kept c.bring.new.self) v c.args.number c.args.bit c.in-Some.way c.in-Some-bytes.bytes.now st p way_is (sym c.in-Some-bytes.ensures) within
           (λ packet goes came. subst (λ b. ReachesNext (service_of w) (DeliveredAs (service_of w) v packet b) v (kept c.bring.new.self)) is

@@ -53,13 +53,13 @@ returns-clause-done g c =
     c.in_ok-push.ensures ∙ ap (with_packet c.args.self.now.packets (ClientToServer c.args.number))
     (ap (λ n. take n c.step.new.out) c.min.ensures ∙ written_front _ _ c.step.new.out c.in_ok-len.len 1500 made.packet size (c.step.auto.out ∙ size)) in
     record {
-      continues = record { same_kind = refl; grew = subst (λ ps. length w.packets.bytes ≤ length ps.bytes) (sym c.in_ok-push.ensures) (packet_grows w.packets (ClientToServer c.args.number) _) };
+      continues = record { same_kind = refl; same_profile = refl; grew = subst (λ ps. length w.packets.bytes ≤ length ps.bytes) (sym c.in_ok-push.ensures) (packet_grows w.packets (ClientToServer c.args.number) _) };
       advances = λ v st p.
           moves (service_of w) (kept w) _ v event c.args.number client c.step.new.self _ _ _ st p c.requires there made
           (ap (λ k. record (kept c.args.self.now) { clients = set items (k - 1) c.step.new.self; packets = c.push.new.self }) c.from-place.ensures
           ∙ ap (λ ps. record (kept c.args.self.now) { clients = set items (c.args.number - 1) c.step.new.self; packets = ps }) pushed);
       marked = λ savable every v st p.
-          client_advances (marker_in (saving g.S.Saved.form g.S.Saved.state_of g.S.Saved.is_savable) every w) event (kept w) _ v (movers_are_clients event c.args.number c.requires) st refl refl refl
+          client_advances (marker_in (saving g.S.Saved.form g.S.Saved.state_of g.S.Saved.is_savable) every w) event (kept w) _ v (movers_are_clients event c.args.number c.requires) st refl refl refl refl
           (moves (service_of w) (downed (kept w)) _ (seen_down v) event c.args.number client c.step.new.self _ _ _
           (down_stands (marker_in (saving g.S.Saved.form g.S.Saved.state_of g.S.Saved.is_savable) every w) (kept w) v st) (down_premises (marker_in (saving g.S.Saved.form g.S.Saved.state_of g.S.Saved.is_savable) every w) v p) c.requires there made
           (ap (λ k. record (downed (kept c.args.self.now)) { clients = set items (k - 1) c.step.new.self; packets = c.push.new.self }) c.from-place.ensures

@@ -17,7 +17,7 @@ pub returns-clause-done : goal.returns-clause-done
 returns-clause-done g c =
     let w = c.args.self.now in
     record {
-      continues = record { same_kind = refl; grew = le_refl _ };
+      continues = record { same_kind = refl; same_profile = refl; grew = le_refl _ };
       one = λ v st p. not_one c.in-Two.pair (sym st.single ∙ ap keepers_in c.in-Two.is);
       two = λ v st p.
           twin_stops (service_of w) (kept w) _ v c.args.part c.in-Some.part c.in-Two.pair st p.paired

@@ -13,7 +13,7 @@ add_read-requires g c =
 
 pub returns-clause-served : goal.returns-clause-served
 returns-clause-served g c =
-    let service = machine (g.S.Service.started c.args.self.now.kind) g.S.Service.after in
+    let service = machine (g.S.Service.started c.args.self.now.kind) g.S.Service.after g.S.Service.greeting in
     let made = c.in_ok-read.ensures c.args.self.now.kind in
     on_ok_weaker c.add_read.result
     (λ e. subst (λ kind. IsServed service (record { kind = kind; point = c.add_read.new.self; made = c.read.new.self })) (sym (ap (λ x. x.kind) c.self.view_is))

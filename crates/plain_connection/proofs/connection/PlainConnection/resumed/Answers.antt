@@ -4,5 +4,5 @@ use Rattle.plain_connection.proofs.connection.PlainConnection.resumed.Goals as g
 
 pub read_again-requires-clause-served : goal.read_again-requires-clause-served
 read_again-requires-clause-served g c =
-    fetched_served (machine (g.S.Service.started c.args.kind) g.S.Service.after) (record { kind = c.args.kind; point = c.fetched.result; made = c.in_ok-new.field-0 })
+    fetched_served (machine (g.S.Service.started c.args.kind) g.S.Service.after g.S.Service.greeting) (record { kind = c.args.kind; point = c.fetched.result; made = c.in_ok-new.field-0 })
     _ _ _ _ c.fetched.ensures c.in_ok-new.ensures

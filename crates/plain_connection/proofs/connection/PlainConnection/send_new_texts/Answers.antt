@@ -7,7 +7,7 @@ use Rattle.plain_connection.proofs.connection.PlainConnection.send_new_texts.Goa
 
 pub returns : goal.returns
 returns g c =
-    let service = machine (g.S.Service.started c.args.self.now.kind) g.S.Service.after in
+    let service = machine (g.S.Service.started c.args.self.now.kind) g.S.Service.after g.S.Service.greeting in
     let before = having_sent c.args.before.now.sent c.args.self.now.point in
     let len : c.saturating_sub-len.result ≡ new_length service before c.args.self.now.point = cc in
     new_texts_sent service c.args.server before c.args.self.now.point c.args.sent.now c.send_texts.new.sent c.saturating_sub-len.result len c.in_ok-send_texts.ensures

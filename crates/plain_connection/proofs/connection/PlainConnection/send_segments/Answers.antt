@@ -12,7 +12,7 @@ use Rattle.plain_connection.proofs.connection.PlainConnection.send_segments.Goal
 pub returns-then-not-is_bare_due : goal.returns-then-not-is_bare_due
 returns-then-not-is_bare_due g c = λ news p is.
     let none : (not c.in_ok-any.any && is_ack_pending_since c.args.before.now c.args.self.now.point) ≡ false = cc in
-    no_bare_sent c.in_ok-any.any (machine (g.S.Service.started c.args.self.now.kind) g.S.Service.after) c.args.server news p c.args.self.now.point c.args.before.now
+    no_bare_sent c.in_ok-any.any (machine (g.S.Service.started c.args.self.now.kind) g.S.Service.after g.S.Service.greeting) c.args.server news p c.args.self.now.point c.args.before.now
     c.in_ok-any.ensures none is
 
 pub returns : goal.returns
@@ -21,7 +21,7 @@ returns g c = λ news p is.
     let bare : segment_of c.bare_segment.result ≡ bare_segment c.args.server c.args.self.now.point =
     c.bare_segment.ensures ∙ ap (λ x. bare_segment c.args.server x.point) c.self.view_is in
     on_ok_weaker c.send_to_client.result
-    (λ sent. bare_sent c.in_ok-any.any (machine (g.S.Service.started c.args.self.now.kind) g.S.Service.after) c.args.server news p c.args.self.now.point
+    (λ sent. bare_sent c.in_ok-any.any (machine (g.S.Service.started c.args.self.now.kind) g.S.Service.after g.S.Service.greeting) c.args.server news p c.args.self.now.point
     c.args.before.now c.in_ok-any.ensures due
     (subst (λ segment. Appends c.send_full_segments.new.sent c.send_to_client.new.self (To_client segment ∷ [])) bare sent) is)
     c.send_to_client.ensures

@@ -7,7 +7,7 @@ use Rattle.plain_connection.proofs.connection.PlainConnection.send_texts.Goals a
 
 pub loop-step-preserved : goal.loop-step-preserved
 loop-step-preserved g c =
-    let service = machine (g.S.Service.started c.args.self.now.kind) g.S.Service.after in
+    let service = machine (g.S.Service.started c.args.self.now.kind) g.S.Service.after g.S.Service.greeting in
     let most : c.args.len - c.loop-step._step ≡ suc (c.args.len - (c.loop-step._step + 1)) = omega (arith, c.loop-step-test.true) in
     let some : 0 < c.loop-step.left = omega (arith, c.if-left-eq0.false) in
     let size : c.from-size.result ≡ c.args.self.now.point.mss = c.from-size.ensures ∙ (c.mss.ensures ∙ ap (λ x. x.point.mss) c.self.view_is) in

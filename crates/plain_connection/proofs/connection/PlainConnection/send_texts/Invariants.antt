@@ -5,4 +5,4 @@ use Rattle.plain_connection.proofs.connection.PlainConnection.send_texts.Given a
 
 abbrev pub invariant-loop-step : goal.invariant-loop-step
 invariant-loop-step g l =
-    SentSoFar (machine (g.S.Service.started l.self.kind) g.S.Service.after) l.server l.self.point l.from l.len l.initial.sent l.sent (l.len - l._step) l.offset l.left
+    SentSoFar (machine (g.S.Service.started l.self.kind) g.S.Service.after g.S.Service.greeting) l.server l.self.point l.from l.len l.initial.sent l.sent (l.len - l._step) l.offset l.left

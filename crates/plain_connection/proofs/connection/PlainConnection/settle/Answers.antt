@@ -9,7 +9,7 @@ use Rattle.plain_connection.proofs.connection.PlainConnection.settle.Goals as go
 
 pub returns-clause-settled : goal.returns-clause-settled
 returns-clause-settled g c = λ p b.
-    let service = machine (g.S.Service.started c.args.self.now.kind) g.S.Service.after in
+    let service = machine (g.S.Service.started c.args.self.now.kind) g.S.Service.after g.S.Service.greeting in
     let news = news_in c.args.news.now in
     let settled : c.count_end.new.self ≡ settled_since service news p c.args.self.now.point =
     settled_is service news p c.self.inside.point c.args.self.now.point c.time_sent.new.self c.set_sent.new.self c.set_timer.new.self c.count_end.new.self c.args.before.now

@@ -8,7 +8,7 @@ use Rattle.plain_world.proofs.actors.Actors.bring_flipped.Goals as goal
 
 pub returns-in-ToServer : goal.returns-in-ToServer
 returns-in-ToServer g c =
-    let service = machines g.S.Service.started g.S.Service.after in
+    let service = machines g.S.Service.started g.S.Service.after g.S.Service.greeting in
     on_ok_weaker c.serve.result
     (λ serves. noise_to_server service c.args.wire.now c.args.self.now _ c.args.sent.now c.serve.new.sent c.in-ToServer.field-0 c.in-ToServer.ensures.from
     (ap (λ a. a.clients) c.self.view_is) (ap (λ a. a.log) c.self.view_is)
@@ -17,7 +17,7 @@ returns-in-ToServer g c =
 
 pub returns-in-FromLogger : goal.returns-in-FromLogger
 returns-in-FromLogger g c =
-    let service = machines g.S.Service.started g.S.Service.after in
+    let service = machines g.S.Service.started g.S.Service.after g.S.Service.greeting in
     on_ok_weaker c.serve-in-FromLogger.result
     (λ serves. noise_from_logger service c.args.wire.now c.args.self.now _ c.args.sent.now c.serve-in-FromLogger.new.sent c.in-FromLogger.ensures.from
     (ap (λ a. a.clients) c.self.view_is) (ap (λ a. a.log) c.self.view_is)
@@ -26,9 +26,9 @@ returns-in-FromLogger g c =
 
 pub returns-in-ToClient : goal.returns-in-ToClient
 returns-in-ToClient g c =
-    noise_to_client (machines g.S.Service.started g.S.Service.after) c.args.wire.now c.args.self.now c.args.self.now c.args.sent.now c.args.sent.now c.in-ToClient.field-0 c.in-ToClient.ensures.to
+    noise_to_client (machines g.S.Service.started g.S.Service.after g.S.Service.greeting) c.args.wire.now c.args.self.now c.args.self.now c.args.sent.now c.args.sent.now c.in-ToClient.field-0 c.in-ToClient.ensures.to
     refl c.requires.served refl
 
 pub returns-in-ToLogger : goal.returns-in-ToLogger
 returns-in-ToLogger g c =
-    noise_to_logger (machines g.S.Service.started g.S.Service.after) c.args.wire.now c.args.self.now c.args.self.now c.args.sent.now c.args.sent.now c.in-ToLogger.ensures.to refl c.requires.served refl
+    noise_to_logger (machines g.S.Service.started g.S.Service.after g.S.Service.greeting) c.args.wire.now c.args.self.now c.args.self.now c.args.sent.now c.args.sent.now c.in-ToLogger.ensures.to refl c.requires.served refl

@@ -15,7 +15,7 @@ pub returns-clause-turn : goal.returns-clause-turn
 returns-clause-turn g c =
     on_ok_more _ _ c.ask_all.result
     (λ asks (stage : Stage).
-    serving_turn (machine (g.S.Service.started c.args.who.kind) g.S.Service.after) (node_of c.args.who stage) (input_in c.args.input.now) c.args.self.now.opened
+    serving_turn (machine (g.S.Service.started c.args.who.kind) g.S.Service.after g.S.Service.greeting) (node_of c.args.who stage) (input_in c.args.input.now) c.args.self.now.opened
     c.args.self.now.places.items c.go_all.new.places.items c.open.new.self.places.items
     (map (λ n. Opens (numbers_said n)) (option_to_list c.newcomer-newcomer.result))
     (map (λ head. To_client (record { head = said head; payload = [] })) (option_to_list c.refusal-refusal.result))
@@ -34,4 +34,4 @@ returns-clause-opened g c =
 pub returns-clause-served : goal.returns-clause-served
 returns-clause-served g c =
     on_ok _ c.ask_all.result
-    (c.in_ok-open.ensures.served c.args.who.kind (machine (g.S.Service.started c.args.who.kind) g.S.Service.after) c.in_ok-go_all.ensures.served)
+    (c.in_ok-open.ensures.served c.args.who.kind (machine (g.S.Service.started c.args.who.kind) g.S.Service.after g.S.Service.greeting) c.in_ok-go_all.ensures.served)

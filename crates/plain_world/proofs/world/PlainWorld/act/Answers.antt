@@ -7,4 +7,4 @@ use Rattle.plain_world.proofs.world.PlainWorld.act.Goals as goal
 pub returns-in-Flip : goal.returns-in-Flip
 returns-in-Flip g c =
     on_ok_weaker c.flip.result
-    (λ does. subst (λ event. Does (machines g.S.Service.started g.S.Service.after) event c.args.self.now c.flip.new.self) (sym c.in-Flip.is) (does c.in-Flip.bit)) c.flip.ensures
+    (λ does. subst (λ event. Does (machines g.S.Service.started g.S.Service.after g.S.Service.greeting) event c.args.self.now c.flip.new.self) (sym c.in-Flip.is) (does c.in-Flip.bit)) c.flip.ensures

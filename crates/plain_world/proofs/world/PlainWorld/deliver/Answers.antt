@@ -9,7 +9,7 @@ use Rattle.plain_world.proofs.world.PlainWorld.deliver.Goals as goal
 
 pub returns : goal.returns
 returns g c =
-    let service = machines g.S.Service.started g.S.Service.after in
+    let service = machines g.S.Service.started g.S.Service.after g.S.Service.greeting in
     let brings = subst (λ ps. Brings service c.in-Some.wire.now c.self.inside.actors c.bring.new.self ps c.bring.new.sent) c.new-sent.ensures c.in_ok-bring.ensures in
     on_ok_weaker c.append.result
     (λ follow. delivers service c.args.self.now _ c.args.number c.in-Some.wire.now c.bring.new.sent

@@ -8,7 +8,7 @@ use Rattle.plain_world.proofs.world.PlainWorld.tick.Goals as goal
 
 pub returns : goal.returns
 returns g c =
-    let service = machines g.S.Service.started g.S.Service.after in
+    let service = machines g.S.Service.started g.S.Service.after g.S.Service.greeting in
     on_ok_weaker c.tick.result
     (λ serves. ticks service c.args.self.now _
     (record { kind = ap (λ w. w.kind) c.self.view_is; turns = ap (λ w. w.turns) c.self.view_is; server = ap (λ w. w.server) c.self.view_is; profile = ap (λ w. w.profile) c.self.view_is })

@@ -4,7 +4,7 @@ use Rattle.std.proofs.lemmas.Result.{on_ok_weaker}
 use Rattle.peer_client.specs.Scripted.{delivered}
 use Rattle.net_schedule.specs.WorldView.{kept}
 use Rattle.net_schedule.proofs.Moving.{delivered_set, delivered_none, none_delivered}
-use Rattle.net_schedule.proofs.world.World.tell_client.Goals as goal
+use Rattle.net_schedule.proofs.world.World.deliver_to_client.Goals as goal
 
 pub returns-then-number-eq0 : goal.returns-then-number-eq0
 returns-then-number-eq0 g c =

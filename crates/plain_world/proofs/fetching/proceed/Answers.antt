@@ -3,7 +3,7 @@ use Rattle.ft_model.specs.Node.{Stage}
 use Rattle.plain_world.specs.Values.{node_of}
 use Rattle.plain_world.proofs.Fetched.{all_whole}
 use Rattle.plain_world.proofs.Fetches.{serves_now}
-use Rattle.plain_world.proofs.fetching.go_on.Goals as goal
+use Rattle.plain_world.proofs.fetching.proceed.Goals as goal
 
 pub restore_all-requires-clause-whole : goal.restore_all-requires-clause-whole
 restore_all-requires-clause-whole g c = all_whole c.args.count c.args.fetched.now c.requires (sym c.in_default.ensures)

@@ -2,7 +2,7 @@ use Rattle.ft_model.specs.Node.{Stage}
 use Rattle.plain_world.specs.Values.{node_of}
 use Rattle.logger_wire.specs.Records.{numbers_said}
 use Rattle.plain_world.proofs.Places.{opened_same}
-use Rattle.plain_world.proofs.place.PlainPlace.hear_opened.Goals as goal
+use Rattle.plain_world.proofs.place.PlainPlace.receive_opened.Goals as goal
 
 pub returns-clause-turn : goal.returns-clause-turn
 returns-clause-turn g c =

@@ -1,4 +1,4 @@
-use Rattle.plain_world.proofs.place.PlainPlace.hear_logged.Goals as goal
+use Rattle.plain_world.proofs.place.PlainPlace.receive_logged.Goals as goal
 
 pub returns-in-Lives-clause-stable : goal.returns-in-Lives-clause-stable
 returns-in-Lives-clause-stable g c = rw c.in-Lives.is c.turn_live.ensures.turn
