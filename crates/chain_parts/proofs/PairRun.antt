@@ -9,7 +9,7 @@ use Rattle.ft_io.specs.declared.link_call.LinkCall.TheVariants.{Bound, Handed}
 use Rattle.ft_io.proofs.Tellings.{tells_on, none_told}
 use Rattle.link_parts.proofs.Calls.{counts_on, with_both, few_calls, IsFew}
 use Rattle.link_parts.specs.Counts.{count_line, counts_of, with_calls, HasRoom}
-use Rattle.link_parts.specs.LoggerParts.{IsCutOff}
+use Rattle.link_parts.specs.LoggerParts.{IsCutOff, grammar_for}
 use Rattle.link_parts.specs.Receipt.{Received, datagram, silence, failure, received_as, IsQuiet}
 use Rattle.link_parts.specs.LineOutput.{TellStops}
 use Rattle.link_parts.specs.declared.counts.Counts.{Counts}
@@ -62,7 +62,7 @@ room_left c counts r room is =
     })
 
 -- turns so far
-pub serving_none : (role : PartRole) (s : Standing) (told : Option (List LinkCall)) (counts : Counts) → s ≡ at_start role.part → counts ≡ counts_of [] → IsServing role 0 s told told counts
+pub serving_none : (role : PartRole) (s : Standing) (told : Option (List LinkCall)) (counts : Counts) → s ≡ at_start (grammar_for role.logger) role.part → counts ≡ counts_of [] → IsServing role 0 s told told counts
 serving_none role s told counts is none =
     record { turns = []; count_is = refl; defined = tt; at_is = is; total = omega arith; tells = none_told told; counts_are = none }
 

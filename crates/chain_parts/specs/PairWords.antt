@@ -38,7 +38,7 @@ alone_in uses = alone_from (addr_at uses option.Local) (addr_at uses option.To)
 
 -- the options of a logger of a pair
 abbrev pub part_options : List OptionName
-part_options = option.Local ∷ option.Turns ∷ option.Times ∷ option.Part ∷ option.Other ∷ []
+part_options = option.Local ∷ option.Turns ∷ option.Times ∷ option.Part ∷ option.Other ∷ option.Profile ∷ []
 
 abbrev pub alone_options : List OptionName
 alone_options = option.Local ∷ option.To ∷ []

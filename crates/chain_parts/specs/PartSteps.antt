@@ -6,7 +6,8 @@ use Rattle.ft_io.specs.Told.{Tells}
 use Rattle.link_parts.specs.Counts.{counts_of, with_calls}
 use Rattle.link_parts.specs.LoggerParts.{IsCutOff}
 use Rattle.link_parts.specs.declared.counts.Counts.{Counts}
-use Rattle.chain_parts.specs.PartTurns.{Standing, Outgoing, PartTurn, datagrams_in, sending, turn_calls, calls_of, heard_in, sends, standing_at, AreByDefinition}
+use Rattle.chain_parts.specs.PartTurns.{Standing, Outgoing, PartTurn, datagrams_in, sending, turn_calls, calls_of, heard_in, sends, standing_at}
+use Rattle.chain_parts.specs.PartTurns.{AreByDefinition}
 use Rattle.chain_parts.specs.declared.part.Twin.{Twin}
 use Rattle.chain_parts.specs.declared.pair_role.PartRole.{PartRole}
 use Rattle.chain_parts.specs.declared.pair_role.TwinRole.{TwinRole}

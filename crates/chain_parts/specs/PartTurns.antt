@@ -4,6 +4,7 @@ use Rattle.std.specs.Prelude.{ℕ, Bool, true, false, ◌≡◌, map, flat_map, 
 use Rattle.ft_io.specs.declared.Addr.{Addr}
 use Rattle.ft_io.specs.declared.link_call.LinkCall.{LinkCall}
 use Rattle.ft_io.specs.declared.link_call.LinkCall.TheVariants.{Handed}
+use Rattle.seq_arith.specs.declared.kinds.Grammar.{Grammar}
 use Rattle.seq_arith.specs.TwinDatagram.{TwinDatagram}
 use Rattle.seq_arith.specs.TwinDatagram.{TwinDatagram as datagrams}
 use Rattle.seq_arith.specs.TwinGrammar as twins
@@ -12,6 +13,7 @@ use Rattle.twin_laws.specs.StoredState.{Kept, new_kept, left_alone, kept_does}
 use Rattle.twin_laws.specs.declared.part.Part.{Part}
 use Rattle.twin_laws.specs.declared.part.Side.{Side}
 use Rattle.twin_laws.specs.declared.part.Side.TheVariants as sides
+use Rattle.link_parts.specs.LoggerParts.{grammar_for}
 use Rattle.link_parts.specs.Receipt.{is_from, Received, datagram, silence, failure, received_as}
 use Rattle.chain_parts.specs.declared.pair_role.PartRole.{PartRole}
 
@@ -20,14 +22,14 @@ pub record Standing : Type 0 where
   pub kept : Kept
   pub server : Option Addr
 
-abbrev pub at_start : Part → Standing
-at_start part = record { kept = new_kept part; server = None }
+abbrev pub at_start : Grammar → Part → Standing
+at_start grammar part = record { kept = new_kept grammar part; server = None }
 
 abbrev pub is_alone : Result TwinDatagram BadTwin → Bool
 is_alone (Ok datagrams.Alone) = true
 is_alone _ = false
 
--- the bytes are an Alone, by which a logger learns that the other has stopped
+-- the bytes are an Alone, by which a logger learns that the other has stopped. It is the same in either grammar
 abbrev pub says_alone : List ℕ → Bool
 says_alone bytes = is_alone (twins.reading bytes)
 
@@ -101,7 +103,7 @@ calls_of (turn ∷ earlier) = calls_of earlier ++ turn_calls turn
 
 -- the state of a logger of these words after turns, the newest first, from an empty log on
 abbrev pub standing_at : PartRole → List PartTurn → Standing
-standing_at role [] = at_start role.part
+standing_at role [] = at_start (grammar_for role.logger) role.part
 standing_at role (turn ∷ earlier) = (heard_in role.other turn.received (standing_at role earlier)).next
 
 -- each turn sends what the logger's definition says

@@ -12,12 +12,13 @@ use link_parts::{LoggerRole, OptionName, addr_at, logger_role, read_options};
 use std::alloc::Global;
 use twin_log::Part;
 
-const PART_OPTIONS: [OptionName; 5] = [
+const PART_OPTIONS: [OptionName; 6] = [
     OptionName::Local,
     OptionName::Turns,
     OptionName::Times,
     OptionName::Part,
     OptionName::Other,
+    OptionName::Profile,
 ];
 
 const ALONE_OPTIONS: [OptionName; 2] = [OptionName::Local, OptionName::To];

@@ -19,8 +19,8 @@ ghost use Rattle.link_parts.specs.Ranges.{most_turns};
 use crate::pair_role::PartRole;
 use crate::sending::send_all;
 use ft_io::{Addr, Failed, Link, NoMemory, Sink};
-use link_parts::{Counts, DATAGRAM_ROOM, NodeEnd, receive, tell_counts};
-use logger_wire::{TwinMsg, read_twin};
+use link_parts::{Counts, DATAGRAM_ROOM, NodeEnd, receive, write_counts};
+use logger_wire::{Grammar, TwinMsg, read_twin};
 use std::alloc::Global;
 use twin_log::{Part, Side, TwinLog, TwinOut};
 
@@ -33,8 +33,8 @@ pub(crate) struct Twin {
     out: TwinOut,
 }
 
-/// Whether the bytes are an Alone, by which a logger learns that the other has stopped.
-fn says_alone(bytes: &[u8]) -> bool
+/// Whether the bytes are an Alone, by which a logger learns that the other has stopped. It is the same whatever grammar the loggers' messages have.
+fn is_stop_notice(bytes: &[u8]) -> bool
     ensures { result ≡ says_alone_lem bytes.now }
 {
     matches!(read_twin(bytes), Ok(TwinMsg::Alone))
@@ -80,7 +80,7 @@ pub(crate) fn take(
     ensures next { OnOk result (standing_of twin.new ≡ (heard other from bytes.now (standing_of twin.old)).next) }
     ensures sent { OnOk result (twin.new.out ≡ (heard other from bytes.now (standing_of twin.old)).sent) }
 {
-    if says_alone(bytes) {
+    if is_stop_notice(bytes) {
         serve_alone(&mut twin.log);
         twin.out.clear();
         return Ok(());
@@ -112,12 +112,12 @@ fn take_turn<L: Link>(
     Ok(())
 }
 
-/// A new logger of a pair.
-fn new_twin(alloc: Global, part: Part) -> Result<Twin, NoMemory>
-    ensures { IfOk result (λ twin. standing_of twin ≡ at_start part) }
+/// A new logger of a pair, of a server whose messages have this grammar.
+fn new_twin(alloc: Global, grammar: Grammar, part: Part) -> Result<Twin, NoMemory>
+    ensures { IfOk result (λ twin. standing_of twin ≡ at_start grammar part) }
 {
     Ok(Twin {
-        log: TwinLog::new(alloc, part)?,
+        log: TwinLog::new_by(alloc, grammar, part)?,
         server: None,
         out: TwinOut::new(alloc)?,
     })
@@ -130,7 +130,7 @@ fn serve<L: Link>(alloc: Global, role: &PartRole, link: &mut L) -> Result<Counts
     ensures cut_off { OnErr result (IsCutServing role.now (L.told link.old) (L.told link.new)) }
     ensures no_bind_fault { L.bind_fault_count link.new ≡ L.bind_fault_count link.old }
 {
-    let mut twin = new_twin(alloc, role.part)?;
+    let mut twin = new_twin(alloc, role.logger.profile.grammar(), role.part)?;
     let mut counts = Counts::new();
     for _turn in 0..role.logger.turns {
         take_turn(alloc, role.other, link, &mut twin, &mut counts)?;
@@ -157,7 +157,7 @@ fn serve_and_tell<L: Link, O: Sink>(
 {
     match serve(alloc, role, link) {
         Err(NoMemory) => Err(NodeEnd::NoMemory),
-        Ok(counts) => tell_counts(alloc, &counts, out),
+        Ok(counts) => write_counts(alloc, &counts, out),
     }
 }
 

@@ -57,7 +57,8 @@ IsScript None left_old left_new script = IfSome left_old (λ left. script ≡ le
 
 abbrev pub RunsScript : ClientRole → (left_old left_new : Option (List ℕ)) → (old new : Option (List LinkCall)) → (List ℕ → Type 0)
     → (Option ClientEnd → ℕ → Type 0) → Type 0
-RunsScript role left_old left_new old new Writes Ends = (script : List ℕ) × IsScript role.script left_old left_new script × IsClient role script old new Writes Ends
+RunsScript role left_old left_new old new Writes Ends = (script : List ℕ) × IsScript role.script left_old left_new script
+    × IsClient role script old new Writes Ends
 
 -- why there is no script: the words give none, and a read failed or the source has more bytes than a script may have; or an allocation failed
 abbrev pub ScriptStops : Option Script → (left_old : Option (List ℕ)) → NodeEnd → Type 0
@@ -80,7 +81,8 @@ ScriptRunStops role script old new out_old out_new Spent = IsClient role script 
 ScriptRunStops role script old new out_old out_new _ = ⊥
 
 -- how a client stops: without a script, or with one
-abbrev pub ClientStops : ClientRole → (left_old left_new : Option (List ℕ)) → (old new : Option (List LinkCall)) → (out_old out_new : Option (List ℕ)) → NodeEnd → Type 0
+abbrev pub ClientStops : ClientRole → (left_old left_new : Option (List ℕ)) → (old new : Option (List LinkCall)) → (out_old out_new : Option (List ℕ))
+    → NodeEnd → Type 0
 ClientStops role left_old left_new old new out_old out_new end =
     (ScriptStops role.script left_old end × DoesNothing old new out_old out_new)
     ⊎ ((script : List ℕ) × IsScript role.script left_old left_new script × ScriptRunStops role script old new out_old out_new end)

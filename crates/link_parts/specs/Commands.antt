@@ -13,4 +13,9 @@ option_rule o = record (new_rule (name_of o)) { long = Some (name_of o); action 
 -- a command of nothing but these options: no program's name before the words, no help and no version
 abbrev pub options_app : List OptionName → App
 options_app options =
-    on_top (λ s. record s { no_binary_name = true; disable_help_flag = true; disable_version_flag = true; rules = map option_rule options }) (new_app (codes "ftnode"))
+    on_top (λ s. record s {
+      no_binary_name = true;
+      disable_help_flag = true;
+      disable_version_flag = true;
+      rules = map option_rule options;
+    }) (new_app (codes "ftnode"))

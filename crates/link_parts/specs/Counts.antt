@@ -38,7 +38,13 @@ counts_of calls = record {
 }
 
 abbrev pub plus : Counts → Counts → Counts
-plus a b = record { turns = a.turns + b.turns; datagrams = a.datagrams + b.datagrams; sent = a.sent + b.sent; lost = a.lost + b.lost; failed = a.failed + b.failed }
+plus a b = record {
+  turns = a.turns + b.turns;
+  datagrams = a.datagrams + b.datagrams;
+  sent = a.sent + b.sent;
+  lost = a.lost + b.lost;
+  failed = a.failed + b.failed;
+}
 
 abbrev pub no_calls : Counts
 no_calls = counts_of []
@@ -57,5 +63,6 @@ pub record HasRoom (n : ℕ) (c : Counts) : Type 0 where
 -- the line of the counts
 abbrev pub count_line : Counts → List ℕ
 count_line c =
-    (codes "turns " ++ decimal c.turns) ++ (codes " datagrams " ++ decimal c.datagrams) ++ (codes " sent " ++ decimal c.sent) ++ (codes " lost " ++ decimal c.lost)
+    (codes "turns " ++ decimal c.turns) ++ (codes " datagrams " ++ decimal c.datagrams) ++ (codes " sent " ++ decimal c.sent)
+    ++ (codes " lost " ++ decimal c.lost)
     ++ (codes " failed " ++ decimal c.failed) ++ codes "\n"

@@ -1,12 +1,14 @@
 -- The options of a role, after the role's word: in any order, each as the two words `--NAME` and value or as the one word `--NAME=VALUE`.
-use Rattle.std.specs.Prelude.{◌≡◌, ℕ, Bool, true, false, ◌&&◌, ◌||◌, not, Option, Some, None, is_some, option_map, option_and_then, List, [], ◌∷◌, ◌++◌, find, codes, if◌then◌else◌}
+use Rattle.std.specs.Prelude.{◌≡◌, ℕ, Bool, true, false, ◌&&◌, ◌||◌, not, Option, Some, None, is_some, option_map, option_and_then, List, [], ◌∷◌}
+use Rattle.std.specs.Prelude.{◌++◌, find, codes, if◌then◌else◌}
 use Rattle.std.specs.List.{list_any}
 use Rattle.std.specs.Str.{bytes_eq}
 use Rattle.clap.specs.Lexer.{long_of, short_of}
 use Rattle.clap.specs.Matches.{found_of, first_value}
 use Rattle.clap.specs.declared.parser.matches.ArgMatches.{ArgMatches}
 use Rattle.link_parts.specs.declared.options.OptionName.{OptionName}
-use Rattle.link_parts.specs.declared.options.OptionName.TheVariants.{Local, Logger, SecondLogger, Server, Service, Boot, Isn, Turns, Times, Script, Program, Base, First, Second, Journal, Begin, Part, Other, To, Profile}
+use Rattle.link_parts.specs.declared.options.OptionName.TheVariants.{Local, Logger, SecondLogger, Server, Service, Boot, Isn, Turns, Times, Script}
+use Rattle.link_parts.specs.declared.options.OptionName.TheVariants.{Program, Base, First, Second, Journal, Begin, Compact, Part, Other, To, Profile}
 
 abbrev pub Text : Type 0
 Text = List ℕ
@@ -33,6 +35,7 @@ name_of First = codes "first"
 name_of Second = codes "second"
 name_of Journal = codes "journal"
 name_of Begin = codes "begin"
+name_of Compact = codes "compact"
 name_of Part = codes "part"
 name_of Other = codes "other"
 name_of To = codes "to"
@@ -44,6 +47,7 @@ is_required Script = false
 is_required SecondLogger = false
 is_required Times = false
 is_required Begin = false
+is_required Compact = false
 is_required Profile = false
 is_required _ = true
 

@@ -77,6 +77,11 @@ isn_in uses = number_at 0 (2 ^ 32 - 1) uses option.Isn
 abbrev pub turns_in : List Use → Option ℕ
 turns_in uses = number_at 1 1000000 uses option.Turns
 
+-- a number that may be left out
+abbrev pub number_or : (least most usual : ℕ) → Option Text → Option ℕ
+number_or least most usual None = Some usual
+number_or least most usual (Some word) = number_of least most word
+
 -- a server or a logger takes its turns so many times: once, if `--times` is left out
 abbrev pub times_in : Option Text → Option ℕ
 times_in None = Some 1
@@ -106,12 +111,12 @@ server_in uses = option_and_then (λ service. server_with uses (Some service)) (
 abbrev pub own_server_in : List Use → Option ServerRole
 own_server_in uses = server_with uses None
 
-abbrev pub logger_from : Option Addr → Option ℕ → Option LoggerRole
-logger_from (Some local) (Some turns) = Some (record { local = local; turns = turns })
-logger_from _ _ = None
+abbrev pub logger_from : Option Addr → Option ℕ → Option Profile → Option LoggerRole
+logger_from (Some local) (Some turns) (Some profile) = Some (record { local = local; turns = turns; profile = profile })
+logger_from _ _ _ = None
 
 abbrev pub logger_in : List Use → Option LoggerRole
-logger_in uses = logger_from (addr_at uses option.Local) (all_turns_in uses)
+logger_in uses = logger_from (addr_at uses option.Local) (all_turns_in uses) (profile_at uses)
 
 abbrev pub client_from : Option Addr → Option Addr → Option ℕ → Option ℕ → Option (Option Script) → Option Profile → Option ClientRole
 client_from (Some local) (Some server) (Some isn) (Some turns) (Some script) (Some profile) =
@@ -146,8 +151,8 @@ client_options = option.Local ∷ option.Server ∷ option.Isn ∷ option.Turns 
 abbrev pub pair_options : List OptionName
 pair_options = option.Program ∷ option.Base ∷ option.First ∷ option.Second ∷ option.Turns ∷ []
 
--- in a process that isn't `node`, a server and a logger may take their turns several times, and a server and a client may have a profile. A server of a service
--- of one's own names none
+-- in a process that isn't `node`, a server and a logger may take their turns several times, and each role may have a profile. A server of a service of one's
+-- own names none
 abbrev pub lasting_server_options : List OptionName
 lasting_server_options =
     option.Local ∷ option.Logger ∷ option.SecondLogger ∷ option.Service ∷ option.Boot ∷ option.Isn ∷ option.Turns ∷ option.Times ∷ option.Profile ∷ []
@@ -157,7 +162,7 @@ own_server_options =
     option.Local ∷ option.Logger ∷ option.SecondLogger ∷ option.Boot ∷ option.Isn ∷ option.Turns ∷ option.Times ∷ option.Profile ∷ []
 
 abbrev pub lasting_logger_options : List OptionName
-lasting_logger_options = option.Local ∷ option.Turns ∷ option.Times ∷ []
+lasting_logger_options = option.Local ∷ option.Turns ∷ option.Times ∷ option.Profile ∷ []
 
 abbrev pub lasting_client_options : List OptionName
 lasting_client_options = option.Local ∷ option.Server ∷ option.Isn ∷ option.Turns ∷ option.Script ∷ option.Profile ∷ []

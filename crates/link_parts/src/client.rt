@@ -1,7 +1,8 @@
 //! The client: a live client over a link. It sends a script, and writes the server's bytes as it accepts them.
 
 ghost use Rattle.limits.specs.Limits.{longest_stream};
-ghost use Rattle.std.specs.Prelude.{◌≡◌, ℕ, ◌+◌, ◌%◌, ◌^◌, ◌≤◌, List, [], ◌∷◌, ◌++◌, length, vec_len, None, is_none, false, IfSome, IfOk, IfErr, OnOk, OnErr, IsErrOf};
+ghost use Rattle.std.specs.Prelude.{◌≡◌, ℕ, ◌+◌, ◌%◌, ◌^◌, ◌≤◌, List, [], ◌∷◌, ◌++◌, length, vec_len, None, is_none, false, IfSome, IfOk, IfErr};
+ghost use Rattle.std.specs.Prelude.{OnOk, OnErr, IsErrOf};
 ghost use Rattle.std.specs.Io.KnownBytes.{Appends};
 ghost use Rattle.ft_io.specs.Faults.{Rose};
 ghost use Rattle.ft_io.specs.Sink.{AppendsFront};

@@ -94,7 +94,7 @@ fn line_of(alloc: Global, counts: &Counts) -> Result<Vec<u8>, NoMemory>
 }
 
 /// Writes the line of the counts.
-pub fn tell_counts<O: Sink>(alloc: Global, counts: &Counts, out: &mut O) -> Result<(), NodeEnd>
+pub fn write_counts<O: Sink>(alloc: Global, counts: &Counts, out: &mut O) -> Result<(), NodeEnd>
     ensures written { OnOk result (Appends (O.taken out.old) (O.taken out.new) (count_line counts.now)) }
     ensures stops { IfErr result (TellStops (count_line counts.now) (O.taken out.old) (O.taken out.new)) }
     ensures cause { IsErrOf result NodeEnd.WriteFault → Rose (O.fault_count out.old) (O.fault_count out.new) }

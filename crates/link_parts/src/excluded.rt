@@ -1,10 +1,14 @@
-//! Wrong results that the contracts of this crate exclude. Each function calls another one of the crate, and promises of its result what a wrong body would make
-//! false. It is proved from the other's contract alone, so it is no longer proved once that contract lets the wrong body pass.
+//! Wrong results that the contracts of this crate exclude. Each function calls another one of the crate, and promises of its result what a wrong body would
+//! make false. It is proved from the other's contract alone, so it is no longer proved once that contract lets the wrong body pass.
 
-ghost use Rattle.std.specs.Prelude.{◌≡◌, ◌<◌, ◌≤◌, ◌-◌, ◌^◌, [], Some, Err, slice_get, List, IfOk, IsOk, IsErrOf};
+ghost use Rattle.std.specs.Prelude.{◌≡◌, ◌<◌, ◌≤◌, ◌-◌, ◌^◌, [], ◌∷◌, Some, Err, slice_get, List, IfOk, IsOk, OnOk, IsErrOf};
 ghost use Rattle.seq_arith.specs.MessageGrammar.{reading};
 ghost use Rattle.seq_arith.specs.declared.kinds.BadMsg.{BadMsg};
+ghost use Rattle.seq_arith.specs.declared.kinds.Grammar.TheVariants as grammars;
+ghost use Rattle.tcp_rules.specs.declared.profile.Profile.TheVariants as profiles;
+ghost use Rattle.ft_io.specs.declared.link_call.LinkCall.TheVariants.{Bound};
 ghost use Rattle.ft_io.specs.Told.{Tells};
+ghost use Rattle.link_parts.specs.LoggerTurns.{LoggerTurn, calls_of};
 ghost use Rattle.link_parts.specs.Options.{Use, HasValues, value_of};
 ghost use Rattle.link_parts.specs.Roles.{turns_in, times_in};
 ghost use Rattle.link_parts.specs.declared.options.OptionName.TheVariants as option;
@@ -19,6 +23,7 @@ use crate::status::NodeEnd;
 use clap::ArgMatches;
 use ft_io::{Link, NoMemory, Sink};
 use logger_store::{LogStore, MsgOut};
+use logger_wire::Grammar;
 use std::alloc::Global;
 
 /// A logger ends with a link fault only where its bind has failed, and then it has made no call: the clauses `bind_cause` and `stops` of `run_logger`.
@@ -45,7 +50,39 @@ fn no_message_wants_memory(
     requires { (bad : BadMsg) × (reading bytes.now ≡ Err bad) }
     ensures { IsOk result }
 {
-    answer(alloc, store, bytes)
+    answer(alloc, Grammar::Plain, store, bytes)
+}
+
+/// To a plain logger a wide message is none, whatever it says: the clauses `next` and `answer` of `answer`.
+#[tactic(auto, unfolding(seq_arith::specs::MessageGrammar::reading_by, seq_arith::specs::Bytes::word_at))]
+fn a_plain_logger_takes_a_wide_message(
+    alloc: Global,
+    store: &mut LogStore,
+) -> Result<MsgOut, NoMemory>
+    ensures unchanged { OnOk result (store.new ≡ store.old) }
+    ensures unanswered { IfOk result (λ out. out ≡ []) }
+{
+    answer(
+        alloc,
+        Grammar::Plain,
+        store,
+        &[70, 84, 2, 1, 0, 16, 0, 0, 0, 0, 0, 0, 0, 0, 0, 1],
+    )
+}
+
+/// A logger whose words say `wan` takes wide messages, and answers in their grammar: the clause `done` of `run_logger`.
+fn a_logger_ignores_the_profile<L: Link, O: Sink>(
+    alloc: Global,
+    role: &LoggerRole,
+    link: &mut L,
+    out: &mut O,
+) -> Result<(), NodeEnd>
+    requires turns { role.now.turns ≤ most_turns }
+    requires chosen { role.now.profile ≡ profiles.Wan }
+    ensures { OnOk result ((turns : List LoggerTurn)
+        × Tells (L.told link.old) (L.told link.new) (Bound role.now.local ∷ calls_of grammars.Wide turns)) }
+{
+    run_logger(alloc, role, link, out)
 }
 
 /// The fourth step of a pair is the wait for the first server, and the second one starts only after it: the contract of `steps`.

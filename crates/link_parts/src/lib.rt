@@ -6,7 +6,7 @@
 #![tactic(auto)]
 
 pub use client::run_client;
-pub use counts::{Counts, tell_counts};
+pub use counts::{Counts, write_counts};
 pub use logger::run_logger;
 pub use options::{OptionName, read_options};
 pub use pair::run_pair;
@@ -14,10 +14,10 @@ pub use program::{Program, is_name};
 pub use receiving::{DATAGRAM_ROOM, receive};
 pub use role::{
     ClientRole, LoggerRole, Loggers, NodeRole, PairRole, ServerRole, addr_at, logger_role,
-    read_lasting_role, read_own_role, read_role,
+    number_or, read_lasting_role, read_own_role, read_role,
 };
 pub use status::{NodeEnd, Status};
-pub use telling::tell;
+pub use telling::report_end;
 
 mod client;
 mod counts;

@@ -1,38 +1,45 @@
-//! The logger: a log that answers over a link. Each turn is one receive and the answer to what came, which is handed to send before the next receive.
+//! The logger: a log that answers over a link. Each turn is one receive and the answer to what came, which is handed to send before the next receive. Its words
+//! say once of which grammar the messages are: those of the other one are no messages.
 
 ghost use Rattle.std.specs.Prelude.{List, ◌≡◌, ◌≤◌, [], ◌∷◌, true, OnOk, OnErr, IfOk, IfErr, IsErrOf};
 ghost use Rattle.std.specs.Io.KnownBytes.{Appends};
 ghost use Rattle.ft_io.specs.Faults.{Rose};
-ghost use Rattle.seq_arith.specs.MessageGrammar.{reading};
+ghost use Rattle.seq_arith.specs.MessageGrammar.{reading_by};
 ghost use Rattle.ft_io.specs.Told.{Tells};
 ghost use Rattle.ft_io.specs.declared.link_call.LinkCall.{LinkCall};
 ghost use Rattle.ft_io.specs.declared.link_call.LinkCall.TheVariants.{Bound};
 ghost use Rattle.std.specs.declared.option.Option.{Option};
-ghost use Rattle.logger_store.specs.StoreState.{answer_bytes, IsAnswer};
+ghost use Rattle.logger_store.specs.StoreState.{answer_bytes_by};
 ghost use Rattle.link_parts.specs.Counts.{HasRoom};
 ghost use Rattle.link_parts.specs.Ends.{UnlessFault};
 ghost use Rattle.link_parts.specs.LoggerTurns.{log_with, answer_for, wants_in};
 ghost use Rattle.link_parts.specs.LoggerParts.{HasTurned, IsStarved, Replies, HasCounted, IsCutServing, IsLogger, LoggerStops};
 ghost use Rattle.link_parts.specs.Ranges.{most_turns};
 
-use crate::counts::{Counts, tell_counts};
+use crate::counts::{Counts, write_counts};
 use crate::receiving::{DATAGRAM_ROOM, receive};
 use crate::role::LoggerRole;
 use crate::status::NodeEnd;
 use ft_io::{Addr, Failed, Link, NoMemory, Sink};
 use logger_store::{LogStore, MsgOut};
-use logger_wire::read_msg;
+use logger_wire::{Grammar, read_msg_by};
 use std::alloc::Global;
 
-/// Applies to the log the message that the bytes spell, and returns the answer. Returns no bytes if there is no answer or the bytes are no message.
-pub(crate) fn answer(alloc: Global, store: &mut LogStore, bytes: &[u8]) -> Result<MsgOut, NoMemory>
-    ensures next { OnOk result (store.new ≡ log_with store.old (reading bytes.now)) }
-    ensures answer { IfOk result (λ out. out ≡ answer_bytes (answer_for store.old (reading bytes.now))) }
-    ensures memory { OnErr result (wants_in store.old (reading bytes.now) ≡ true) }
+/// Applies to the log the message that the bytes spell in this grammar, and returns the answer. Returns no bytes if there is no answer or the bytes are no
+/// message of it.
+pub(crate) fn answer(
+    alloc: Global,
+    grammar: Grammar,
+    store: &mut LogStore,
+    bytes: &[u8],
+) -> Result<MsgOut, NoMemory>
+    ensures next { OnOk result (store.new ≡ log_with store.old (reading_by grammar bytes.now)) }
+    ensures answer { IfOk result (λ out. out ≡ answer_bytes_by grammar (answer_for store.old (reading_by grammar bytes.now))) }
+    ensures memory { OnErr result (wants_in store.old (reading_by grammar bytes.now) ≡ true) }
 {
     let mut out = MsgOut::new();
-    if let Ok(m) = read_msg(bytes) {
-        store.answer(alloc, &m, &mut out)?;
+    if let Ok(m) = read_msg_by(grammar, bytes) {
+        store.answer_by(alloc, grammar, &m, &mut out)?;
     }
     Ok(out)
 }
@@ -54,35 +61,41 @@ fn reply<L: Link>(link: &mut L, to: Addr, answer: &MsgOut, counts: &mut Counts)
 /// Takes one turn: receives once, and sends the answer to what came.
 fn take_turn<L: Link>(
     alloc: Global,
+    grammar: Grammar,
     link: &mut L,
     store: &mut LogStore,
     counts: &mut Counts,
 ) -> Result<(), NoMemory>
     requires { HasRoom 2 counts.old }
-    ensures turned { OnOk result (HasTurned store.old store.new (L.told link.old) (L.told link.new) counts.old counts.new) }
-    ensures cut_off { OnErr result ((calls : List LinkCall) × IsStarved store.old calls × Tells (L.told link.old) (L.told link.new) calls) }
+    ensures turned { OnOk result (HasTurned grammar store.old store.new (L.told link.old) (L.told link.new) counts.old counts.new) }
+    ensures cut_off { OnErr result ((calls : List LinkCall) × IsStarved grammar store.old calls × Tells (L.told link.old) (L.told link.new) calls) }
     ensures no_bind_fault { L.bind_fault_count link.new ≡ L.bind_fault_count link.old }
 {
     let mut buffer = [0; DATAGRAM_ROOM];
     let Some((len, from)) = receive(link, &mut buffer, counts) else {
         return Ok(());
     };
-    let answer = answer(alloc, store, &buffer[..len])?;
+    let answer = answer(alloc, grammar, store, &buffer[..len])?;
     reply(link, from, &answer, counts);
     Ok(())
 }
 
 /// Takes this many turns, beginning with an empty log, and returns the counts of their calls.
-fn serve<L: Link>(alloc: Global, link: &mut L, turns: u64) -> Result<Counts, NoMemory>
+fn serve<L: Link>(
+    alloc: Global,
+    grammar: Grammar,
+    link: &mut L,
+    turns: u64,
+) -> Result<Counts, NoMemory>
     requires { turns ≤ most_turns }
-    ensures served { IfOk result (λ counts. HasCounted turns (L.told link.old) (L.told link.new) counts) }
-    ensures cut_off { OnErr result (IsCutServing turns (L.told link.old) (L.told link.new)) }
+    ensures served { IfOk result (λ counts. HasCounted grammar turns (L.told link.old) (L.told link.new) counts) }
+    ensures cut_off { OnErr result (IsCutServing grammar turns (L.told link.old) (L.told link.new)) }
     ensures no_bind_fault { L.bind_fault_count link.new ≡ L.bind_fault_count link.old }
 {
     let mut store = LogStore::new(alloc);
     let mut counts = Counts::new();
     for _turn in 0..turns {
-        take_turn(alloc, link, &mut store, &mut counts)?;
+        take_turn(alloc, grammar, link, &mut store, &mut counts)?;
     }
     Ok(counts)
 }
@@ -104,9 +117,9 @@ fn serve_and_tell<L: Link, O: Sink>(
     ensures no_bind_fault { L.bind_fault_count link.new ≡ L.bind_fault_count link.old }
     ensures no_write_fault { UnlessFault result (O.fault_count out.new ≡ O.fault_count out.old) }
 {
-    match serve(alloc, link, role.turns) {
+    match serve(alloc, role.profile.grammar(), link, role.turns) {
         Err(NoMemory) => Err(NodeEnd::NoMemory),
-        Ok(counts) => tell_counts(alloc, &counts, out),
+        Ok(counts) => write_counts(alloc, &counts, out),
     }
 }
 

@@ -38,13 +38,15 @@ pub enum OptionName {
     Journal,
     /// Whether a logger makes the file in which it keeps its log. No role of `node` has this option.
     Begin,
+    /// The longest file of a logger that isn't replaced by a shorter one, in bytes. No role of `node` has this option.
+    Compact,
     /// Which of the two loggers this one is. No role of `node` has this option.
     Part,
     /// The other logger. No role of `node` has this option.
     Other,
     /// The logger that serves alone from now on. No role of `node` has this option.
     To,
-    /// What suits a server's or a client's path. No role of `node` has this option.
+    /// What suits the path to a server's clients. Its logger and its clients have the same. No role of `node` has this option.
     Profile,
 }
 
@@ -70,6 +72,7 @@ impl OptionName {
             OptionName::Second => "second",
             OptionName::Journal => "journal",
             OptionName::Begin => "begin",
+            OptionName::Compact => "compact",
             OptionName::Part => "part",
             OptionName::Other => "other",
             OptionName::To => "to",
@@ -87,6 +90,7 @@ impl OptionName {
                 | OptionName::SecondLogger
                 | OptionName::Times
                 | OptionName::Begin
+                | OptionName::Compact
                 | OptionName::Profile
         )
     }

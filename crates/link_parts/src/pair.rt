@@ -201,7 +201,7 @@ fn write_number<O: Sink>(out: &mut O, n: i32) -> Result<(), Failed>
 }
 
 /// Writes the line of a child's status.
-fn tell_status<O: Sink>(out: &mut O, name: ChildName, status: i32) -> Result<(), Failed>
+fn write_status<O: Sink>(out: &mut O, name: ChildName, status: i32) -> Result<(), Failed>
     ensures whole { OnOk result (Appends (O.taken out.old) (O.taken out.new) (status_line name status)) }
     ensures front { OnErr result (AppendsFront (O.taken out.old) (O.taken out.new) (status_line name status)) }
     ensures cause { OnErr result (Rose (O.fault_count out.old) (O.fault_count out.new)) }
@@ -260,7 +260,7 @@ fn wait<P: Spawner, O: Sink>(
 {
     match kids.wait(number) {
         Err(Failed) => Err(PairFault::Child),
-        Ok(status) => match tell_status(out, name, status) {
+        Ok(status) => match write_status(out, name, status) {
             Err(Failed) => Err(PairFault::Write),
             Ok(()) => Ok(()),
         },

@@ -5,7 +5,8 @@ ghost use Rattle.link_parts.specs.declared.role.NodeRole.TheVariants as roles;
 ghost use Rattle.link_parts.specs.Options.{Use, HasValues, value_of};
 ghost use Rattle.link_parts.specs.declared.options.OptionName.TheVariants as option;
 ghost use Rattle.link_parts.specs.Ranges.{most_turns, ServerInRange, IsShort, ClientInRange, InRange};
-ghost use Rattle.link_parts.specs.Roles.{addr_at as addr_lem, number_at as number_lem, service_at as service_lem, script_at as script_lem};
+ghost use Rattle.link_parts.specs.Roles.{addr_at as addr_lem, number_at as number_lem, number_or as number_or_lem, service_at as service_lem};
+ghost use Rattle.link_parts.specs.Roles.{script_at as script_lem};
 ghost use Rattle.link_parts.specs.Roles.{program_at as program_lem};
 ghost use Rattle.link_parts.specs.Roles.{loggers_in, times_in, all_turns_in, profile_spelled, profile_at as profile_lem};
 ghost use Rattle.link_parts.specs.Roles.{server_with as server_lem, server_in, own_server_in, logger_in, client_in, pair_in};
@@ -56,10 +57,11 @@ const OWN_SERVER_OPTIONS: [OptionName; 8] = [
 
 const LOGGER_OPTIONS: [OptionName; 2] = [OptionName::Local, OptionName::Turns];
 
-const LASTING_LOGGER_OPTIONS: [OptionName; 3] = [
+const LASTING_LOGGER_OPTIONS: [OptionName; 4] = [
     OptionName::Local,
     OptionName::Turns,
     OptionName::Times,
+    OptionName::Profile,
 ];
 
 const CLIENT_OPTIONS: [OptionName; 5] = [
@@ -130,6 +132,8 @@ pub struct LoggerRole {
     pub local: Addr,
     /// How many turns it takes, 1 to 4 * 10^18.
     pub turns: u64,
+    /// Its server's profile: messages of another one's grammar are no messages.
+    pub profile: Profile,
 }
 
 /// A client that sends a script.
@@ -197,6 +201,22 @@ fn number_at(matches: &ArgMatches<'_>, option: OptionName, least: u64, most: u64
     ensures range { IfSome result (λ n. (least ≤ n) × (n ≤ most)) }
 {
     read_number(matches.get_str(option.word())?.as_bytes(), least, most)
+}
+
+/// Returns the number that an option gives, and the usual one where the option is left out. `None` where its value spells no number from `least` to `most`.
+pub fn number_or(
+    matches: &ArgMatches<'_>,
+    option: OptionName,
+    least: u64,
+    most: u64,
+    usual: u64,
+) -> Option<u64>
+    ensures { (uses : List Use) → HasValues uses matches.now → result ≡ number_or_lem least most usual (value_of uses option) }
+{
+    match matches.get_str(option.word()) {
+        None => Some(usual),
+        Some(word) => read_number(word.as_bytes(), least, most),
+    }
 }
 
 /// Returns how many times the turns are taken.
@@ -326,6 +346,7 @@ pub fn logger_role(matches: &ArgMatches<'_>) -> Option<LoggerRole>
     Some(LoggerRole {
         local: addr_at(matches, OptionName::Local)?,
         turns: all_turns_at(matches)?,
+        profile: profile_at(matches)?,
     })
 }
 
@@ -465,7 +486,7 @@ pub fn read_role(alloc: Global, words: &[String]) -> Result<Option<NodeRole>, No
     }
 }
 
-/// Reads a role as [`read_role`] does. The words of a server and of a logger may have `--times` too, and those of a server and of a client `--profile`.
+/// Reads a role as [`read_role`] does. The words of a server and of a logger may have `--times` too, and those of each role `--profile`.
 #[tactic(auto, unfolding(crate::specs::Roles::lasting_role_of))]
 pub fn read_lasting_role(alloc: Global, words: &[String]) -> Result<Option<NodeRole>, NoMemory>
     ensures role { IfOk result (λ role. role ≡ lasting_role_of (map string_bytes words.now)) }
@@ -483,8 +504,8 @@ pub fn read_lasting_role(alloc: Global, words: &[String]) -> Result<Option<NodeR
     }
 }
 
-/// Reads the role of a program with a service of its own: a server, without `--service`, or a logger. Both may have `--times`, and the
-/// server `--profile`.
+/// Reads the role of a program with a service of its own: a server, without `--service`, or a logger. Both may have `--times` and
+/// `--profile`.
 #[tactic(auto, unfolding(crate::specs::Roles::own_role_of))]
 pub fn read_own_role(alloc: Global, words: &[String]) -> Result<Option<NodeRole>, NoMemory>
     ensures role { IfOk result (λ role. role ≡ own_role_of (map string_bytes words.now)) }

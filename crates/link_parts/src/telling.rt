@@ -62,7 +62,7 @@ fn code(end: NodeEnd) -> u8
 }
 
 /// Writes the line of an end and returns its status, or 5 where that write failed.
-pub fn tell<E: Sink>(err: &mut E, end: NodeEnd) -> Status
+pub fn report_end<E: Sink>(err: &mut E, end: NodeEnd) -> Status
     ensures told { TellsEnd end (E.taken err.old) (E.taken err.new) (E.fault_count err.old) (E.fault_count err.new) result.code }
     ensures early { result.code ≡ 0 → ⊥ }
     ensures fault { is_fault_status result.code ≡ false → is_fault end ≡ false }

@@ -6,6 +6,7 @@ use Rattle.std.proofs.lemmas.Bool.{and_parts}
 use Rattle.ft_io.specs.declared.Key.{Key}
 use Rattle.ft_io.specs.Key.{key_eq}
 use Rattle.server_trait.specs.Service.{Machine}
+use Rattle.tcp_rules.specs.Profile.{grammar_of}
 use Rattle.seq_arith.specs.Message.{Message, Numbers}
 use Rattle.seq_arith.specs.Packet.{Segment, segment_size}
 use Rattle.seq_arith.specs.Message.Body.{OpenMsg}
@@ -20,7 +21,7 @@ use Rattle.ft_model.specs.Node.Input.{Packet_comes, Message_comes, Noise_comes, 
 use Rattle.ft_model.specs.Opening.{initial_number, numbers_for, is_syn}
 use Rattle.ft_model.specs.Restart.{Fetched, is_fetched, wanted}
 use Rattle.ft_model.specs.ServingTurn.{newcomers, is_strange, concerns}
-use Rattle.ft_model.specs.Wire.{Wire, wire_of}
+use Rattle.ft_model.specs.Wire.{Wire, wire_by}
 use Rattle.ft_model.proofs.Lists.{all_find, found_passes, same_key, none_is_some}
 use Rattle.node_serving.specs.declared.identity.Identity.{Identity}
 use Rattle.node_serving.specs.declared.serving.Serving.{Serving}
@@ -84,12 +85,12 @@ same_turn service node input key m n pending many place after sent same counts (
 pub newcomer_opens : {State : Type 0} (service : Machine State) (node : Node) (key : Key) (clients : Clients) (segment : Segment) (after : Option Place) (sent : List Wire)
     → is_syn_of node key (Packet_comes segment) ≡ true → pending_of clients.known < 64 → ServesKey service node key clients None (Packet_comes segment) after sent
     → (after ≡ Some (Opens (numbers_for node.isn clients.opened segment)))
-    × (of_key key sent ≡ map wire_of (told_by node.boot (OpenMsg (numbers_for node.isn clients.opened segment)) ∷ []))
+    × (of_key (grammar_of node.profile) key sent ≡ map (wire_by (grammar_of node.profile)) (told_by node.boot (OpenMsg (numbers_for node.isn clients.opened segment)) ∷ []))
 newcomer_opens service node key clients segment after sent syn few turn =
     let parts = and_parts (concerns node (Packet_comes segment) key) (is_syn segment) syn in
     let its = and_parts (is_for node.server segment) (key_eq (source_of segment) key) parts.0 in
     let opens = opens_newcomer service node segment key (same_key (source_of segment) key its.1) its.0 clients.opened (pending_of clients.known) after turn.packets parts.1 few turn.turn in
-    (opens.0, turn.its.wires ∙ ap (map wire_of) opens.1)
+    (opens.0, turn.its.wires ∙ ap (map (wire_by (grammar_of node.profile))) opens.1)
 
 module _ {State : Type 0} (services : ℕ → Machine State) where
   -- the stage of a node that asks, or fetches
@@ -189,7 +190,7 @@ module _ {State : Type 0} (services : ℕ → Machine State) where
                 complete = complete;
                 packets = [];
                 turn = subst (λ o. Revived service here key o None []) (sym none) (refl, refl);
-                its = record { wires = ap (of_key key) r.put ∙ silent_fetched key fetched r.told fresh r.whose; spelled = tt };
+                its = record { wires = ap (of_key (grammar_of here.profile) key) r.put ∙ silent_fetched (grammar_of here.profile) key fetched r.told fresh r.whose; spelled = tt };
               };
               has = subst (λ o. StandsFor service here key o None) (sym (r.others key fresh)) tt;
             }
@@ -205,7 +206,7 @@ module _ {State : Type 0} (services : ℕ → Machine State) where
                 complete = complete;
                 packets = k.packets;
                 turn = subst (λ o. Revived service here key o (Some k.after) k.packets) (sym is) k.turn;
-                its = record { wires = ap (of_key key) r.put ∙ (ap (λ x. of_key x r.told) (sym same) ∙ k.wires); spelled = k.spelled };
+                its = record { wires = ap (of_key (grammar_of here.profile) key) r.put ∙ (ap (λ x. of_key (grammar_of here.profile) x r.told) (sym same) ∙ k.wires); spelled = k.spelled };
               };
               has = subst (λ x. StandsFor service here x (slot_of x s) (Some k.after)) same k.stands;
             }
@@ -227,7 +228,7 @@ module _ {State : Type 0} (services : ℕ → Machine State) where
           keys = λ key sound. subst (λ o. KeyLed key before input (fetches_or_serves o count fetched) sent (stage.Fetching f)) (sym r.missing) (led key);
         }
     leads_on before at input count fetched (stage.Serving s) sent told law_of (complete, r) =
-        let whose : AllByRecursion (IsForFetched fetched) sent = subst (AllByRecursion (IsForFetched fetched)) (sym r.put) r.whose in record {
+        let whose : AllByRecursion (IsForFetched (grammar_of here.profile) fetched) sent = subst (AllByRecursion (IsForFetched (grammar_of here.profile) fetched)) (sym r.put) r.whose in record {
           stands = subst (λ o. StandsAt services here (fetches_or_serves o count fetched) (stage.Serving s) who.kind) (sym complete) r.known;
           sends = subst (λ o. RestartSends service here before input (fetches_or_serves o count fetched) sent) (sym complete)
               (subst (λ o. EndSends service here o sent) (sym told) whose);

@@ -1,5 +1,5 @@
 -- A server's turns follow one another: so do their calls, their counts add up, and they stay lawful as long as the premises hold.
-use Rattle.std.proofs.Common.{◌≡◌, ◌∙◌, inl, inr, ℕ, true, false, suc, ◌+◌, ◌*◌, ◌<◌, ◌≤◌, ◌^◌, cond, add-one, refl, sym, ap, ap₂, subst, Option, None, Some, List, [], ◌∷◌, ◌++◌, length, take, get_or, map, append-nil, length-append, arith, Result, Ok, Err}
+use Rattle.std.proofs.Common.{◌≡◌, ◌∙◌, inl, inr, ℕ, true, false, suc, ◌+◌, ◌*◌, ◌<◌, ◌≤◌, ◌^◌, add-one, refl, sym, ap, ap₂, subst, Option, None, Some, List, [], ◌∷◌, ◌++◌, length, take, get_or, map, append-nil, length-append, arith, Result, Ok, Err}
 use Rattle.std.proofs.lemmas.List.{map-append, length-map, length-take-le}
 use Rattle.std.proofs.lemmas.List.Concat.{flat_map-append}
 use Rattle.std.proofs.Math.Seq.{take-suc}
@@ -12,17 +12,14 @@ use Rattle.ft_io.specs.Link.{send_told}
 use Rattle.ft_io.specs.Sink.{AppendsFront}
 use Rattle.ft_io.specs.Told.{Tells}
 use Rattle.ft_io.proofs.Tellings.{tells_on, none_told}
-use Rattle.seq_arith.specs.PacketGrammar as packets
-use Rattle.seq_arith.specs.MessageGrammar as messages
 use Rattle.ft_model.specs.Node as law
 use Rattle.ft_model.specs.Lawful.{LawfulTurn, node_after, fence, hello}
 use Rattle.server_trait.specs.Service.{Machine}
-use Rattle.ft_model.specs.World.{segment_or_noise, message_or_noise}
-use Rattle.ft_model.specs.Wire.{Wire, wire_of}
+use Rattle.ft_model.specs.Wire.{Wire, wire_by}
 use Rattle.server_node.specs.declared.input.TurnEnd.{TurnEnd}
 use Rattle.server_node.specs.declared.input.TurnEnd.TheVariants as end
 use Rattle.server_node.specs.Apart.{TurnsApart}
-use Rattle.node_serving.specs.Identity.{node_of}
+use Rattle.node_serving.specs.Identity.{node_of, grammar_in}
 use Rattle.server_node.specs.Stages.{StageStands, NodeGoes, IsFence}
 use Rattle.link_parts.specs.declared.counts.Counts.{Counts}
 use Rattle.link_parts.specs.declared.role.Loggers.{Loggers}
@@ -32,31 +29,16 @@ use Rattle.link_parts.specs.declared.status.NodeEnd.TheVariants as ends
 use Rattle.link_parts.specs.Counts.{count_line, counts_of, with_calls, HasRoom}
 use Rattle.node_link.specs.KeyLife.{AreFairFor}
 use Rattle.node_link.specs.ServerStages.{stage_after}
-use Rattle.link_parts.specs.Receipt.{Received, datagram, received_as, IsQuiet}
+use Rattle.link_parts.specs.Receipt.{Received, received_as}
 use Rattle.link_parts.specs.LineOutput.{TellStops}
-use Rattle.node_link.specs.ServerTurns.{is_from_logger, input_from, Sent, wires_in, address_of, second_for, sent_second, sent_as, sending, ServerTurn, turn_calls, server_calls}
+use Rattle.node_link.specs.ServerTurns.{input_from, Sent, wires_in, address_of, second_for, sent_second, sent_as, sending, ServerTurn, turn_calls, server_calls}
 use Rattle.link_parts.specs.ServiceNumber.{kind_in}
-use Rattle.node_link.specs.Incarnation.{service_of, first_of, input_in, IsFairAt, AreFair, fence_in}
+use Rattle.node_link.specs.Incarnation.{service_of, first_of, grammar_for, input_in, IsFairAt, AreFair, fence_in}
 use Rattle.node_link.specs.ServerLife.{IsServer, IsCutServer, ServerStops}
 use Rattle.node_link.specs.ServerParts.{Standing, HasHanded, HasSent, identity_of, HasBooted, Goes, HasTurned, EndsTurn, TurnStops, IsAfterTurns, StandsAt, StandsForKey, IsServing, HasServed, IsCutServing, ServeStops}
 use Rattle.node_link.proofs.KeyGoing.{ServerGoes, GoesFor, begins_at, none_asking, server_goes}
 use Rattle.link_parts.proofs.Calls.{counts_on, with_both, with_none, few_calls, IsFew}
 use Rattle.link_parts.specs.Ranges.{most_turns}
-
--- what came, as an input
-pub message_in : (loggers : Loggers) (from : Addr) (bytes : List ℕ) (r : Received) → r ≡ datagram from bytes → is_from_logger loggers from ≡ true
-    → message_or_noise (messages.reading bytes) ≡ input_from loggers r
-message_in loggers from bytes r e is =
-    ap (λ b. cond b (message_or_noise (messages.reading bytes)) (segment_or_noise (packets.reading bytes))) (sym is) ∙ sym (ap (input_from loggers) e)
-
-pub packet_in : (loggers : Loggers) (from : Addr) (bytes : List ℕ) (r : Received) → r ≡ datagram from bytes → is_from_logger loggers from ≡ false
-    → segment_or_noise (packets.reading bytes) ≡ input_from loggers r
-packet_in loggers from bytes r e is =
-    ap (λ b. cond b (message_or_noise (messages.reading bytes)) (segment_or_noise (packets.reading bytes))) (sym is) ∙ sym (ap (input_from loggers) e)
-
-pub tick_in : (loggers : Loggers) (r : Received) → IsQuiet r → law.Input.Tick_comes ≡ input_from loggers r
-tick_in loggers r (inl e) = sym (ap (input_from loggers) e)
-tick_in loggers r (inr e) = sym (ap (input_from loggers) e)
 
 -- bytes that were handed to send
 pub handed : (to : Addr) (bytes : List ℕ) (old new : Option (List LinkCall)) (c c' : Counts) (r : Result (Unit {0}) Failed) → Tells old new (send_told to bytes r)
@@ -141,7 +123,7 @@ room_for_packet loggers wires i old new c counts lt room h =
 
 -- a turn that ended the node
 pub turn_stops : {State : Type 0} → (loggers : Loggers) (before : Standing State) (old new : Option (List LinkCall)) (r : Received) (input : law.Input) (e : TurnEnd) → Tells old new (received_as r ∷ [])
-    → input ≡ input_from loggers r → IsFence e (λ newer. (standing : law.Stage) → fence (node_of before.who standing) input ≡ Some newer)
+    → input ≡ input_from (grammar_in before.who) loggers r → IsFence e (λ newer. (standing : law.Stage) → fence (node_of before.who standing) input ≡ Some newer)
     → (e ≡ end.NoMemory → (standing : law.Stage) → fence (node_of before.who standing) input ≡ None) → TurnStops loggers before old new e
 turn_stops loggers before old new r input end.NoMemory t is f none =
     record { received = r; tells = t; ends = subst (λ i. (standing : law.Stage) → fence (node_of before.who standing) i ≡ None) is (none refl) }
@@ -159,7 +141,7 @@ longer role at_boot turns turn count le few =
 module _ {State : Type 0} (services : ℕ → Machine State) where
   -- a turn, from its parts
   pub turned : (loggers : Loggers) (before after : Standing State) (old mid new : Option (List LinkCall)) (c between counts : Counts) (r : Received) (input : law.Input) (wires : List Wire)
-      → Tells old mid (received_as r ∷ []) → between ≡ with_calls c (received_as r ∷ []) → input ≡ input_from loggers r → length wires ≤ 2 ^ 64 → HasSent loggers wires mid new between counts
+      → Tells old mid (received_as r ∷ []) → between ≡ with_calls c (received_as r ∷ []) → input ≡ input_from (grammar_in before.who) loggers r → length wires ≤ 2 ^ 64 → HasSent loggers wires mid new between counts
       → after.who ≡ before.who → Goes services before input after wires → TurnsApart (services before.who.kind) before.who input before.stage after.stage wires
       → ((standing : law.Stage) → fence (node_of before.who standing) input ≡ None) → HasTurned services loggers before after old new c counts
   turned loggers before after old mid new c between counts r input wires t k is few sent who goes apart unfenced =
@@ -177,7 +159,7 @@ module _ {State : Type 0} (services : ℕ → Machine State) where
 
   -- a boot, from its parts
   pub booted : (role : ServerRole) (s : Standing State) (old new : Option (List LinkCall)) (c counts : Counts) (wires : List Wire) → HasSent role.loggers wires old new c counts
-      → wires ≡ map wire_of (hello (first_of role)) → s.who ≡ identity_of role → StageStands (service_of services role) (first_of role) s.stage → HasBooted services role s old new c counts
+      → wires ≡ map (wire_by (grammar_for role)) (hello (first_of role)) → s.who ≡ identity_of role → StageStands (service_of services role) (first_of role) s.stage → HasBooted services role s old new c counts
   booted role s old new c counts wires h is who stands =
       record {
         at_boot = h.sent;
@@ -267,13 +249,18 @@ module _ {State : Type 0} (services : ℕ → Machine State) where
       → HasTurned services role.loggers s s' mid new c counts → IsServing services role (i + 1) s' old new counts
   serving_on role i s s' old mid new c counts h t =
       let calls : List LinkCall = server_calls role.loggers h.at_boot h.turns in
+      let read : input_from (grammar_in s.who) role.loggers t.turn.received ≡ input_in role t.turn.received =
+      ap (λ w. input_from (grammar_in w) role.loggers t.turn.received) h.who in
+      let goes : Goes services s (input_in role t.turn.received) s' (wires_in t.turn.sent) = subst (λ i. Goes services s i s' (wires_in t.turn.sent)) read t.goes in
+      let apart : TurnsApart (services s.who.kind) s.who (input_in role t.turn.received) s.stage s'.stage (wires_in t.turn.sent) =
+      subst (λ i. TurnsApart (services s.who.kind) s.who i s.stage s'.stage (wires_in t.turn.sent)) read t.apart in
       let g : ServerGoes services (identity_of role) (input_in role t.turn.received) (stage_after (first_of role) role.loggers h.turns) s.stage (wires_in t.turn.sent) s'.stage =
-      goes_on role h.turns t.turn s s' h.who t.goes t.apart h.at in
-      let stands : AreFair services role (t.turn ∷ h.turns) → IsAfterTurns services role (t.turn ∷ h.turns) s' = lawful_on role h.turns t.turn s s' h.who t.goes h.stands in
+      goes_on role h.turns t.turn s s' h.who goes apart h.at in
+      let stands : AreFair services role (t.turn ∷ h.turns) → IsAfterTurns services role (t.turn ∷ h.turns) s' = lawful_on role h.turns t.turn s s' h.who goes h.stands in
       let keys : (key : Key) → AreFairFor (service_of services role) (first_of role) key role.loggers (t.turn ∷ h.turns) → StandsForKey services role key (t.turn ∷ h.turns) s' =
       λ key. key_on role h.turns t.turn s s' key g (h.each_key key) in
       let none : fence_in role t.turn.received ≡ None =
-      subst (λ w. fence (node_of w law.Stage.Asking) (input_in role t.turn.received) ≡ None) h.who (t.unfenced law.Stage.Asking) in
+      subst (λ w. fence (node_of w law.Stage.Asking) (input_from (grammar_in w) role.loggers t.turn.received) ≡ None) h.who (t.unfenced law.Stage.Asking) in
       record {
         at_boot = h.at_boot;
         turns = t.turn ∷ h.turns;
@@ -311,7 +298,7 @@ module _ {State : Type 0} (services : ℕ → Machine State) where
       record { at_boot = h.at_boot; turns = h.turns; count_is = h.count_is ∙ e; tells = h.tells; serves = h.serves; counts_are = h.counts_are }
 
   cut_by : (role : ServerRole) (i : ℕ) (s : Standing State) (old mid new : Option (List LinkCall)) (counts : Counts) (Ends : Received → Type 0) (Why : law.Input → Type 0) → i < role.turns
-      → IsServing services role i s old mid counts → (t : EndsTurn role.loggers mid new Why) → ((r : Received) → Why (input_in role r) → Ends r) → IsCutServing services role old new Ends
+      → IsServing services role i s old mid counts → (t : EndsTurn (grammar_for role) role.loggers mid new Why) → ((r : Received) → Why (input_in role r) → Ends r) → IsCutServing services role old new Ends
   cut_by role i s old mid new counts Ends Why lt h t f =
       record {
         at_boot = h.at_boot;
@@ -326,10 +313,12 @@ module _ {State : Type 0} (services : ℕ → Machine State) where
   pub serving_stops : (role : ServerRole) (i : ℕ) (s : Standing State) (old mid new : Option (List LinkCall)) (counts : Counts) (e : TurnEnd) → i < role.turns → IsServing services role i s old mid counts
       → TurnStops role.loggers s mid new e → ServeStops services role old new e
   serving_stops role i s old mid new counts end.NoMemory lt h t =
-      inr (cut_by role i s old mid new counts (λ last. fence_in role last ≡ None) (λ input. (standing : law.Stage) → fence (node_of s.who standing) input ≡ None) lt h t
+      inr (cut_by role i s old mid new counts (λ last. fence_in role last ≡ None) (λ input. (standing : law.Stage) → fence (node_of s.who standing) input ≡ None) lt h
+      (subst (λ g. EndsTurn g role.loggers mid new (λ input. (standing : law.Stage) → fence (node_of s.who standing) input ≡ None)) (ap grammar_in h.who) t)
       (λ r f. subst (λ w. fence (node_of w law.Stage.Asking) (input_in role r) ≡ None) h.who (f law.Stage.Asking)))
   serving_stops role i s old mid new counts (end.Fenced newer) lt h t =
-      cut_by role i s old mid new counts (λ last. fence_in role last ≡ Some newer) (λ input. (standing : law.Stage) → fence (node_of s.who standing) input ≡ Some newer) lt h t
+      cut_by role i s old mid new counts (λ last. fence_in role last ≡ Some newer) (λ input. (standing : law.Stage) → fence (node_of s.who standing) input ≡ Some newer) lt h
+      (subst (λ g. EndsTurn g role.loggers mid new (λ input. (standing : law.Stage) → fence (node_of s.who standing) input ≡ Some newer)) (ap grammar_in h.who) t)
       (λ r f. subst (λ w. fence (node_of w law.Stage.Asking) (input_in role r) ≡ Some newer) h.who (f law.Stage.Asking))
 
   -- a whole life

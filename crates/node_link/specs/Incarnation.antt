@@ -2,11 +2,13 @@
 use Rattle.std.specs.Prelude.{◌≡◌, ℕ, Option, None, map, List, [], ◌∷◌}
 use Rattle.std.specs.List.{AllByRecursion}
 use Rattle.ft_io.specs.declared.Key.{Key}
+use Rattle.seq_arith.specs.declared.kinds.Grammar.{Grammar}
 use Rattle.server_trait.specs.Service.{Machine}
+use Rattle.tcp_rules.specs.Profile.{grammar_of}
 use Rattle.tcp_rules.specs.Profiles.{profile_of}
 use Rattle.ft_model.specs.Node.{Node, Input, booted}
 use Rattle.ft_model.specs.Lawful.{Turn, IsLawful, node_after, hello, fence, IsNearInput, IsSoundInput}
-use Rattle.ft_model.specs.Wire.{wire_of, HasWire}
+use Rattle.ft_model.specs.Wire.{wire_by, HasWireBy}
 use Rattle.link_parts.specs.declared.role.ServerRole.{ServerRole}
 use Rattle.node_link.specs.KeyLife.{AreLawfulFor}
 use Rattle.node_link.specs.ServerStages.{AllSend}
@@ -18,14 +20,18 @@ use Rattle.link_parts.specs.ServiceNumber.{kind_in}
 abbrev pub first_of : ServerRole → Node
 first_of role = booted role.local (profile_of role.profile) role.boot role.isn
 
+-- how it and its loggers write their messages
+abbrev pub grammar_for : ServerRole → Grammar
+grammar_for role = grammar_of (profile_of role.profile)
+
 abbrev pub input_in : ServerRole → Received → Input
-input_in role received = input_from role.loggers received
+input_in role received = input_from (grammar_for role) role.loggers received
 
 -- a turn by the law: its input is what was received, and its packets, each in its one spelling, are what was handed to send
 pub record IsTurn (role : ServerRole) (turn : ServerTurn) (law : Turn) : Type 0 where
   pub input : law.input ≡ input_in role turn.received
-  pub wires : wires_in turn.sent ≡ map wire_of law.sent
-  pub spelled : AllByRecursion HasWire law.sent
+  pub wires : wires_in turn.sent ≡ map (wire_by (grammar_for role)) law.sent
+  pub spelled : AllByRecursion (HasWireBy (grammar_for role)) law.sent
 
 abbrev pub AreTurns : ServerRole → List ServerTurn → List Turn → Type 0
 AreTurns role [] [] = Unit {0}
@@ -61,10 +67,10 @@ module _ {State : Type 0} (services : ℕ → Machine State) where
   AreLawful role [] = Unit {0}
   AreLawful role (turn ∷ earlier) = AreLawful role earlier × (AreFair role (turn ∷ earlier) → (law : List Turn) × IsIncarnation role (turn ∷ earlier) law)
 
-  -- A server from its boot on: it says Hello, its turns are lawful, each of them sends nothing but what it may send whatever has come, the turns of each key are
-  -- lawful as long as the premises hold of that key alone, and nothing that it received fences it
+  -- A server from its boot on: it says Hello, its turns are lawful, each of them sends nothing but what it may send whatever has come, the turns of each key
+  -- are lawful as long as the premises hold of that key alone, and nothing that it received fences it
   pub record Serves (role : ServerRole) (at_boot : List Sent) (turns : List ServerTurn) : Type 0 where
-    pub boots : wires_in at_boot ≡ map wire_of (hello (first_of role))
+    pub boots : wires_in at_boot ≡ map (wire_by (grammar_for role)) (hello (first_of role))
     pub lawful : AreLawful role turns
     pub sends : AllSend (service_of role) (first_of role) role.loggers turns
     pub each_key : (key : Key) → AreLawfulFor (service_of role) (first_of role) key role.loggers turns

@@ -4,13 +4,15 @@ use Rattle.std.specs.List.{AllByRecursion}
 use Rattle.std.specs.Option.{option_to_list}
 use Rattle.ft_io.specs.declared.Key.{Key}
 use Rattle.ft_io.specs.Key.{key_eq}
+use Rattle.seq_arith.specs.declared.kinds.Grammar.{Grammar}
+use Rattle.tcp_rules.specs.Profile.{grammar_of}
 use Rattle.server_trait.specs.Service.{Machine}
 use Rattle.ft_model.specs.Lawful.{Revives, restored}
 use Rattle.ft_model.specs.Network.{Packet}
 use Rattle.ft_model.specs.Node.{Node, Place, Stage, Input}
 use Rattle.ft_model.specs.Node.Stage.{Asking, Fetching}
 use Rattle.ft_model.specs.Restart.{Fetched, wanted}
-use Rattle.ft_model.specs.Wire.{Wire, wire_of, HasWire}
+use Rattle.ft_model.specs.Wire.{Wire, wire_by, HasWireBy}
 use Rattle.node_serving.specs.Alone.{IsNearFor, KeyTurn}
 use Rattle.node_serving.specs.Clients.{Clients, pending_of}
 use Rattle.server_node.specs.Restarts.{IsRestorable}
@@ -25,9 +27,9 @@ abbrev pub entry_of : Key → List Fetched → Option Fetched
 entry_of key fetched = find (λ f. key_eq f.head.key key) fetched
 
 -- among what was sent these are the key's packets, each in its one spelling
-pub record AreOf (key : Key) (packets : List Packet) (sent : List Wire) : Type 0 where
-  pub wires : of_key key sent ≡ map wire_of packets
-  pub spelled : AllByRecursion HasWire packets
+pub record AreOf (grammar : Grammar) (key : Key) (packets : List Packet) (sent : List Wire) : Type 0 where
+  pub wires : of_key grammar key sent ≡ map (wire_by grammar) packets
+  pub spelled : AllByRecursion (HasWireBy grammar) packets
 
 module _ {State : Type 0} (service : Machine State) (node : Node) (key : Key) where
   -- at the end of the restart a key has the place of its entry, after that place's first turn, or none
@@ -42,7 +44,7 @@ module _ {State : Type 0} (service : Machine State) (node : Node) (key : Key) wh
     pub complete : wanted count fetched ≡ None
     pub packets : List Packet
     pub turn : Revived (entry_of key fetched) after packets
-    pub its : AreOf key packets sent
+    pub its : AreOf (grammar_of node.profile) key packets sent
 
   -- before, it has none, and the turn is the law's
   abbrev pub RestartsKey : Stage → Input → ServerStage → Option Place → List Wire → Type 0
@@ -55,7 +57,7 @@ module _ {State : Type 0} (service : Machine State) (node : Node) (key : Key) wh
   pub record ServesKey (clients : Clients) (before : Option Place) (input : Input) (after : Option Place) (sent : List Wire) : Type 0 where
     pub packets : List Packet
     pub turn : KeyTurn service node input key clients.opened (pending_of clients.known) before after packets
-    pub its : AreOf key packets sent
+    pub its : AreOf (grammar_of node.profile) key packets sent
 
   -- one turn, for the key, from a stage of the server to the next
   abbrev pub KeyAdvances : ServerStage → Option Place → Input → ServerStage → Option Place → List Wire → Type 0
@@ -80,12 +82,14 @@ module _ {State : Type 0} (service : Machine State) (node : Node) (key : Key) wh
     KeyRun [] place = place ≡ None
     KeyRun (turn ∷ earlier) place =
         (before : Option Place) × KeyRun earlier before
-        × KeyAdvances (stage_after node loggers earlier) before (input_from loggers turn.received) (stage_after node loggers (turn ∷ earlier)) place (wires_in turn.sent)
+        × KeyAdvances (stage_after node loggers earlier) before (input_from (grammar_of node.profile) loggers turn.received)
+        (stage_after node loggers (turn ∷ earlier)) place (wires_in turn.sent)
 
     abbrev pub AreFairFor : List ServerTurn → Type 0
     AreFairFor [] = Unit {0}
     AreFairFor (turn ∷ earlier) =
-        AreFairFor earlier × ((place : Option Place) → KeyRun earlier place → IsFairFor (input_from loggers turn.received) (stage_after node loggers earlier) place)
+        AreFairFor earlier × ((place : Option Place) → KeyRun earlier place
+        → IsFairFor (input_from (grammar_of node.profile) loggers turn.received) (stage_after node loggers earlier) place)
 
     -- as long as the premises hold of the key, its turns are lawful
     abbrev pub AreLawfulFor : List ServerTurn → Type 0

@@ -9,7 +9,7 @@ use Rattle.link_parts.specs.declared.role.NodeRole.{NodeRole}
 use Rattle.link_parts.specs.declared.role.NodeRole.TheVariants.{Server, Logger, Client, Pair}
 use Rattle.link_parts.specs.declared.status.NodeEnd.{NodeEnd}
 use Rattle.link_parts.specs.declared.status.NodeEnd.TheVariants.{Usage, NoMemory}
-use Rattle.server_trait.specs.Service.{Machine}
+use Rattle.server_trait.specs.Service.{Machine, no_greeting}
 use Rattle.ft_model.specs.Legal.{machines}
 use Rattle.ft_model.specs.declared.schedule.Script.{Script}
 use Rattle.sample_servers.specs.AnyService.{any_started, any_after}
@@ -52,7 +52,8 @@ module _ {State : Type 0} (services : ℕ → Machine State) where
   LivesAs (Client role) (Ok _) before after = RunsScript role before.left after.left before.calls after.calls (Appends before.out after.out) (IsEndedBy Closed)
   LivesAs (Client role) (Err end) before after = ClientStops role before.left after.left before.calls after.calls before.out after.out end
   LivesAs (Pair role) (Ok _) before after =
-      (after.left ≡ before.left) × (after.calls ≡ before.calls) × IsPair (steps_of role) before.started before.spawned after.spawned (Appends before.out after.out)
+      (after.left ≡ before.left) × (after.calls ≡ before.calls)
+      × IsPair (steps_of role) before.started before.spawned after.spawned (Appends before.out after.out)
   LivesAs (Pair role) (Err end) before after =
       (after.left ≡ before.left) × (after.calls ≡ before.calls) × PairStops role before.started before.spawned after.spawned before.out after.out end
 
@@ -69,4 +70,4 @@ module _ {State : Type 0} (services : ℕ → Machine State) where
 
 -- the same for a program with the four services
 abbrev pub HasEnded : Option NodeRole → (before after : Given) → (err_old err_new : Option (List ℕ)) → (code : ℕ) → Type 0
-HasEnded = HasEndedWith (machines any_started any_after)
+HasEnded = HasEndedWith (machines any_started any_after no_greeting)

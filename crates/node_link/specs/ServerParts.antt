@@ -5,9 +5,10 @@ use Rattle.ft_io.specs.declared.Key.{Key}
 use Rattle.ft_io.specs.declared.link_call.LinkCall.{LinkCall}
 use Rattle.ft_io.specs.declared.link_call.LinkCall.TheVariants.{Handed}
 use Rattle.ft_io.specs.Told.{Tells}
+use Rattle.seq_arith.specs.declared.kinds.Grammar.{Grammar}
 use Rattle.ft_model.specs.Node as law
 use Rattle.ft_model.specs.Lawful.{Turn, node_after, fence, hello, IsNearInput, IsSoundInput}
-use Rattle.ft_model.specs.Wire.{Wire, wire_of}
+use Rattle.ft_model.specs.Wire.{Wire, wire_by}
 use Rattle.server_trait.specs.Service.{Machine}
 use Rattle.server_trait.specs.declared.Service.{Ghosts}
 use Rattle.node_serving.specs.declared.identity.Identity.{Identity}
@@ -19,7 +20,7 @@ use Rattle.server_node.specs.declared.stage.Stage.TheVariants as stage
 use Rattle.node_serving.specs.Alone.{slot_of, StandsFor}
 use Rattle.node_serving.specs.Clients.{Knows}
 use Rattle.server_node.specs.Apart.{TurnsApart}
-use Rattle.node_serving.specs.Identity.{node_of}
+use Rattle.node_serving.specs.Identity.{node_of, grammar_in}
 use Rattle.server_node.specs.FetchStage.{FetchingStands}
 use Rattle.server_node.specs.Stages.{StageStands, NodeGoes}
 use Rattle.link_parts.specs.declared.counts.Counts.{Counts}
@@ -32,7 +33,7 @@ use Rattle.node_link.specs.ServerStages.ServerStage.{Asks, Fetches, Serves_with}
 use Rattle.link_parts.specs.Receipt.{Received, received_as}
 use Rattle.node_link.specs.ServerTurns.{Sent, wires_in, sending, ServerTurn, turn_calls, server_calls, input_from}
 use Rattle.link_parts.specs.ServiceNumber.{kind_in}
-use Rattle.node_link.specs.Incarnation.{service_of, first_of, IsIncarnation, AreFair, Serves, fence_in}
+use Rattle.node_link.specs.Incarnation.{service_of, first_of, grammar_for, IsIncarnation, AreFair, Serves, fence_in}
 
 -- a node: its identity and its stage
 pub record Standing (State : Type 0) : Type 0 where
@@ -59,20 +60,22 @@ abbrev pub identity_of : ServerRole → Identity
 identity_of role = record { boot = role.boot; isn = role.isn; kind = kind_in role.service; local = role.local; profile = role.profile }
 
 -- a turn that ended the node: it received, and sent nothing
-pub record EndsTurn (loggers : Loggers) (old new : Option (List LinkCall)) (Ends : law.Input → Type 0) : Type 0 where
+pub record EndsTurn (grammar : Grammar) (loggers : Loggers) (old new : Option (List LinkCall)) (Ends : law.Input → Type 0) : Type 0 where
   pub received : Received
   pub tells : Tells old new (received_as received ∷ [])
-  pub ends : Ends (input_from loggers received)
+  pub ends : Ends (input_from grammar loggers received)
 
 abbrev pub TurnStops : {State : Type 0} → Loggers → Standing State → (old new : Option (List LinkCall)) → TurnEnd → Type 0
-TurnStops loggers before old new end.NoMemory = EndsTurn loggers old new (λ input. (standing : law.Stage) → fence (node_of before.who standing) input ≡ None)
-TurnStops loggers before old new (end.Fenced newer) = EndsTurn loggers old new (λ input. (standing : law.Stage) → fence (node_of before.who standing) input ≡ Some newer)
+TurnStops loggers before old new end.NoMemory = EndsTurn (grammar_in before.who) loggers old new (λ input. (standing : law.Stage)
+    → fence (node_of before.who standing) input ≡ None)
+TurnStops loggers before old new (end.Fenced newer) = EndsTurn (grammar_in before.who) loggers old new (λ input. (standing : law.Stage)
+    → fence (node_of before.who standing) input ≡ Some newer)
 
 module _ {State : Type 0} (services : ℕ → Machine State) where
   -- a boot: it is where the law's server boots, and its Hello was handed to send
   pub record HasBooted (role : ServerRole) (s : Standing State) (old new : Option (List LinkCall)) (counted counts : Counts) : Type 0 where
     pub at_boot : List Sent
-    pub wires_are : wires_in at_boot ≡ map wire_of (hello (first_of role))
+    pub wires_are : wires_in at_boot ≡ map (wire_by (grammar_for role)) (hello (first_of role))
     pub few : length at_boot ≤ 2 ^ 64
     pub tells : Tells old new (sending role.loggers at_boot)
     pub counts_are : counts ≡ with_calls counted (sending role.loggers at_boot)
@@ -92,9 +95,10 @@ module _ {State : Type 0} (services : ℕ → Machine State) where
     pub tells : Tells old new (turn_calls loggers turn)
     pub counts_are : counts ≡ with_calls counted (turn_calls loggers turn)
     pub who : after.who ≡ before.who
-    pub goes : Goes before (input_from loggers turn.received) after (wires_in turn.sent)
-    pub apart : TurnsApart (services before.who.kind) before.who (input_from loggers turn.received) before.stage after.stage (wires_in turn.sent)
-    pub unfenced : (standing : law.Stage) → fence (node_of before.who standing) (input_from loggers turn.received) ≡ None
+    pub goes : Goes before (input_from (grammar_in before.who) loggers turn.received) after (wires_in turn.sent)
+    pub apart : TurnsApart (services before.who.kind) before.who (input_from (grammar_in before.who) loggers turn.received) before.stage after.stage
+        (wires_in turn.sent)
+    pub unfenced : (standing : law.Stage) → fence (node_of before.who standing) (input_from (grammar_in before.who) loggers turn.received) ≡ None
 
   -- where the node is after these turns, as long as the premises hold
   pub record IsAfterTurns (role : ServerRole) (turns : List ServerTurn) (s : Standing State) : Type 0 where

@@ -2,6 +2,7 @@
 use Rattle.std.specs.Prelude.{◌≡◌, ℕ, option_map, Option, None, Some, map, List, [], ◌∷◌}
 use Rattle.std.specs.List.{AllByRecursion}
 use Rattle.seq_arith.specs.Message.{Message}
+use Rattle.tcp_rules.specs.Profile.{grammar_of}
 use Rattle.server_trait.specs.Service.{Machine}
 use Rattle.ft_model.specs.Lawful.{StageTurn, count_told, fetched_then}
 use Rattle.ft_model.specs.Network.{Packet}
@@ -9,7 +10,7 @@ use Rattle.ft_model.specs.Node.{Node, Stage, Input}
 use Rattle.ft_model.specs.Node.Stage.{Asking, Fetching}
 use Rattle.ft_model.specs.Node.Input.{Packet_comes, Message_comes, Noise_comes, Tick_comes}
 use Rattle.ft_model.specs.Restart.{Fetched, Wanted, wanted}
-use Rattle.ft_model.specs.Wire.{Wire, wire_of, HasWire}
+use Rattle.ft_model.specs.Wire.{Wire, wire_by, HasWireBy}
 use Rattle.node_serving.specs.Alone.{IsForSubject}
 use Rattle.node_serving.specs.Clients.{Clients, clients_after, clients_restored}
 use Rattle.server_node.specs.Restarts.{IsForFetched}
@@ -51,19 +52,20 @@ stage_on node input (Serves_with clients) = Serves_with (clients_after node inpu
 -- the stage after these turns, the newest first
 abbrev pub stage_after : Node → Loggers → List ServerTurn → ServerStage
 stage_after node loggers [] = Asks
-stage_after node loggers (turn ∷ earlier) = stage_on node (input_from loggers turn.received) (stage_after node loggers earlier)
+stage_after node loggers (turn ∷ earlier) = stage_on node (input_from (grammar_of node.profile) loggers turn.received) (stage_after node loggers earlier)
 
 -- a turn of the restart itself, by the law
-pub record RestartTurn {State : Type 0} (service : Machine State) (node : Node) (before : Stage) (input : Input) (after : Stage) (sent : List Wire) : Type 0 where
+pub record RestartTurn {State : Type 0} (service : Machine State) (node : Node) (before : Stage) (input : Input) (after : Stage)
+    (sent : List Wire) : Type 0 where
   pub packets : List Packet
   pub turn : StageTurn service node before input after packets
-  pub wires : sent ≡ map wire_of packets
-  pub spelled : AllByRecursion HasWire packets
+  pub wires : sent ≡ map (wire_by (grammar_of node.profile)) packets
+  pub spelled : AllByRecursion (HasWireBy (grammar_of node.profile)) packets
 
 module _ {State : Type 0} (service : Machine State) (node : Node) where
   -- the turn that ends a restart sends packets of the keys of the entries alone: to their clients, or about them to the log
   abbrev pub EndSends : Option (ℕ × List Fetched) → List Wire → Type 0
-  EndSends (Some (count, fetched)) sent = AllByRecursion (IsForFetched fetched) sent
+  EndSends (Some (count, fetched)) sent = AllByRecursion (IsForFetched (grammar_of node.profile) fetched) sent
   EndSends None sent = ⊥
 
   -- until then a turn sends exactly what the law says: Hello of this boot, questions of this boot, and answers with a window of 0
@@ -83,4 +85,5 @@ module _ {State : Type 0} (service : Machine State) (node : Node) where
   AllSend loggers [] = Unit {0}
   AllSend loggers (turn ∷ earlier) =
       AllSend loggers earlier
-      × Sends (stage_after node loggers earlier) (input_from loggers turn.received) (stage_after node loggers (turn ∷ earlier)) (wires_in turn.sent)
+      × Sends (stage_after node loggers earlier) (input_from (grammar_of node.profile) loggers turn.received) (stage_after node loggers (turn ∷ earlier))
+      (wires_in turn.sent)

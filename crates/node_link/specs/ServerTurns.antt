@@ -1,10 +1,12 @@
 -- The turns of a server over its link. In each turn it receives once, and hands to send all packets with which its node reacts, before it receives again.
+-- Its profile says which grammar its messages have; those of the other one are noise.
 use Rattle.std.specs.Prelude.{Bool, false, ◌||◌, map, flat_map, Option, None, Some, List, [], ◌∷◌, ◌++◌, if◌then◌else◌}
 use Rattle.ft_io.specs.declared.Addr.{Addr}
 use Rattle.ft_io.specs.declared.link_call.LinkCall.{LinkCall}
 use Rattle.ft_io.specs.declared.link_call.LinkCall.TheVariants.{Handed}
 use Rattle.seq_arith.specs.PacketGrammar as packets
 use Rattle.seq_arith.specs.MessageGrammar as messages
+use Rattle.seq_arith.specs.declared.kinds.Grammar.{Grammar}
 use Rattle.ft_model.specs.Node.{Input}
 use Rattle.ft_model.specs.Node.Input.{Tick_comes}
 use Rattle.ft_model.specs.World.{segment_or_noise, message_or_noise}
@@ -21,11 +23,11 @@ abbrev pub is_from_logger : Loggers → Addr → Bool
 is_from_logger loggers from = is_from loggers.first from || is_from_second loggers.second from
 
 -- what was received, as the node's input: what comes from a logger's address is a message, from any other a packet, and nothing is a tick
-abbrev pub input_from : Loggers → Received → Input
-input_from loggers (datagram from bytes) =
-    if is_from_logger loggers from then message_or_noise (messages.reading bytes) else segment_or_noise (packets.reading bytes)
-input_from loggers silence = Tick_comes
-input_from loggers failure = Tick_comes
+abbrev pub input_from : Grammar → Loggers → Received → Input
+input_from grammar loggers (datagram from bytes) =
+    if is_from_logger loggers from then message_or_noise (messages.reading_by grammar bytes) else segment_or_noise (packets.reading bytes)
+input_from grammar loggers silence = Tick_comes
+input_from grammar loggers failure = Tick_comes
 
 -- what a node sends, and whether the send fails: then it is lost. A message to two loggers is sent twice, and each of these sends may fail
 pub record Sent : Type 0 where

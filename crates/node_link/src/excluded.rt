@@ -1,5 +1,5 @@
-//! Wrong results that the contracts of this crate exclude. Each function calls another one of the crate, and promises of its result what a wrong body would make
-//! false. It is proved from the other's contract alone, so it is no longer proved once that contract lets the wrong body pass.
+//! Wrong results that the contracts of this crate exclude. Each function calls another one of the crate, and promises of its result what a wrong body would
+//! make false. It is proved from the other's contract alone, so it is no longer proved once that contract lets the wrong body pass.
 
 ghost use Rattle.std.specs.Prelude.{◌≡◌, ◌^◌, Bool, Some, [], ◌∷◌, List, map, IfOk, IsErrOf, OnOk};
 ghost use Rattle.ft_io.specs.declared.Addr.{Addr};
@@ -11,8 +11,8 @@ ghost use Rattle.tcp_rules.specs.declared.profile.Profile.TheVariants as profile
 ghost use Rattle.ft_model.specs.Lawful.{hello};
 ghost use Rattle.ft_model.specs.Node.{Stage};
 ghost use Rattle.ft_model.specs.Node.Input.{Tick_comes};
-ghost use Rattle.ft_model.specs.Wire.{wire_of};
-ghost use Rattle.node_serving.specs.Identity.{node_of};
+ghost use Rattle.ft_model.specs.Wire.{wire_by};
+ghost use Rattle.node_serving.specs.Identity.{node_of, grammar_in};
 ghost use Rattle.server_node.specs.declared.stage.Stage.TheVariants as stages;
 ghost use Rattle.link_parts.specs.Counts.{HasRoom};
 ghost use Rattle.link_parts.specs.Ranges.{ServerInRange};
@@ -50,8 +50,10 @@ fn sends_nothing_of_a_turn<S: Saved, L: Link>(
 ) -> Result<(), TurnEnd>
     requires room { HasRoom (2 ^ 65) counts.old }
     requires asks { (standing_of node.old).stage ≡ stages.Asking }
-    ensures { OnOk result ((turn : ServerTurn) × Tells (L.told link.old) (L.told link.new) (turn_calls loggers turn)
-        × (input_from loggers turn.received ≡ Tick_comes → wires_in turn.sent ≡ map wire_of (hello (node_of (standing_of node.old).who Stage.Asking)))) }
+    ensures { let who = (standing_of node.old).who
+        in OnOk result ((turn : ServerTurn) × Tells (L.told link.old) (L.told link.new) (turn_calls loggers turn)
+        × (input_from (grammar_in who) loggers turn.received ≡ Tick_comes
+        → wires_in turn.sent ≡ map (wire_by (grammar_in who)) (hello (node_of who Stage.Asking)))) }
 {
     take_turn(alloc, loggers, node, link, counts)
 }
@@ -64,7 +66,8 @@ fn sends_to_one_logger_alone<L: Link>(
     counts: &mut Counts,
 )
     requires { HasRoom 2 counts.old }
-    ensures { (second : Addr) → second_for loggers packet.now.to ≡ Some second → (is_lost : Bool) × (is_second_lost : Bool) × Tells (L.told link.old) (L.told link.new)
+    ensures { (second : Addr) → second_for loggers packet.now.to ≡ Some second → (is_lost : Bool) × (is_second_lost : Bool)
+        × Tells (L.told link.old) (L.told link.new)
         (Handed (address_of loggers.first packet.now.to) packet.now.bytes is_lost ∷ Handed second packet.now.bytes is_second_lost ∷ []) }
 {
     send_one(link, loggers, packet, counts);

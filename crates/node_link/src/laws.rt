@@ -4,13 +4,14 @@ ghost use Rattle.std.specs.Prelude.{◌≡◌, ◌<◌, ◌∷◌, [], map, List
 ghost use Rattle.ft_io.specs.declared.Key.{Key};
 ghost use Rattle.seq_arith.specs.Packet.{Segment};
 ghost use Rattle.seq_arith.specs.Message.Body.{OpenMsg};
+ghost use Rattle.tcp_rules.specs.Profile.{grammar_of};
 ghost use Rattle.server_trait.specs.Service.{Machine};
 ghost use Rattle.ft_model.specs.Connection.{told_by};
 ghost use Rattle.ft_model.specs.Node.{Node, Place};
 ghost use Rattle.ft_model.specs.Node.Place.{Opens};
 ghost use Rattle.ft_model.specs.Node.Input.{Packet_comes};
 ghost use Rattle.ft_model.specs.Opening.{numbers_for};
-ghost use Rattle.ft_model.specs.Wire.{Wire, wire_of};
+ghost use Rattle.ft_model.specs.Wire.{Wire, wire_by};
 ghost use Rattle.node_serving.specs.Alone.{is_syn_of};
 ghost use Rattle.node_serving.specs.Clients.{Clients, pending_of};
 ghost use Rattle.node_serving.specs.Ownership.{of_key};
@@ -25,5 +26,6 @@ pub fn new_clients_are_served<S: Service>()
         → is_syn_of node key (Packet_comes segment) ≡ true → pending_of clients.known < 64
         → ServesKey service node key clients None (Packet_comes segment) after sent
         → (after ≡ Some (Opens (numbers_for node.isn clients.opened segment)))
-        × (of_key key sent ≡ map wire_of (told_by node.boot (OpenMsg (numbers_for node.isn clients.opened segment)) ∷ [])) }
+        × (of_key (grammar_of node.profile) key sent
+        ≡ map (wire_by (grammar_of node.profile)) (told_by node.boot (OpenMsg (numbers_for node.isn clients.opened segment)) ∷ [])) }
 {}

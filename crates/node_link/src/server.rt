@@ -8,6 +8,7 @@ ghost use Rattle.ft_io.specs.Faults.{Rose};
 ghost use Rattle.ft_io.specs.Told.{Tells};
 ghost use Rattle.ft_io.specs.declared.link_call.LinkCall.{LinkCall};
 ghost use Rattle.ft_io.specs.declared.link_call.LinkCall.TheVariants.{Bound};
+ghost use Rattle.seq_arith.specs.declared.kinds.Grammar.{Grammar};
 ghost use Rattle.ft_model.specs.Legal.{machines};
 ghost use Rattle.server_node.specs.Inputs.{input_of as input_lem};
 ghost use Rattle.node_serving.specs.SentBytes.{party_of};
@@ -20,7 +21,7 @@ ghost use Rattle.node_link.specs.ServerLife.{IsServer, ServerStops};
 ghost use Rattle.node_link.specs.ServerParts.{standing_of, HasHanded, HasSent, HasBooted, HasTurned, TurnStops, HasServed, ServeStops};
 
 use ft_io::{Addr, Failed, Link, NoMemory, Sink};
-use link_parts::{Counts, DATAGRAM_ROOM, Loggers, NodeEnd, ServerRole, receive, tell_counts};
+use link_parts::{Counts, DATAGRAM_ROOM, Loggers, NodeEnd, ServerRole, receive, write_counts};
 use server_node::{Input, Node, OutPacket, To, TurnEnd};
 use server_trait::Saved;
 use std::alloc::Global;
@@ -110,7 +111,8 @@ fn is_from_logger(loggers: Loggers, from: Addr) -> bool
 /// Returns what came as the node's input: a datagram from a logger's address is a message, any other a packet, and `None` a tick.
 fn input_of<'a>(loggers: Loggers, came: Option<(usize, Addr)>, buffer: &'a [u8]) -> Input<'a>
     requires { IfSome came (λ g. g.0 ≤ length buffer.now) }
-    ensures { (r : Received) → MatchOption came (IsQuiet r) (λ g. r ≡ datagram g.1 (take g.0 buffer.now)) → input_lem result ≡ input_from loggers r }
+    ensures { (grammar : Grammar) (r : Received) → MatchOption came (IsQuiet r) (λ g. r ≡ datagram g.1 (take g.0 buffer.now))
+        → input_lem grammar result ≡ input_from grammar loggers r }
 {
     match came {
         None => Input::Tick,
@@ -134,7 +136,8 @@ pub(crate) fn take_turn<S: Saved, L: Link>(
     counts: &mut Counts,
 ) -> Result<(), TurnEnd>
     requires { HasRoom (2 ^ 65) counts.old }
-    ensures turned { OnOk result (HasTurned (machines S.started S.after) loggers (standing_of node.old) (standing_of node.new) (L.told link.old) (L.told link.new) counts.old counts.new) }
+    ensures turned { OnOk result (HasTurned (machines S.started S.after S.greeting) loggers (standing_of node.old) (standing_of node.new) (L.told link.old)
+        (L.told link.new) counts.old counts.new) }
     ensures stops { IfErr result (TurnStops loggers (standing_of node.old) (L.told link.old) (L.told link.new)) }
     ensures no_bind_fault { L.bind_fault_count link.new ≡ L.bind_fault_count link.old }
 {
@@ -154,7 +157,8 @@ pub(crate) fn boot<S: Saved, L: Link>(
 ) -> Result<Node<S>, NoMemory>
     requires range { ServerInRange role.now }
     requires room { HasRoom (2 ^ 65) counts.old }
-    ensures booted { IfOk result (λ node. HasBooted (machines S.started S.after) role.now (standing_of node) (L.told link.old) (L.told link.new) counts.old counts.new) }
+    ensures booted { IfOk result (λ node. HasBooted (machines S.started S.after S.greeting) role.now (standing_of node) (L.told link.old)
+        (L.told link.new) counts.old counts.new) }
     ensures lost { OnErr result (L.told link.new ≡ L.told link.old) }
     ensures no_bind_fault { L.bind_fault_count link.new ≡ L.bind_fault_count link.old }
 {
@@ -178,8 +182,8 @@ fn serve<S: Saved, L: Link>(
     link: &mut L,
 ) -> Result<Counts, TurnEnd>
     requires { ServerInRange role.now }
-    ensures served { IfOk result (λ counts. HasServed (machines S.started S.after) role.now (L.told link.old) (L.told link.new) counts) }
-    ensures stops { IfErr result (ServeStops (machines S.started S.after) role.now (L.told link.old) (L.told link.new)) }
+    ensures served { IfOk result (λ counts. HasServed (machines S.started S.after S.greeting) role.now (L.told link.old) (L.told link.new) counts) }
+    ensures stops { IfErr result (ServeStops (machines S.started S.after S.greeting) role.now (L.told link.old) (L.told link.new)) }
     ensures no_bind_fault { L.bind_fault_count link.new ≡ L.bind_fault_count link.old }
 {
     let mut counts = Counts::new();
@@ -199,9 +203,9 @@ fn serve_and_tell<S: Saved, L: Link, O: Sink>(
 ) -> Result<(), NodeEnd>
     requires { ServerInRange role.now }
     ensures done { OnOk result ((before : Option (List LinkCall)) → Tells before (L.told link.old) (Bound role.now.local ∷ [])
-        → IsServer (machines S.started S.after) role.now before (L.told link.new) (Appends (O.taken out.old) (O.taken out.new))) }
+        → IsServer (machines S.started S.after S.greeting) role.now before (L.told link.new) (Appends (O.taken out.old) (O.taken out.new))) }
     ensures stops { IfErr result (λ end. (before : Option (List LinkCall)) → Tells before (L.told link.old) (Bound role.now.local ∷ [])
-        → ServerStops (machines S.started S.after) role.now before (L.told link.new) (O.taken out.old) (O.taken out.new) end) }
+        → ServerStops (machines S.started S.after S.greeting) role.now before (L.told link.new) (O.taken out.old) (O.taken out.new) end) }
     ensures write_cause { IsErrOf result NodeEnd.WriteFault → Rose (O.fault_count out.old) (O.fault_count out.new) }
     ensures bound { IsErrOf result NodeEnd.LinkFault → ⊥ }
     ensures no_bind_fault { L.bind_fault_count link.new ≡ L.bind_fault_count link.old }
@@ -210,7 +214,7 @@ fn serve_and_tell<S: Saved, L: Link, O: Sink>(
     match serve::<S, L>(alloc, role, link) {
         Err(TurnEnd::NoMemory) => Err(NodeEnd::NoMemory),
         Err(TurnEnd::Fenced { newer }) => Err(NodeEnd::Fenced { newer }),
-        Ok(counts) => tell_counts(alloc, &counts, out),
+        Ok(counts) => write_counts(alloc, &counts, out),
     }
 }
 
@@ -222,8 +226,10 @@ pub(crate) fn run_server<S: Saved, L: Link, O: Sink>(
     out: &mut O,
 ) -> Result<(), NodeEnd>
     requires { ServerInRange role.now }
-    ensures done { OnOk result (IsServer (machines S.started S.after) role.now (L.told link.old) (L.told link.new) (Appends (O.taken out.old) (O.taken out.new))) }
-    ensures stops { IfErr result (ServerStops (machines S.started S.after) role.now (L.told link.old) (L.told link.new) (O.taken out.old) (O.taken out.new)) }
+    ensures done { OnOk result (IsServer (machines S.started S.after S.greeting) role.now (L.told link.old) (L.told link.new)
+        (Appends (O.taken out.old) (O.taken out.new))) }
+    ensures stops { IfErr result (ServerStops (machines S.started S.after S.greeting) role.now (L.told link.old) (L.told link.new) (O.taken out.old)
+        (O.taken out.new)) }
     ensures bind_cause { IsErrOf result NodeEnd.LinkFault → Rose (L.bind_fault_count link.old) (L.bind_fault_count link.new) }
     ensures write_cause { IsErrOf result NodeEnd.WriteFault → Rose (O.fault_count out.old) (O.fault_count out.new) }
     ensures no_bind_fault { UnlessFault result (L.bind_fault_count link.new ≡ L.bind_fault_count link.old) }

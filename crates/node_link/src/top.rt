@@ -9,6 +9,7 @@ ghost use Rattle.link_parts.specs.declared.role.LoggerRole.{LoggerRole};
 ghost use Rattle.link_parts.specs.declared.role.PairRole.{PairRole};
 ghost use Rattle.link_parts.specs.declared.role.NodeRole.TheVariants as roles;
 ghost use Rattle.ft_model.specs.Legal.{machines};
+ghost use Rattle.server_trait.specs.Service.{no_greeting};
 ghost use Rattle.sample_servers.specs.AnyService.{any_started, any_after};
 ghost use Rattle.link_parts.specs.Ends.{is_fault_status, UnlessFault};
 ghost use Rattle.node_link.specs.Outcome.{Lives, LivesAs, HasEnded, IsStill, HasScript};
@@ -17,7 +18,9 @@ ghost use Rattle.link_parts.specs.Roles.{role_of, is_pair, reads_input};
 
 use crate::server::run_server;
 use ft_io::{Link, Sink, Source, Spawner};
-use link_parts::{NodeEnd, NodeRole, Status, read_role, run_client, run_logger, run_pair, tell};
+use link_parts::{
+    NodeEnd, NodeRole, Status, read_role, report_end, run_client, run_logger, run_pair,
+};
 use sample_servers::AnyService;
 use server_trait::Saved;
 use std::alloc::Global;
@@ -32,7 +35,7 @@ pub fn run_role<S: Saved, L: Link, I: Source, O: Sink, P: Spawner>(
     kids: &mut P,
 ) -> Result<(), NodeEnd>
     requires { InRange role.now }
-    ensures lives { LivesAs (machines S.started S.after) role.now result
+    ensures lives { LivesAs (machines S.started S.after S.greeting) role.now result
         (record { left = I.left input.old; calls = L.told link.old; started = P.started kids.old; spawned = P.told kids.old; out = O.taken out.old })
         (record { left = I.left input.new; calls = L.told link.new; started = P.started kids.new; spawned = P.told kids.new; out = O.taken out.new }) }
     ensures same_kids { is_pair (Some role.now) ≡ false → kids.new ≡ kids.old }
@@ -65,7 +68,7 @@ fn run<L: Link, I: Source, O: Sink, P: Spawner>(
     out: &mut O,
     kids: &mut P,
 ) -> Result<(), NodeEnd>
-    ensures lives { Lives (machines any_started any_after) (role_of (map string_bytes words.now)) result
+    ensures lives { Lives (machines any_started any_after no_greeting) (role_of (map string_bytes words.now)) result
         (record { left = I.left input.old; calls = L.told link.old; started = P.started kids.old; spawned = P.told kids.old; out = O.taken out.old })
         (record { left = I.left input.new; calls = L.told link.new; started = P.started kids.new; spawned = P.told kids.new; out = O.taken out.new }) }
     ensures same_kids { is_pair (role_of (map string_bytes words.now)) ≡ false → kids.new ≡ kids.old }
@@ -143,6 +146,6 @@ pub fn node<L: Link, I: Source, O: Sink, E: Sink, P: Spawner>(
 {
     match run(alloc, words, link, input, out, kids) {
         Ok(()) => Status { code: 0 },
-        Err(end) => tell(err, end),
+        Err(end) => report_end(err, end),
     }
 }

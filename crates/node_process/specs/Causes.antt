@@ -24,7 +24,8 @@ abbrev pub binds_of : Option Role → Faults → ℕ
 binds_of (Some (Journal role)) faults = faults.desk_binds
 binds_of _ faults = faults.binds
 
--- the status of a failed call has such a call; at every other status no read, bind or write and no call on children has failed, not even one that was tried again
+-- the status of a failed call has such a call; at every other status no read, bind or write and no call on children has failed, not even one that was tried
+-- again
 pub record HasCause (role : Option Role) (before after : Faults) (code : ℕ) : Type 0 where
   pub bind : code ≡ 4 → Rose (binds_of role before) (binds_of role after)
   pub write : code ≡ 5 → Rose before.writes after.writes ⊎ Rose before.errors after.errors
@@ -42,8 +43,10 @@ pub record HasCause (role : Option Role) (before after : Faults) (code : ℕ) : 
 -- the calls that end a role early don't fail: its binds, its writes, a read of its script, and those on children and on a journal
 abbrev pub NothingFails : Role → (left : Option (List ℕ)) → (before after : Faults) → Type 0
 NothingFails (Node (node.Client role)) left before after =
-    HasScript role.script left before.reads after.reads × IsStill before.binds after.binds × IsStill before.writes after.writes × IsStill before.errors after.errors
-NothingFails (Node (node.Pair role)) left before after = IsStill before.children after.children × IsStill before.writes after.writes × IsStill before.errors after.errors
+    HasScript role.script left before.reads after.reads × IsStill before.binds after.binds × IsStill before.writes after.writes
+    × IsStill before.errors after.errors
+NothingFails (Node (node.Pair role)) left before after = IsStill before.children after.children × IsStill before.writes after.writes
+    × IsStill before.errors after.errors
 NothingFails (Journal role) left before after =
     IsStill before.journal after.journal × IsStill before.refusals after.refusals × IsStill before.desk_binds after.desk_binds
     × IsStill before.writes after.writes × IsStill before.errors after.errors

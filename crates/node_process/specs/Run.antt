@@ -30,7 +30,8 @@ pub record HasDoneNothing (before after : Known) : Type 0 where
 module _ {State : Type 0} (services : ℕ → Machine State) where
   -- what a role did. Each makes calls only on what it uses; a logger with a journal has its own ends, and all others have those of `node`
   abbrev pub RunsAs : Role → Result (Unit {0}) ProcessEnd → (before after : Known) → Type 0
-  RunsAs (Journal role) end before after = KeepsJournal role (before.files role.journal) end before.desk after.desk before.given.out after.given.out before.err after.err
+  RunsAs (Journal role) end before after = KeepsJournal role
+      (before.files role.journal) end before.desk after.desk before.given.out after.given.out before.err after.err
   RunsAs (Node role) (Ok done) before after = node.LivesAs services role (Ok done) before.given after.given
   RunsAs (Node role) (Err (ends.Node end)) before after = node.LivesAs services role (Err end) before.given after.given
   RunsAs (Twin role) (Ok done) before after = twin.LivesAs role (Ok done) before.given.calls after.given.calls before.given.out after.given.out
@@ -42,8 +43,8 @@ module _ {State : Type 0} (services : ℕ → Machine State) where
   Runs None end before after = ((end ≡ Err (ends.Node Usage)) ⊎ (end ≡ Err (ends.Node NoMemory))) × HasDoneNothing before after
   Runs (Some role) end before after = RunsAs role end before after ⊎ ((end ≡ Err (ends.Node NoMemory)) × HasDoneNothing before after)
 
-  -- what was done and what was reported agree. `noted` is what standard error had taken before the end was reported: a logger with a journal may have said how many
-  -- bytes it cut off
+  -- what was done and what was reported agree. `noted` is what standard error had taken before the end was reported: a logger with a journal may have said
+  -- how many bytes it cut off
   pub record HasRun (role : Option Role) (before after : Known) (code : ℕ) : Type 0 where
     pub end : Result (Unit {0}) ProcessEnd
     pub noted : Option (List ℕ)

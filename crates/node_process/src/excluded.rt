@@ -1,5 +1,5 @@
-//! Wrong results that the contracts of this crate exclude. Each function calls another one of the crate, and promises of its result what a wrong body would make
-//! false. It is proved from the other's contract alone, so it is no longer proved once that contract lets the wrong body pass.
+//! Wrong results that the contracts of this crate exclude. Each function calls another one of the crate, and promises of its result what a wrong body would
+//! make false. It is proved from the other's contract alone, so it is no longer proved once that contract lets the wrong body pass.
 
 ghost use Rattle.std.specs.Prelude.{◌≡◌, Some, map, string_bytes};
 ghost use Rattle.journal_parts.specs.declared.role.JournalRole.{JournalRole};
@@ -16,8 +16,8 @@ use link_parts::Status;
 use server_trait::Saved;
 use std::alloc::Global;
 
-/// The words of a logger with a journal start one, whatever the service: it uses its desk and leaves the link as it is, on which a logger without a journal would
-/// bind: the clause `same_link` of `run`.
+/// The words of a logger with a journal start one, whatever the service: it uses its desk and leaves the link as it is, on which a logger without a journal
+/// would bind: the clause `same_link` of `run`.
 fn keeps_no_journal<S: Saved, L: Link, I: Source, O: Sink, E: Sink, P: Spawner, K: Desk>(
     alloc: Global,
     services: Services,

@@ -15,7 +15,7 @@ use crate::role::{Role, Services, read_role};
 use chain_parts::{TwinRole, run_part, run_teller};
 use disk::Desk;
 use ft_io::{Link, Sink, Source, Spawner};
-use journal_parts::{ProcessEnd, run_keeper, tell};
+use journal_parts::{ProcessEnd, report_end, run_keeper};
 use link_parts::{NodeEnd, Status};
 use node_link::run_role;
 use server_trait::Saved;
@@ -28,15 +28,27 @@ fn run_as<S: Saved, L: Link, I: Source, O: Sink, E: Sink, P: Spawner, K: Desk>(
     process: &mut Process<L, I, O, E, P, K>,
 ) -> Result<(), ProcessEnd>
     requires { InRange role.now }
-    ensures runs { RunsAs (machines S.started S.after) role.now result
+    ensures runs { RunsAs (machines S.started S.after S.greeting) role.now result
         (record {
-          given = record { left = I.left process.old.input; calls = L.told process.old.link; started = P.started process.old.children; spawned = P.told process.old.children; out = O.taken process.old.out };
+          given = record {
+            left = I.left process.old.input;
+            calls = L.told process.old.link;
+            started = P.started process.old.children;
+            spawned = P.told process.old.children;
+            out = O.taken process.old.out;
+          };
           desk = K.told process.old.desk;
           files = K.file_of process.old.desk;
           err = E.taken process.old.err;
         })
         (record {
-          given = record { left = I.left process.new.input; calls = L.told process.new.link; started = P.started process.new.children; spawned = P.told process.new.children; out = O.taken process.new.out };
+          given = record {
+            left = I.left process.new.input;
+            calls = L.told process.new.link;
+            started = P.started process.new.children;
+            spawned = P.told process.new.children;
+            out = O.taken process.new.out;
+          };
           desk = K.told process.new.desk;
           files = K.file_of process.new.desk;
           err = E.taken process.new.err;
@@ -47,9 +59,12 @@ fn run_as<S: Saved, L: Link, I: Source, O: Sink, E: Sink, P: Spawner, K: Desk>(
     ensures same_children { uses_children (Some role.now) ≡ false → process.new.children ≡ process.old.children }
     ensures same_desk { uses_desk (Some role.now) ≡ false → process.new.desk ≡ process.old.desk }
     ensures read_cause { result ≡ Err (ProcessEnd.Node NodeEnd.ReadFault) → Rose (I.fault_count process.old.input) (I.fault_count process.new.input) }
-    ensures bind_cause { result ≡ Err (ProcessEnd.Node NodeEnd.LinkFault) → uses_link (Some role.now) ≡ true → Rose (L.bind_fault_count process.old.link) (L.bind_fault_count process.new.link) }
-    ensures desk_bind_cause { result ≡ Err (ProcessEnd.Node NodeEnd.LinkFault) → uses_desk (Some role.now) ≡ true → Rose (K.beside process.old.desk).bind_faults (K.beside process.new.desk).bind_faults }
-    ensures write_cause { result ≡ Err (ProcessEnd.Node NodeEnd.WriteFault) → Rose (O.fault_count process.old.out) (O.fault_count process.new.out) ⊎ Rose (E.fault_count process.old.err) (E.fault_count process.new.err) }
+    ensures bind_cause { result ≡ Err (ProcessEnd.Node NodeEnd.LinkFault) → uses_link (Some role.now) ≡ true
+        → Rose (L.bind_fault_count process.old.link) (L.bind_fault_count process.new.link) }
+    ensures desk_bind_cause { result ≡ Err (ProcessEnd.Node NodeEnd.LinkFault) → uses_desk (Some role.now) ≡ true
+        → Rose (K.beside process.old.desk).bind_faults (K.beside process.new.desk).bind_faults }
+    ensures write_cause { result ≡ Err (ProcessEnd.Node NodeEnd.WriteFault) → Rose (O.fault_count process.old.out) (O.fault_count process.new.out)
+        ⊎ Rose (E.fault_count process.old.err) (E.fault_count process.new.err) }
     ensures child_cause { result ≡ Err (ProcessEnd.Node NodeEnd.ChildFault) → Rose (P.fault_count process.old.children) (P.fault_count process.new.children) }
     ensures journal_cause { result ≡ Err ProcessEnd.JournalFault → Rose (K.fault_count process.old.desk) (K.fault_count process.new.desk) }
     ensures in_use { result ≡ Err ProcessEnd.InUse → Rose (K.beside process.old.desk).refusals (K.beside process.new.desk).refusals }
@@ -85,15 +100,27 @@ fn run_words<S: Saved, L: Link, I: Source, O: Sink, E: Sink, P: Spawner, K: Desk
     words: &[String],
     process: &mut Process<L, I, O, E, P, K>,
 ) -> Result<(), ProcessEnd>
-    ensures runs { Runs (machines S.started S.after) (asked_of services (map string_bytes words.now)) result
+    ensures runs { Runs (machines S.started S.after S.greeting) (asked_of services (map string_bytes words.now)) result
         (record {
-          given = record { left = I.left process.old.input; calls = L.told process.old.link; started = P.started process.old.children; spawned = P.told process.old.children; out = O.taken process.old.out };
+          given = record {
+            left = I.left process.old.input;
+            calls = L.told process.old.link;
+            started = P.started process.old.children;
+            spawned = P.told process.old.children;
+            out = O.taken process.old.out;
+          };
           desk = K.told process.old.desk;
           files = K.file_of process.old.desk;
           err = E.taken process.old.err;
         })
         (record {
-          given = record { left = I.left process.new.input; calls = L.told process.new.link; started = P.started process.new.children; spawned = P.told process.new.children; out = O.taken process.new.out };
+          given = record {
+            left = I.left process.new.input;
+            calls = L.told process.new.link;
+            started = P.started process.new.children;
+            spawned = P.told process.new.children;
+            out = O.taken process.new.out;
+          };
           desk = K.told process.new.desk;
           files = K.file_of process.new.desk;
           err = E.taken process.new.err;
@@ -104,9 +131,12 @@ fn run_words<S: Saved, L: Link, I: Source, O: Sink, E: Sink, P: Spawner, K: Desk
     ensures same_children { uses_children (asked_of services (map string_bytes words.now)) ≡ false → process.new.children ≡ process.old.children }
     ensures same_desk { uses_desk (asked_of services (map string_bytes words.now)) ≡ false → process.new.desk ≡ process.old.desk }
     ensures read_cause { result ≡ Err (ProcessEnd.Node NodeEnd.ReadFault) → Rose (I.fault_count process.old.input) (I.fault_count process.new.input) }
-    ensures bind_cause { result ≡ Err (ProcessEnd.Node NodeEnd.LinkFault) → uses_link (asked_of services (map string_bytes words.now)) ≡ true → Rose (L.bind_fault_count process.old.link) (L.bind_fault_count process.new.link) }
-    ensures desk_bind_cause { result ≡ Err (ProcessEnd.Node NodeEnd.LinkFault) → uses_desk (asked_of services (map string_bytes words.now)) ≡ true → Rose (K.beside process.old.desk).bind_faults (K.beside process.new.desk).bind_faults }
-    ensures write_cause { result ≡ Err (ProcessEnd.Node NodeEnd.WriteFault) → Rose (O.fault_count process.old.out) (O.fault_count process.new.out) ⊎ Rose (E.fault_count process.old.err) (E.fault_count process.new.err) }
+    ensures bind_cause { result ≡ Err (ProcessEnd.Node NodeEnd.LinkFault) → uses_link (asked_of services (map string_bytes words.now)) ≡ true
+        → Rose (L.bind_fault_count process.old.link) (L.bind_fault_count process.new.link) }
+    ensures desk_bind_cause { result ≡ Err (ProcessEnd.Node NodeEnd.LinkFault) → uses_desk (asked_of services (map string_bytes words.now)) ≡ true
+        → Rose (K.beside process.old.desk).bind_faults (K.beside process.new.desk).bind_faults }
+    ensures write_cause { result ≡ Err (ProcessEnd.Node NodeEnd.WriteFault) → Rose (O.fault_count process.old.out) (O.fault_count process.new.out)
+        ⊎ Rose (E.fault_count process.old.err) (E.fault_count process.new.err) }
     ensures child_cause { result ≡ Err (ProcessEnd.Node NodeEnd.ChildFault) → Rose (P.fault_count process.old.children) (P.fault_count process.new.children) }
     ensures journal_cause { result ≡ Err ProcessEnd.JournalFault → Rose (K.fault_count process.old.desk) (K.fault_count process.new.desk) }
     ensures in_use { result ≡ Err ProcessEnd.InUse → Rose (K.beside process.old.desk).refusals (K.beside process.new.desk).refusals }
@@ -134,15 +164,27 @@ fn run_and_report<S: Saved, L: Link, I: Source, O: Sink, E: Sink, P: Spawner, K:
     process: &mut Process<L, I, O, E, P, K>,
 ) -> Status
     // By its role: how it ended, the calls that it made, and what it wrote.
-    ensures did { HasRun (machines S.started S.after) (asked_of services (map string_bytes words.now))
+    ensures did { HasRun (machines S.started S.after S.greeting) (asked_of services (map string_bytes words.now))
         (record {
-          given = record { left = I.left process.old.input; calls = L.told process.old.link; started = P.started process.old.children; spawned = P.told process.old.children; out = O.taken process.old.out };
+          given = record {
+            left = I.left process.old.input;
+            calls = L.told process.old.link;
+            started = P.started process.old.children;
+            spawned = P.told process.old.children;
+            out = O.taken process.old.out;
+          };
           desk = K.told process.old.desk;
           files = K.file_of process.old.desk;
           err = E.taken process.old.err;
         })
         (record {
-          given = record { left = I.left process.new.input; calls = L.told process.new.link; started = P.started process.new.children; spawned = P.told process.new.children; out = O.taken process.new.out };
+          given = record {
+            left = I.left process.new.input;
+            calls = L.told process.new.link;
+            started = P.started process.new.children;
+            spawned = P.told process.new.children;
+            out = O.taken process.new.out;
+          };
           desk = K.told process.new.desk;
           files = K.file_of process.new.desk;
           err = E.taken process.new.err;
@@ -177,7 +219,8 @@ fn run_and_report<S: Saved, L: Link, I: Source, O: Sink, E: Sink, P: Spawner, K:
           desk_binds = (K.beside process.new.desk).bind_faults;
           refusals = (K.beside process.new.desk).refusals;
         })) }
-    ensures write { result.code ≡ 5 → Rose (O.fault_count process.old.out) (O.fault_count process.new.out) ⊎ Rose (E.fault_count process.old.err) (E.fault_count process.new.err) }
+    ensures write { result.code ≡ 5 → Rose (O.fault_count process.old.out) (O.fault_count process.new.out)
+        ⊎ Rose (E.fault_count process.old.err) (E.fault_count process.new.err) }
     ensures read { result.code ≡ 9 → Rose (I.fault_count process.old.input) (I.fault_count process.new.input) }
     ensures child { result.code ≡ 10 → Rose (P.fault_count process.old.children) (P.fault_count process.new.children) }
     ensures journal { result.code ≡ 11 → Rose (K.fault_count process.old.desk) (K.fault_count process.new.desk) }
@@ -213,7 +256,7 @@ fn run_and_report<S: Saved, L: Link, I: Source, O: Sink, E: Sink, P: Spawner, K:
 {
     match run_words::<S, L, I, O, E, P, K>(alloc, services, words, process) {
         Ok(()) => Status { code: 0 },
-        Err(end) => tell(&mut process.err, end),
+        Err(end) => report_end(&mut process.err, end),
     }
 }
 
@@ -223,9 +266,9 @@ fn run_and_report<S: Saved, L: Link, I: Source, O: Sink, E: Sink, P: Spawner, K:
 /// error, unless a write failed.
 ///
 /// The status is 0 if all was done, 2 if the words aren't allowed or the input is longer than 2^24 bytes, 3 if an allocation failed, 4 if the bind failed, 5 if
-/// a write failed, 6 if a newer server fenced this one, 7 if the client's connection was reset, 8 if the client's turns ended before its connection, 9 if a read
-/// failed, 10 if a start of a pair's child or a wait for one failed, 11 if a call on the journal's file failed, 12 if the file is no journal or is damaged, or is
-/// missing and wasn't to be made, or is there and was, and 13 if another process has it open.
+/// a write failed, 6 if a newer server fenced this one, 7 if the client's connection was reset, 8 if the client's turns ended before its connection, 9 if a
+/// read failed, 10 if a start of a pair's child or a wait for one failed, 11 if a call on the journal's file failed, 12 if the file is no journal or is
+/// damaged, or is missing and wasn't to be made, or is there and was, and 13 if another process has it open.
 pub fn run<S: Saved, L: Link, I: Source, O: Sink, E: Sink, P: Spawner, K: Desk>(
     alloc: Global,
     services: Services,
@@ -233,15 +276,27 @@ pub fn run<S: Saved, L: Link, I: Source, O: Sink, E: Sink, P: Spawner, K: Desk>(
     process: &mut Process<L, I, O, E, P, K>,
 ) -> Status
     // By its role: how it ended, the calls that it made, and what it wrote.
-    ensures did { HasRun (machines S.started S.after) (asked_of services (map string_bytes words.now))
+    ensures did { HasRun (machines S.started S.after S.greeting) (asked_of services (map string_bytes words.now))
         (record {
-          given = record { left = I.left process.old.input; calls = L.told process.old.link; started = P.started process.old.children; spawned = P.told process.old.children; out = O.taken process.old.out };
+          given = record {
+            left = I.left process.old.input;
+            calls = L.told process.old.link;
+            started = P.started process.old.children;
+            spawned = P.told process.old.children;
+            out = O.taken process.old.out;
+          };
           desk = K.told process.old.desk;
           files = K.file_of process.old.desk;
           err = E.taken process.old.err;
         })
         (record {
-          given = record { left = I.left process.new.input; calls = L.told process.new.link; started = P.started process.new.children; spawned = P.told process.new.children; out = O.taken process.new.out };
+          given = record {
+            left = I.left process.new.input;
+            calls = L.told process.new.link;
+            started = P.started process.new.children;
+            spawned = P.told process.new.children;
+            out = O.taken process.new.out;
+          };
           desk = K.told process.new.desk;
           files = K.file_of process.new.desk;
           err = E.taken process.new.err;

@@ -1,8 +1,9 @@
-//! `own_node` runs a service of your own as a process over UDP: a server or its logger, by the words of [`run`](node_process::run). The first word is the service.
-//! To run your service, add a line for it.
+//! `own_node` runs a service of your own as a process over UDP: a server or its logger, by the words of [`run`](node_process::run). The first word is the
+//! service. To run your service, add a line for it.
 #![tactic(auto)]
 
 use counter_service::Counter;
+use mail_service::Mail;
 use node_process::{Services, run_program};
 use server_trait::Saved;
 use std::process::ExitCode;
@@ -17,6 +18,7 @@ fn main(rt: HostRuntime) -> io::Result<ExitCode> {
     match service.as_str() {
         "counter" => Ok(run_own::<Counter>(&rt, words)),
         "web" => Ok(run_own::<Web>(&rt, words)),
+        "mail" => Ok(run_own::<Mail>(&rt, words)),
         _ => without_service(&rt),
     }
 }
@@ -35,6 +37,6 @@ fn run_own<S: Saved>(rt: &HostRuntime, words: &[String]) -> ExitCode {
 
 /// Says which services there are. The status is that of words that aren't allowed.
 fn without_service(rt: &impl Eprint) -> io::Result<ExitCode> {
-    eprintln!(rt; "own_node: the first word is no service: counter, web")?;
+    eprintln!(rt; "own_node: the first word is no service: counter, web, mail")?;
     Ok(ExitCode::from(2))
 }

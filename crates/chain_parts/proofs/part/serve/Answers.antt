@@ -1,5 +1,7 @@
-use Rattle.std.proofs.Common.{◌∙◌, refl}
+use Rattle.std.proofs.Common.{◌≡◌, ◌∙◌, ap, refl}
+use Rattle.link_parts.specs.LoggerParts.{grammar_for}
 use Rattle.chain_parts.specs.PartSteps.{standing_of}
+use Rattle.chain_parts.specs.PartTurns.{at_start}
 use Rattle.ft_io.proofs.Outcomes.{at_err}
 use Rattle.chain_parts.proofs.PairRun.{serving_none, serving_on, room_in_turn, cut_before, cut_serving}
 use Rattle.chain_parts.proofs.part.serve.Goals as goal
@@ -11,7 +13,9 @@ take_turn-requires g c =
 
 pub loop-turn-init : goal.loop-turn-init
 loop-turn-init g c =
-    (serving_none c.args.role.now (standing_of c.in_ok-twin.twin) (g.L.Link.told c.args.link.now) c.new-counts.result c.in_ok-twin.ensures c.new-counts.ensures, refl)
+    let begun : standing_of c.in_ok-twin.twin ≡ at_start (grammar_for c.args.role.now.logger) c.args.role.now.part =
+    c.in_ok-twin.ensures ∙ ap (λ grammar. at_start grammar c.args.role.now.part) c.grammar.ensures
+    in (serving_none c.args.role.now (standing_of c.in_ok-twin.twin) (g.L.Link.told c.args.link.now) c.new-counts.result begun c.new-counts.ensures, refl)
 
 pub loop-turn-preserved : goal.loop-turn-preserved
 loop-turn-preserved g c = (

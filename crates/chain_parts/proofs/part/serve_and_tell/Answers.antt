@@ -6,14 +6,14 @@ use Rattle.chain_parts.proofs.part.serve_and_tell.Goals as goal
 
 pub returns-in-Ok-clause-done : goal.returns-in-Ok-clause-done
 returns-in-Ok-clause-done g c =
-    on_ok_weaker c.tell_counts.result
+    on_ok_weaker c.write_counts.result
     (λ written before bound. part_done c.args.role.now before (g.L.Link.told c.args.link.now) (g.L.Link.told c.serve.new.link) c.in-Ok.counts
-    (Appends (g.O.Sink.taken c.args.out.now) (g.O.Sink.taken c.tell_counts.new.out)) bound c.in-Ok.ensures.served written)
-    c.tell_counts.ensures.written
+    (Appends (g.O.Sink.taken c.args.out.now) (g.O.Sink.taken c.write_counts.new.out)) bound c.in-Ok.ensures.served written)
+    c.write_counts.ensures.written
 
 pub returns-in-Ok-clause-stops : goal.returns-in-Ok-clause-stops
 returns-in-Ok-clause-stops g c =
-    if_err c.tell_counts.result
+    if_err c.write_counts.result
     (λ end stops before bound. part_stops c.args.role.now before (g.L.Link.told c.args.link.now) (g.L.Link.told c.serve.new.link) c.in-Ok.counts (g.O.Sink.taken c.args.out.now)
-    (g.O.Sink.taken c.tell_counts.new.out) end bound c.in-Ok.ensures.served stops)
-    c.tell_counts.ensures.stops
+    (g.O.Sink.taken c.write_counts.new.out) end bound c.in-Ok.ensures.served stops)
+    c.write_counts.ensures.stops

@@ -1,19 +1,27 @@
+use Rattle.std.proofs.Common.{subst}
 use Rattle.std.specs.Io.KnownBytes.{Appends}
 use Rattle.std.proofs.lemmas.Result.{on_ok_weaker}
+use Rattle.link_parts.specs.LoggerParts.{HasCounted, grammar_for}
 use Rattle.link_parts.proofs.LoggerRun.{logger_done, logger_stops}
 use Rattle.link_parts.proofs.logger.serve_and_tell.Goals as goal
 use Rattle.ft_io.proofs.Outcomes.{if_err}
 
 pub returns-in-Ok-clause-done : goal.returns-in-Ok-clause-done
 returns-in-Ok-clause-done g c =
-    on_ok_weaker c.tell_counts.result
+    let served : HasCounted (grammar_for c.args.role.now) c.args.role.now.turns (g.L.Link.told c.args.link.now) (g.L.Link.told c.serve.new.link) c.in-Ok.counts =
+    subst (λ grammar. HasCounted grammar c.args.role.now.turns (g.L.Link.told c.args.link.now) (g.L.Link.told c.serve.new.link) c.in-Ok.counts) c.grammar.ensures
+    c.in-Ok.ensures.served
+    in on_ok_weaker c.write_counts.result
     (λ written before bound. logger_done c.args.role.now before (g.L.Link.told c.args.link.now) (g.L.Link.told c.serve.new.link) c.in-Ok.counts
-    (Appends (g.O.Sink.taken c.args.out.now) (g.O.Sink.taken c.tell_counts.new.out)) bound c.in-Ok.ensures.served written)
-    c.tell_counts.ensures.written
+    (Appends (g.O.Sink.taken c.args.out.now) (g.O.Sink.taken c.write_counts.new.out)) bound served written)
+    c.write_counts.ensures.written
 
 pub returns-in-Ok-clause-stops : goal.returns-in-Ok-clause-stops
 returns-in-Ok-clause-stops g c =
-    if_err c.tell_counts.result
+    let served : HasCounted (grammar_for c.args.role.now) c.args.role.now.turns (g.L.Link.told c.args.link.now) (g.L.Link.told c.serve.new.link) c.in-Ok.counts =
+    subst (λ grammar. HasCounted grammar c.args.role.now.turns (g.L.Link.told c.args.link.now) (g.L.Link.told c.serve.new.link) c.in-Ok.counts) c.grammar.ensures
+    c.in-Ok.ensures.served
+    in if_err c.write_counts.result
     (λ end stops before bound. logger_stops c.args.role.now before (g.L.Link.told c.args.link.now) (g.L.Link.told c.serve.new.link) c.in-Ok.counts (g.O.Sink.taken c.args.out.now)
-    (g.O.Sink.taken c.tell_counts.new.out) end bound c.in-Ok.ensures.served stops)
-    c.tell_counts.ensures.stops
+    (g.O.Sink.taken c.write_counts.new.out) end bound served stops)
+    c.write_counts.ensures.stops

@@ -11,5 +11,5 @@ returns-clause-bound g c = on_ok_weaker c.run_server.result (λ is. (server_call
 
 pub returns-clause-untold : goal.returns-clause-untold
 returns-clause-untold g c = λ failed.
-    (subst (λ r. IfErr r (ServerStops (machines g.S.Service.started g.S.Service.after) c.args.role.now (g.L.Link.told c.args.link.now) (g.L.Link.told c.run_server.new.link)
+    (subst (λ r. IfErr r (ServerStops (machines g.S.Service.started g.S.Service.after g.S.Service.greeting) c.args.role.now (g.L.Link.told c.args.link.now) (g.L.Link.told c.run_server.new.link)
     (g.O.Sink.taken c.args.out.now) (g.O.Sink.taken c.run_server.new.out))) failed c.run_server.ensures.stops).0

@@ -8,7 +8,7 @@ use Rattle.ft_io.specs.Sink.{AppendsFront}
 use Rattle.link_parts.specs.Pair.{status_text}
 use Rattle.link_parts.proofs.Fronts.{front_before}
 use Rattle.ft_io.proofs.Outcomes.{at_err}
-use Rattle.link_parts.proofs.pair.tell_status.Goals as goal
+use Rattle.link_parts.proofs.pair.write_status.Goals as goal
 use Rattle.link_parts.proofs.ClientRunning.{front_more}
 
 pub returns-in_err-write_all-clause-front : goal.returns-in_err-write_all-clause-front
