@@ -104,10 +104,11 @@ fn kind_of(bytes: &[u8], inside: Inside) -> (bool, bool) {
     }
 }
 
-/// One connection meets its datagrams. At every fifth, all that it has taken and read is logged then.
+/// One connection of a server with this profile meets its datagrams. At every fifth, all that it has taken and read is logged then.
 fn meet(
     alloc: Global,
     conn: &mut Conn<AnyService>,
+    profile: Profile,
     situation: Situation,
     draws: &mut Draws,
     out: &mut TurnOut,
@@ -127,11 +128,17 @@ fn meet(
         take_packet(alloc, conn, &mut bytes[..len], out)?;
         tally.datagrams = tally.datagrams.saturating_add(1);
         tally.packets = tally.packets.saturating_add(u32::from(is_packet));
-        tally.note(check(before, is_reset, is_packet, conn, out), out);
+        tally.note(
+            check(before, is_reset, is_packet, profile.grammar(), conn, out),
+            out,
+        );
         if i % 5 == 4 {
             let before = conn.inside();
             log_all(alloc, conn, out)?;
-            tally.note(check(before, is_reset, true, conn, out), out);
+            tally.note(
+                check(before, is_reset, true, profile.grammar(), conn, out),
+                out,
+            );
         }
     }
     Ok(())
@@ -147,7 +154,7 @@ fn attack_one(
     tally: &mut Tally,
 ) -> Result<(), NoMemory> {
     let mut conn = connection(alloc, profile, situation.kind())?;
-    meet(alloc, &mut conn, situation, draws, out, tally)
+    meet(alloc, &mut conn, profile, situation, draws, out, tally)
 }
 
 /// Hands all datagrams to connections of a server with this profile in this situation, one after another.

@@ -22,7 +22,7 @@ mod restarts;
 mod rules;
 mod situations;
 
-fn tell_attack(profile: Profile, situation: Situation, tally: Tally, said: &mut Said) {
+fn write_attack(profile: Profile, situation: Situation, tally: Tally, said: &mut Said) {
     let of = match profile {
         Profile::Plain => "",
         Profile::Wan => "wan, ",
@@ -55,7 +55,7 @@ fn tell_attack(profile: Profile, situation: Situation, tally: Tally, said: &mut 
     }
 }
 
-fn tell_segment(what: &str, head: Option<Head>, said: &mut Said) {
+fn write_segment(what: &str, head: Option<Head>, said: &mut Said) {
     match head {
         Some(head) => {
             let (seq, ack, window) = (head.seq.0, head.ack.0, head.window);
@@ -85,7 +85,7 @@ fn attack_all(
     let mut whole = true;
     for situation in SITUATIONS {
         let tally = attack(alloc, profile, situation, out)?;
-        tell_attack(profile, situation, tally, said);
+        write_attack(profile, situation, tally, said);
         whole = whole && tally.broken.is_none();
     }
     Ok(whole)
@@ -103,8 +103,8 @@ fn play_turns(alloc: Global, out: &mut TurnOut, said: &mut Said) -> Result<bool,
     write!(said, "full stream: read {read} in {reads} reads\n");
     let (una, sent) = (inside.una, inside.sent);
     write!(said, "full stream: una {una} sent {sent}\n");
-    tell_segment("all is logged", filled.full, said);
-    tell_segment("one byte more", filled.beyond, said);
+    write_segment("all is logged", filled.full, said);
+    write_segment("one byte more", filled.beyond, said);
     let [a, b, c, d, e] = make_unacknowledged(alloc, out)?;
     write!(
         said,

@@ -3,7 +3,7 @@
 ghost use Rattle.std.specs.Prelude.{◌≤◌, length, OnOk};
 ghost use Rattle.wrapped_conn.specs.Sound.{IsSound};
 
-use crate::peers::{Answer, Logged, connection, hear, say, start};
+use crate::peers::{Answer, Logged, connection, next_segment, receive, start};
 use ft_io::NoMemory;
 use sample_servers::AnyService;
 use segment_codec::{Head, read_packet};
@@ -45,21 +45,21 @@ fn fill(
     requires short { length text.now ≤ 1460 }
     ensures { OnOk result (IsSound conn.new) }
 {
-    say(alloc, conn, ACK, text, out)?;
+    next_segment(alloc, conn, ACK, text, out)?;
     let length = conn.inside().taken;
     let logged = Logged {
         length,
         fin: false,
         reads: number,
     };
-    hear(alloc, conn, Answer::Stable, logged, out)?;
+    receive(alloc, conn, Answer::Stable, logged, out)?;
     let acknowledged = first_segment(out);
     let read = Logged {
         length,
         fin: false,
         reads: number.wrapping_add(1),
     };
-    hear(alloc, conn, Answer::Reads, read, out)?;
+    receive(alloc, conn, Answer::Reads, read, out)?;
     Ok(acknowledged)
 }
 
@@ -77,7 +77,7 @@ fn fill_stream(
         let _acknowledged = fill(alloc, conn, number, &text[..], out)?;
     }
     let full = fill(alloc, conn, SEGMENTS, &text[..LAST], out)?;
-    say(alloc, conn, ACK, b"x", out)?;
+    next_segment(alloc, conn, ACK, b"x", out)?;
     Ok(Filled {
         inside: conn.inside(),
         full,

@@ -4,7 +4,7 @@
 ghost use Rattle.std.specs.Prelude.{◌≤◌, length, OnOk};
 ghost use Rattle.wrapped_conn.specs.Sound.{IsSound};
 
-use crate::peers::{Answer, all_of, connection, hear, say, say_acked, start};
+use crate::peers::{Answer, all_of, connection, next_acknowledging, next_segment, receive, start};
 use ft_io::NoMemory;
 use sample_servers::AnyService;
 use seq_arith::ACK;
@@ -44,11 +44,11 @@ fn turn(
     requires short { length text.now ≤ 1460 }
     ensures { OnOk result (IsSound conn.new) }
 {
-    say_acked(alloc, conn, ACK, text, acked, out)?;
+    next_acknowledging(alloc, conn, ACK, text, acked, out)?;
     let logged = all_of(conn);
-    hear(alloc, conn, Answer::Stable, logged, out)?;
+    receive(alloc, conn, Answer::Stable, logged, out)?;
     let logged = all_of(conn);
-    hear(alloc, conn, Answer::Reads, logged, out)?;
+    receive(alloc, conn, Answer::Reads, logged, out)?;
     Ok(conn.inside().reads)
 }
 
@@ -62,7 +62,7 @@ fn acknowledge_all(
     ensures { OnOk result (IsSound conn.new) }
 {
     for _ in 0..ACKNOWLEDGEMENTS {
-        say(alloc, conn, ACK, b"", out)?;
+        next_segment(alloc, conn, ACK, b"", out)?;
         let inside = conn.inside();
         if inside.una == inside.sent {
             return Ok(());

@@ -92,7 +92,7 @@ pub(crate) fn take_packet(
 }
 
 /// The client's next segment: it begins after all that is taken, and acknowledges all that is sent.
-pub(crate) fn say(
+pub(crate) fn next_segment(
     alloc: Global,
     conn: &mut Conn<AnyService>,
     flags: u8,
@@ -104,11 +104,11 @@ pub(crate) fn say(
     ensures { OnOk result (IsSound conn.new) }
 {
     let sent = conn.inside().sent;
-    say_acked(alloc, conn, flags, text, sent, out)
+    next_acknowledging(alloc, conn, flags, text, sent, out)
 }
 
 /// .. or only this many units.
-pub(crate) fn say_acked(
+pub(crate) fn next_acknowledging(
     alloc: Global,
     conn: &mut Conn<AnyService>,
     flags: u8,
@@ -151,7 +151,7 @@ fn message(answer: Answer, logged: Logged) -> [u8; 31] {
 }
 
 /// The logger reports what is logged.
-pub(crate) fn hear(
+pub(crate) fn receive(
     alloc: Global,
     conn: &mut Conn<AnyService>,
     answer: Answer,

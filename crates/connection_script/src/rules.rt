@@ -3,7 +3,7 @@
 ghost use Rattle.wrapped_conn.specs.Sound.{IsSound};
 
 use crate::peers::{CISN, CLIENT, SERVER, SISN};
-use logger_wire::{Body, read_msg};
+use logger_wire::{Body, Grammar, read_msg_by};
 use sample_servers::AnyService;
 use segment_codec::read_packet;
 use seq_arith::{RST, has};
@@ -50,9 +50,9 @@ fn check_segment(bytes: &[u8], after: Inside) -> Kept {
     ])
 }
 
-/// The rules on a message.
-fn check_message(bytes: &[u8], after: Inside, has_ended: bool) -> Kept {
-    let Ok(message) = read_msg(bytes) else {
+/// The rules on a message, which is of the connection's grammar.
+fn check_message(grammar: Grammar, bytes: &[u8], after: Inside, has_ended: bool) -> Kept {
+    let Ok(message) = read_msg_by(grammar, bytes) else {
         return Err(Rule::Message);
     };
     let holds = match message.body {
@@ -71,12 +71,12 @@ fn check_message(bytes: &[u8], after: Inside, has_ended: bool) -> Kept {
     require(holds && message.boot == 1, Rule::Message)
 }
 
-fn check_leaving(after: Inside, has_ended: bool, out: &TurnOut) -> Kept {
+fn check_leaving(grammar: Grammar, after: Inside, has_ended: bool, out: &TurnOut) -> Kept {
     for i in 0..out.segments().len() {
         check_segment(out.segments().packet(i), after)?;
     }
     for i in 0..out.messages() {
-        check_message(out.message(i), after, has_ended)?;
+        check_message(grammar, out.message(i), after, has_ended)?;
     }
     Ok(())
 }
@@ -109,6 +109,7 @@ pub(crate) fn check(
     before: Inside,
     is_reset: bool,
     is_packet: bool,
+    grammar: Grammar,
     conn: &Conn<AnyService>,
     out: &TurnOut,
 ) -> Kept
@@ -123,5 +124,5 @@ pub(crate) fn check(
         (never_fall(before, after), Rule::Numbers),
         (!is_reset || is_still, Rule::Reset),
     ])?;
-    check_leaving(after, conn.stage() != ConnStage::Live, out)
+    check_leaving(grammar, after, conn.stage() != ConnStage::Live, out)
 }

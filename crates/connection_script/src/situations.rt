@@ -3,7 +3,7 @@
 ghost use Rattle.std.specs.Prelude.{OnOk};
 ghost use Rattle.wrapped_conn.specs.Sound.{IsSound};
 
-use crate::peers::{Answer, all_of, hear, say, start};
+use crate::peers::{Answer, all_of, next_segment, receive, start};
 use ft_io::NoMemory;
 use sample_servers::AnyService;
 use seq_arith::{ACK, FIN, RST};
@@ -55,7 +55,7 @@ pub(crate) fn log_all(
     requires { IsSound conn.old }
     ensures { OnOk result (IsSound conn.new) }
 {
-    hear(alloc, conn, Answer::Reads, all_of(conn), out)
+    receive(alloc, conn, Answer::Reads, all_of(conn), out)
 }
 
 /// The client has sent five bytes to Echo, and closes if asked to.
@@ -68,9 +68,9 @@ fn unlogged(
     requires { IsSound conn.old }
     ensures { OnOk result (IsSound conn.new) }
 {
-    say(alloc, conn, ACK, b"abcde", out)?;
+    next_segment(alloc, conn, ACK, b"abcde", out)?;
     if closes {
-        say(alloc, conn, FIN | ACK, b"", out)?;
+        next_segment(alloc, conn, FIN | ACK, b"", out)?;
     }
     Ok(())
 }
@@ -87,7 +87,7 @@ fn client_first(
     unlogged(alloc, conn, true, out)?;
     log_all(alloc, conn, out)?;
     log_all(alloc, conn, out)?;
-    say(alloc, conn, ACK, b"", out)
+    next_segment(alloc, conn, ACK, b"", out)
 }
 
 /// Four ticks pass after both FINs.
@@ -120,14 +120,14 @@ pub(crate) fn arrange(
         Situation::FinTaken => unlogged(alloc, conn, true, out),
         // The server closes first, since it is asked to.
         Situation::ServerFirst => {
-            say(alloc, conn, ACK, b"quit\n", out)?;
+            next_segment(alloc, conn, ACK, b"quit\n", out)?;
             log_all(alloc, conn, out)?;
-            say(alloc, conn, FIN | ACK, b"", out)
+            next_segment(alloc, conn, FIN | ACK, b"", out)
         }
         Situation::ClientFirst => client_first(alloc, conn, out),
         Situation::Reset => {
             unlogged(alloc, conn, false, out)?;
-            say(alloc, conn, RST, b"", out)
+            next_segment(alloc, conn, RST, b"", out)
         }
         Situation::Ending => ending(alloc, conn, out),
     }

@@ -12,7 +12,7 @@ mod hostile;
 mod joined;
 mod rules;
 
-fn tell_tally(who: &str, tally: Tally, said: &mut Said) {
+fn write_tally(who: &str, tally: Tally, said: &mut Said) {
     let (datagrams, packets) = (tally.datagrams, tally.packets);
     write!(
         said,
@@ -39,9 +39,9 @@ fn play(alloc: Global, out: &mut Outbox, said: &mut Said) -> Result<bool, NoMemo
         whole = whole && joined.same;
     }
     let scripted = attack_scripted(alloc)?;
-    tell_tally("scripted client", scripted, said);
+    write_tally("scripted client", scripted, said);
     let live = attack_live(alloc, out)?;
-    tell_tally("live client", live, said);
+    write_tally("live client", live, said);
     Ok(whole && scripted.broken.is_none() && live.broken.is_none())
 }
 

@@ -235,8 +235,8 @@ impl Attack {
         check_numbers(before, seen(scene), p.head.ack)
     }
 
-    /// One datagram, damaged in one byte or not, comes to an endpoint. One that is damaged is refused and isn't handed over: nothing changes, and nothing leaves. A
-    /// tick passes after some of them.
+    /// One datagram, damaged in one byte or not, comes to an endpoint. One that is damaged is refused and isn't handed over: nothing changes, and nothing
+    /// leaves. A tick passes after some of them.
     fn meet_one(&mut self, scene: &mut Scene) -> Kept {
         let mut packet = [0u8; limits::PACKET];
         let len = self.write(scene, &mut packet);

@@ -116,8 +116,8 @@ pub(crate) fn resets(before: Seen, first: Seq, next: Seq, head: Head) -> bool {
     }
 }
 
-/// A connection is reset where a segment resets, and then it is CLOSED. No text is taken from a segment without ACK, or with SYN or RST, or once the peer's FIN is
-/// taken. The acknowledgement of a segment without ACK, or with SYN or RST, isn't used, except in SYN-SENT.
+/// A connection is reset where a segment resets, and then it is CLOSED. No text is taken from a segment without ACK, or with SYN or RST, or once the peer's
+/// FIN is taken. The acknowledgement of a segment without ACK, or with SYN or RST, isn't used, except in SYN-SENT.
 pub(crate) fn check_taken(before: Seen, after: Seen, resets: bool, flags: u8) -> Kept {
     let is_closed = after.state == StateName::Closed && after.room == 0;
     let is_used = flags & (SYN | RST | ACK) == ACK;

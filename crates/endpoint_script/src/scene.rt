@@ -2,7 +2,7 @@
 //! begins. The script must name each segment that is sent.
 
 use crate::script::{Deed, Opening, Quantity, Segment, Text};
-use crate::text::{tell_bytes, tell_segment};
+use crate::text::{write_bytes, write_segment};
 use crate::words::Why;
 use ft_io::{Addr, NoMemory};
 use segment_codec::{Head, PacketRef, read_packet};
@@ -221,7 +221,7 @@ impl Scene {
         match read_packet(self.out.packet(self.told)) {
             Ok(p) => {
                 said.add(b"out ");
-                tell_segment(p, &mut said);
+                write_segment(p, &mut said);
             }
             Err(why) => write!(said, "no packet: {why:?}"),
         }
@@ -257,7 +257,7 @@ impl Scene {
             return Ok(());
         }
         let mut said = Said::new(self.alloc);
-        tell_bytes(read.as_slice(), &mut said);
+        write_bytes(read.as_slice(), &mut said);
         Err(Miss::Differs(said))
     }
 

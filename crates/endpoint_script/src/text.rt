@@ -30,7 +30,7 @@ impl Text<'_> {
 }
 
 /// Tells bytes as a script spells them.
-pub(crate) fn tell_bytes(bytes: &[u8], said: &mut Said) {
+pub(crate) fn write_bytes(bytes: &[u8], said: &mut Said) {
     if !bytes.is_empty() {
         said.add(b"hex:");
     }
@@ -49,7 +49,7 @@ const LETTERS: [(u8, &str); 8] = [
 ];
 
 /// Tells a segment as a script spells it.
-pub(crate) fn tell_segment(p: PacketRef<'_>, said: &mut Said) {
+pub(crate) fn write_segment(p: PacketRef<'_>, said: &mut Said) {
     let (flags, seq, ack, window) = (p.head.flags, p.head.seq.0, p.head.ack.0, p.head.window);
     if flags == 0 {
         said.add(b"-");
@@ -65,6 +65,6 @@ pub(crate) fn tell_segment(p: PacketRef<'_>, said: &mut Said) {
     }
     if !p.payload.is_empty() {
         said.add(b" data ");
-        tell_bytes(p.payload, said);
+        write_bytes(p.payload, said);
     }
 }

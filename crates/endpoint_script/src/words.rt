@@ -51,8 +51,8 @@ impl Why {
     }
 }
 
-/// The words of a line that aren't read yet, which spaces separate, and why the line is refused, if it is. What is read after that is of no account: `end` reports
-/// the refusal. So what reads words has no error of its own to return.
+/// The words of a line that aren't read yet, which spaces separate, and why the line is refused, if it is. What is read after that is of no account: `end`
+/// reports the refusal. So what reads words has no error of its own to return.
 #[derive(Clone, Copy)]
 pub(crate) struct Words<'a> {
     rest: &'a str,

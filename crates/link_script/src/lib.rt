@@ -7,8 +7,8 @@
 //! - `child N` gives the next child of the next run the status N; without this line it is 0;
 //! - `fail CALL N` makes the call with number N, from 1, of the next run fail: CALL is `bind`, `send`, `receive`, `read`, `write`, `error` or `child`: the
 //!   writes are on out and err, and starts of children and waits for them have one numbering;
-//! - `run WORDS` runs a process with the four services, and prints its status, what it wrote to out and to err, and the calls that the link and the spawner recorded; `brief WORDS`
-//!   prints of the link's calls only how many were receives and how many sends;
+//! - `run WORDS` runs a process with the four services, and prints its status, what it wrote to out and to err, and the calls that the link and the spawner
+//! recorded; `brief WORDS`   prints of the link's calls only how many were receives and how many sends;
 //! - `own WORDS` is the same as `run`, with the service Counter, and `node WORDS` is the same for `node`;
 //! - `start WORDS` starts `ftnode` as a process, and prints its exit status and what it wrote to both outputs. Its shell's command is that of a line `shell
 //!   TEXT` before it, where `$0` is the program and `$@` are its words. `answer HEX` is what a peer at 127.0.0.1:7461 answers to the datagrams that reach it,
@@ -100,7 +100,7 @@ impl Script {
             "nothing" => self.arrivals.push(Arrival::Nothing)?,
             "child" => return self.end_child(rest),
             "fail" => return self.faults.add(rest),
-            "input" => return self.give(alloc, rest),
+            "input" => return self.set_input(alloc, rest),
             "shell" => self.meeting.shell = String::from_str(alloc, rest)?,
             "hold" => self.meeting.held = String::from_str(alloc, rest)?,
             "answer" => return self.answer(alloc, rest),
@@ -161,7 +161,7 @@ impl Script {
     }
 
     /// Sets the input.
-    fn give(&mut self, alloc: Global, text: &str) -> Result<(), NoMemory> {
+    fn set_input(&mut self, alloc: Global, text: &str) -> Result<(), NoMemory> {
         match bytes_of_hex(alloc, text)? {
             Some(bytes) => self.input = bytes,
             None => self.said.line("no input"),
@@ -192,28 +192,27 @@ impl Script {
     }
 }
 
-/// Says which role the words ask for.
+/// Says which role the words ask for, and with which profile, if it isn't the plain one.
 fn ask(alloc: Global, text: &str, said: &mut Said) -> Result<(), NoMemory> {
     let words = words_of(alloc, text)?;
-    match read_role(alloc, Services::Named, words.as_slice())? {
-        None => said.line("none"),
-        Some(role) => said.line(name_of(&role)),
+    let Some(role) = read_role(alloc, Services::Named, words.as_slice())? else {
+        said.line("none");
+        return Ok(());
+    };
+    said.add(name_of(&role).as_bytes());
+    match profile_of(&role) {
+        Profile::Plain => said.end_line(),
+        Profile::Wan => said.line(" wan"),
     }
     Ok(())
 }
 
-/// The name of a role, and its profile if that isn't the plain one.
+/// The name of a role.
 fn name_of<'a>(role: &Role) -> &'a str {
     match role {
-        Role::Node(NodeRole::Server(role)) => match role.profile {
-            Profile::Plain => "server",
-            Profile::Wan => "server wan",
-        },
+        Role::Node(NodeRole::Server(_)) => "server",
         Role::Node(NodeRole::Logger(_)) => "logger",
-        Role::Node(NodeRole::Client(role)) => match role.profile {
-            Profile::Plain => "client",
-            Profile::Wan => "client wan",
-        },
+        Role::Node(NodeRole::Client(_)) => "client",
         Role::Node(NodeRole::Pair(_)) => "pair",
         Role::Journal(_) => "journal",
         Role::Twin(TwinRole::Logger(role)) => match role.part {
@@ -221,6 +220,18 @@ fn name_of<'a>(role: &Role) -> &'a str {
             Part::Tail => "tail",
         },
         Role::Twin(TwinRole::Alone(_)) => "alone",
+    }
+}
+
+/// The profile of a role. One whose words have no profile is plain.
+fn profile_of(role: &Role) -> Profile {
+    match role {
+        Role::Node(NodeRole::Server(role)) => role.profile,
+        Role::Node(NodeRole::Logger(role)) => role.profile,
+        Role::Node(NodeRole::Client(role)) => role.profile,
+        Role::Journal(role) => role.logger.profile,
+        Role::Twin(TwinRole::Logger(role)) => role.logger.profile,
+        Role::Node(NodeRole::Pair(_)) | Role::Twin(TwinRole::Alone(_)) => Profile::Plain,
     }
 }
 

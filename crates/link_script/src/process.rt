@@ -1,5 +1,5 @@
-//! A run of `ftnode` as a process. The program that plays the script is `ftnode` itself where it has the words of `ftnode`, by the one call that `ftnode` makes.
-//! So it starts itself again.
+//! A run of `ftnode` as a process. The program that plays the script is `ftnode` itself where it has the words of `ftnode`, by the one call that `ftnode`
+//! makes. So it starts itself again.
 
 use disk::FileDisk;
 use ft_io::{Addr, Heard, Link};

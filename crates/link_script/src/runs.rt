@@ -1,6 +1,6 @@
 //! One run of a process over a link, streams and a spawner in memory.
 
-use crate::children::say_children;
+use crate::children::write_children;
 use crate::faults::Faults;
 use counter_service::Counter;
 use disk::{MemDesk, MemDisk};
@@ -97,23 +97,28 @@ pub fn run(alloc: Global, words: &[String], setting: Setting, said: &mut Said) {
     write!(said, "status {code}\n");
     said.add(process.out.written());
     said.add(process.err.written());
-    say_told(process.link.told(), process.children.told(), way, said);
+    write_sent(process.link.told(), process.children.told(), way, said);
 }
 
 /// Says what was called on the link and on the spawner.
-fn say_told(calls: Option<&[LinkCall]>, children: Option<&[SpawnCall]>, way: Way, said: &mut Said) {
+fn write_sent(
+    calls: Option<&[LinkCall]>,
+    children: Option<&[SpawnCall]>,
+    way: Way,
+    said: &mut Said,
+) {
     let (Some(calls), Some(children)) = (calls, children) else {
         return said.line("nothing told");
     };
     match way {
-        Way::Brief => say_counts(calls, said),
-        Way::Node | Way::Own | Way::Specified => say_calls(calls, said),
+        Way::Brief => write_counts(calls, said),
+        Way::Node | Way::Own | Way::Specified => write_calls(calls, said),
     }
-    say_children(children, said);
+    write_children(children, said);
 }
 
 /// Says how many calls were receives, and how many sends.
-fn say_counts(calls: &[LinkCall], said: &mut Said) {
+fn write_counts(calls: &[LinkCall], said: &mut Said) {
     let mut receives = 0u32;
     let mut sends = 0u32;
     for call in calls {
@@ -127,23 +132,23 @@ fn say_counts(calls: &[LinkCall], said: &mut Said) {
 }
 
 /// Says the calls on a link, each in a line.
-fn say_calls(calls: &[LinkCall], said: &mut Said) {
+fn write_calls(calls: &[LinkCall], said: &mut Said) {
     for call in calls {
         match call {
-            LinkCall::Bound(at) => say_bytes("bound ", *at, b"", said),
-            LinkCall::Came(from, bytes) => say_bytes("came ", *from, bytes.as_slice(), said),
+            LinkCall::Bound(at) => write_bytes("bound ", *at, b"", said),
+            LinkCall::Came(from, bytes) => write_bytes("came ", *from, bytes.as_slice(), said),
             LinkCall::Silent => said.line("silent"),
             LinkCall::Missed => said.line("missed"),
             LinkCall::Handed(to, bytes, is_lost) => {
                 let name = if *is_lost { "lost " } else { "sent " };
-                say_bytes(name, *to, bytes.as_slice(), said);
+                write_bytes(name, *to, bytes.as_slice(), said);
             }
         }
     }
 }
 
 /// Says a call with an address and bytes, or `-` where there are none.
-fn say_bytes(name: &str, at: Addr, bytes: &[u8], said: &mut Said) {
+fn write_bytes(name: &str, at: Addr, bytes: &[u8], said: &mut Said) {
     said.add(name.as_bytes());
     said.address(at);
     said.add(b" ");

@@ -80,14 +80,14 @@ impl Logger {
     }
 
     /// Tells it that the server has started.
-    #[tactic(auto, unfolding(seq_arith::specs::MessageGrammar::has_length, seq_arith::specs::MessageGrammar::is_sound))]
+    #[tactic(auto, unfolding(seq_arith::specs::MessageGrammar::has_length, seq_arith::specs::MessageGrammar::is_sound_by))]
     pub(crate) fn begin(&mut self, alloc: Global) -> Result<(), NoMemory> {
         let body = Body::Hello;
-        self.say(alloc, &Msg { boot: BOOT, body })
+        self.send(alloc, &Msg { boot: BOOT, body })
     }
 
     /// Opens an entry.
-    #[tactic(auto, unfolding(seq_arith::specs::MessageGrammar::has_length, seq_arith::specs::MessageGrammar::is_sound))]
+    #[tactic(auto, unfolding(seq_arith::specs::MessageGrammar::has_length, seq_arith::specs::MessageGrammar::is_sound_by))]
     pub(crate) fn open(&mut self, alloc: Global, key: Key) -> Result<(), NoMemory> {
         let body = Body::Open(Numbers {
             key,
@@ -95,7 +95,7 @@ impl Logger {
             sisn: SERVER_ISN.0,
             mss: SEGMENT,
         });
-        self.say(alloc, &Msg { boot: BOOT, body })
+        self.send(alloc, &Msg { boot: BOOT, body })
     }
 
     /// Whether it is a log with marks.
@@ -104,7 +104,7 @@ impl Logger {
     }
 
     /// Spells a message and takes it.
-    pub(crate) fn say(&mut self, alloc: Global, m: &Msg<'_>) -> Result<(), NoMemory>
+    pub(crate) fn send(&mut self, alloc: Global, m: &Msg<'_>) -> Result<(), NoMemory>
         requires { IsSendable m.now }
     {
         let len = write_msg(m, &mut self.datagram).min(2_048);
@@ -114,7 +114,7 @@ impl Logger {
     }
 
     /// Spells a message about marks and takes it.
-    pub(crate) fn say_mark(&mut self, alloc: Global, m: &MarkMsg<'_>) -> Result<(), NoMemory>
+    pub(crate) fn send_mark(&mut self, alloc: Global, m: &MarkMsg<'_>) -> Result<(), NoMemory>
         requires { IsSpellable (message_of m.now) }
     {
         let len = write_mark(m, &mut self.datagram).min(2_048);
@@ -124,12 +124,13 @@ impl Logger {
     }
 
     /// Spells a question of either kind and takes it.
+    #[tactic(auto, using(reincarnate::proofs::Sendable::asked_by))]
     pub(crate) fn ask(&mut self, alloc: Global, question: &AnyMsg<'_>) -> Result<(), NoMemory>
         requires { IsAnySendable question.now }
     {
         match question {
-            AnyMsg::Log(m) => self.say(alloc, m),
-            AnyMsg::Mark(m) => self.say_mark(alloc, m),
+            AnyMsg::Log(m) => self.send(alloc, m),
+            AnyMsg::Mark(m) => self.send_mark(alloc, m),
         }
     }
 

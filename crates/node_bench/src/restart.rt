@@ -1,8 +1,8 @@
 //! A connection that is restarted from a log: `restart SERVICE BYTES READ ROUNDS [MARKED]`. A log takes an entry of BYTES bytes, at most 2^24, in Data of 1,460
-//! bytes and Reads of READ bytes, all of whose output is acknowledged. In each of ROUNDS rounds a server that starts anew fetches the entry, replays it and splices
-//! the connection. SERVICE is `echo` or `meter`. Each message is spelled, read and answered as bytes. It prints how many questions the restarts asked, how many
-//! connections they restored, and where the last one continues. With MARKED it is a log with marks, which takes a mark after the first MARKED reads, and the
-//! restarts begin there.
+//! bytes and Reads of READ bytes, all of whose output is acknowledged. In each of ROUNDS rounds a server that starts anew fetches the entry, replays it and
+//! splices the connection. SERVICE is `echo` or `meter`. Each message is spelled, read and answered as bytes. It prints how many questions the restarts
+//! asked, how many connections they restored, and where the last one continues. With MARKED it is a log with marks, which takes a mark after the first MARKED
+//! reads, and the restarts begin there.
 
 ghost use Rattle.std.specs.Prelude.{◌≤◌, ◌^◌, IfSome};
 

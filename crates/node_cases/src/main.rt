@@ -1,13 +1,13 @@
-//! `node_cases`: the cases on whole nodes, processes and runs. Without words it reads parts from its standard input: a line `== NAME` begins a part, and the lines
-//! up to the next such line are the script of that name. It prints the line `== NAME`, then what the script says, and `status N` where the script's status isn't 0.
-//! NAME is `connection`, whose cases are in its code, `link`, `node`, `replay`, `own`, whose lines are a schedule, or `bench`, whose lines are commands and what
-//! they read. A line before the first part and a name that no script has end it with status 2.
+//! `node_cases`: the cases on whole nodes, processes and runs. Without words it reads parts from its standard input: a line `== NAME` begins a part, and the
+//! lines up to the next such line are the script of that name. It prints the line `== NAME`, then what the script says, and `status N` where the script's
+//! status isn't 0. NAME is `connection`, whose cases are in its code, `link`, `node`, `replay`, `own`, whose lines are a schedule, or `bench`,
+//! whose lines are commands and what they read. A line before the first part and a name that no script has end it with status 2.
 //!
 //! `node_cases NAME` plays its whole standard input as the script of this name, and ends with its status. `node_cases bench WORD..` does what one command asks
 //! for, for the scripts of bench/.
 //!
-//! With any other words it is `ftnode`, since `link` starts `ftnode` as a process; and with `PROGRAM=ftreplay` in its environment it is `ftreplay`, since `replay`
-//! starts that.
+//! With any other words it is `ftnode`, since `link` starts `ftnode` as a process; and with `PROGRAM=ftreplay` in its environment it is `ftreplay`, since
+//! `replay` starts that.
 #![tactic(auto)]
 
 use anyhow::{Result, bail};

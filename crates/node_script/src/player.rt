@@ -49,13 +49,13 @@ impl Player {
             "boot" => self.boot(alloc, Profile::Plain, numbers(rest)),
             "boot-wan" => self.boot(alloc, Profile::Wan, numbers(rest)),
             "conn" => {
-                self.tell_conn(numbers(rest));
+                self.write_connection(numbers(rest));
                 Ok(())
             }
             "attack" => self.attack(alloc, numbers(rest)),
             "strike" => self.strike(alloc, numbers(rest)),
-            "packet" => self.give(alloc, rest, true),
-            "message" => self.give(alloc, rest, false),
+            "packet" => self.deliver(alloc, rest, true),
+            "message" => self.deliver(alloc, rest, false),
             _ => {
                 self.said.line(line);
                 Ok(())
@@ -75,12 +75,12 @@ impl Player {
         let every = (every % 4_294_967_296) as u32;
         self.node = Node::boot_in(alloc, profile, boot.max(1), isn, kind, LOCAL, every)?;
         self.up = true;
-        tell(self.node.sent(), &mut self.said);
+        write_sent(self.node.sent(), &mut self.said);
         Ok(())
     }
 
     /// A datagram from a client or from the logger.
-    fn give(&mut self, alloc: Global, digits: &str, is_packet: bool) -> Result<(), NoMemory> {
+    fn deliver(&mut self, alloc: Global, digits: &str, is_packet: bool) -> Result<(), NoMemory> {
         match bytes_of_hex(alloc, digits)? {
             Some(bytes) if is_packet => self.turn(alloc, Input::Packet(&bytes)),
             Some(bytes) => self.turn(alloc, Input::Message(&bytes)),
@@ -97,7 +97,7 @@ impl Player {
             return Ok(());
         }
         match self.node.turn(alloc, input) {
-            Ok(sent) => tell(sent, &mut self.said),
+            Ok(sent) => write_sent(sent, &mut self.said),
             Err(TurnEnd::Fenced { newer }) => {
                 self.up = false;
                 write!(&mut self.said, "fenced by {newer}\n");
@@ -108,7 +108,7 @@ impl Player {
     }
 
     /// The numbers of a client's connection.
-    fn tell_conn(&mut self, [ip, port, ..]: [u64; 5]) {
+    fn write_connection(&mut self, [ip, port, ..]: [u64; 5]) {
         let key = Key {
             ip: (ip % 4_294_967_296) as u32,
             port: (port % 65_536) as u16,
@@ -175,7 +175,7 @@ fn numbers(rest: &str) -> [u64; 5] {
 }
 
 /// Says what is sent, a line a packet: to whom, and its bytes.
-fn tell(sent: &[OutPacket], said: &mut Said) {
+fn write_sent(sent: &[OutPacket], said: &mut Said) {
     if sent.is_empty() {
         said.line("-");
     }

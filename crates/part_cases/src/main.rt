@@ -1,7 +1,7 @@
-//! `part_cases`: the cases on the parts below the node. Without words it reads parts from its standard input: a line `= NAME` begins a part, and the lines up to
-//! the next such line are the script of that name. It prints the line `= NAME`, then what the script says, and `status N` where the script's status isn't 0. NAME is
-//! `endpoint`, `io`, `log`, `service`, `text`, or `wire`, whose lines are commands. A line before the first part and a name that no script has end it with
-//! status 2.
+//! `part_cases`: the cases on the parts below the node. Without words it reads parts from its standard input: a line `= NAME` begins a part, and the lines up
+//! to the next such line are the script of that name. It prints the line `= NAME`, then what the script says, and `status N` where the script's status isn't
+//! 0. NAME is `endpoint`, `io`, `log`, `service`, `text`, or `wire`, whose lines are commands. A line before the first part and a name that no script has end
+//! it with status 2.
 //!
 //! `part_cases NAME` plays its whole standard input as the script of this name, and ends with its status. `part_cases wire WORD..` does what one command asks
 //! for, for the scripts of bench/.

@@ -1,10 +1,10 @@
-//! A line of the crash table: the first events of a schedule, then a crash, with the stop of a logger or without, and a restart, after which the client continues as
-//! long as it must.
+//! A line of the crash table: the first events of a schedule, then a crash, with the stop of a logger or without, and a restart, after which the client
+//! continues as long as it must.
 
 use ft_io::NoMemory;
 use ft_model::{Event, Phase};
 use net_schedule::{StepEnd, World};
-use sample_servers::AnyService;
+use server_trait::Saved;
 use std::alloc::Global;
 use test_data::Said;
 
@@ -19,14 +19,14 @@ const WINDOW: u16 = 65_535;
 
 /// A world, and how many of its packets were delivered.
 #[derive(Drop)]
-struct Driven<'a> {
-    world: &'a mut World<AnyService>,
+struct Driven<'a, S: Saved> {
+    world: &'a mut World<S>,
     delivered: u32,
     /// Which of two loggers stops as the server crashes.
     stops: Option<u8>,
 }
 
-impl Driven<'_> {
+impl<S: Saved> Driven<'_, S> {
     /// Delivers each packet that wasn't, in order, until none is left.
     fn drain(&mut self, alloc: Global) -> Result<(), StepEnd> {
         for number in 1..PACKET_LIMIT {
@@ -43,7 +43,7 @@ impl Driven<'_> {
     }
 
     /// An event, and all that it leads to.
-    fn go_on(&mut self, alloc: Global, event: &Event) -> Result<(), StepEnd> {
+    fn proceed(&mut self, alloc: Global, event: &Event) -> Result<(), StepEnd> {
         self.world.step(alloc, event)?;
         self.drain(alloc)
     }
@@ -77,7 +77,7 @@ impl Driven<'_> {
             boot: 2,
             isn: 900_000,
         };
-        self.go_on(alloc, &boot)
+        self.proceed(alloc, &boot)
     }
 
     /// The client opens, where it hasn't.
@@ -89,7 +89,7 @@ impl Driven<'_> {
             client: CLIENT,
             window: WINDOW,
         };
-        self.go_on(alloc, &open)
+        self.proceed(alloc, &open)
     }
 
     /// The client sends its five bytes, where none of them is acknowledged.
@@ -102,7 +102,7 @@ impl Driven<'_> {
             from: 0,
             len: 5,
         };
-        self.go_on(alloc, &send)
+        self.proceed(alloc, &send)
     }
 
     /// The client acknowledges what it has.
@@ -111,7 +111,7 @@ impl Driven<'_> {
             client: CLIENT,
             window: WINDOW,
         };
-        self.go_on(alloc, &ack)
+        self.proceed(alloc, &ack)
     }
 
     /// The server crashes and restarts, and the client continues as far as it must.
@@ -131,10 +131,10 @@ impl Driven<'_> {
         self.crash(alloc)
     }
 
-    /// What the client has accepted, and the lengths of the reads of the log's first entry.
-    fn tell(&self, said: &mut Said) {
+    /// What the client has accepted, with `|` for each line end, and the lengths of the reads of the log's first entry.
+    fn write_outcome(&self, said: &mut Said) {
         if let Some(client) = self.world.client(CLIENT) {
-            said.add(client.accepted());
+            said.on_one_line(client.accepted());
         }
         said.add(b" in reads of");
         let log = self.world.log();
@@ -144,11 +144,11 @@ impl Driven<'_> {
     }
 }
 
-/// Plays the first events of a schedule in its world, then a crash, with the stop of a logger if one is named. Says what the client has at the end, or why an event
-/// was refused.
-pub(crate) fn play_crash(
+/// Plays the first events of a schedule in its world, then a crash, with the stop of a logger if one is named. Says what the client has at the end, or why an
+/// event was refused.
+pub(crate) fn play_crash<S: Saved>(
     alloc: Global,
-    world: &mut World<AnyService>,
+    world: &mut World<S>,
     events: &[Event],
     stops: Option<u8>,
     said: &mut Said,
@@ -159,7 +159,7 @@ pub(crate) fn play_crash(
         stops,
     };
     match driven.play(alloc, events) {
-        Ok(()) => driven.tell(said),
+        Ok(()) => driven.write_outcome(said),
         Err(StepEnd::NoMemory) => return Err(NoMemory),
         Err(end) => write!(said, "{end:?}\n"),
     }

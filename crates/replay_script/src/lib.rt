@@ -8,6 +8,7 @@
 //! - `= crash NAME` plays, for each n, the first n of the events in a new world; then the server crashes and restarts, all that is sent from the restart on is
 //!   delivered, and client 1 continues. Printed is what it has accepted at the end, and how many bytes and reads the log's first entry has;
 //! - `= crash NAME PART` does so, and one of two loggers stops as the server crashes: 1 is the head, 2 the tail;
+//! - `= greeted NAME` is `= crash NAME` with the receiver of mail in place of the schedule's service: it speaks first. `|` is a line end;
 //! - `= deltas NAME` plays all events, and prints the delta of each connection that the server has live at the end: the client's numbers less the inner TCP's;
 //! - `= shell`, which comes last, hands them to `sh` as a script, which can run `ftreplay` as a process ([`shell`]).
 //!
@@ -15,8 +16,10 @@
 #![tactic(auto)]
 
 use ft_io::NoMemory;
+use mail_service::Mail;
 pub use playing::Tool;
 use playing::{play, play_checked};
+use sample_servers::AnyService;
 pub use shell::is_ftreplay;
 use shell::run_script;
 use std::alloc::Global;
@@ -84,8 +87,9 @@ impl Script {
             [_, "play", rest @ ..] => play::<T>(alloc, rest, &self.text, said),
             [_, "checked", name] => play_checked::<T>(alloc, name, &self.text, said),
             [_, "deltas", name] => play_deltas(alloc, name, &self.text, said),
-            [_, "crash", name] => play_crashes(alloc, name, None, &self.text, said),
-            [_, "crash", name, part] => play_crashes(
+            [_, "greeted", name] => play_crashes::<Mail>(alloc, name, None, &self.text, said),
+            [_, "crash", name] => play_crashes::<AnyService>(alloc, name, None, &self.text, said),
+            [_, "crash", name, part] => play_crashes::<AnyService>(
                 alloc,
                 name,
                 part.parse().ok(),

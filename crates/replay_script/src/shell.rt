@@ -1,5 +1,6 @@
-//! A script for `sh`, in which `$0` is the program that plays the script. With `PROGRAM=ftreplay` in its environment that is `ftreplay`: it does all that the main of
-//! `ftreplay` does. So the script runs it as a process, with words, streams and limits of its own, and prints its exit status and what it wrote to both outputs.
+//! A script for `sh`, in which `$0` is the program that plays the script. With `PROGRAM=ftreplay` in its environment that is `ftreplay`: it does all that the
+//! main of `ftreplay` does. So the script runs it as a process, with words, streams and limits of its own, and prints its exit status and what it wrote to
+//! both outputs.
 
 use std::process::{Command, Processes, Stdio};
 use std::rt::Env;

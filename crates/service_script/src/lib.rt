@@ -17,14 +17,23 @@
 //! - `say TEXT` is a connection with this text as its one chunk, and prints how many bytes answer it, their MD5, and whether it closes;
 //! - `connections COUNT SEED` plays COUNT connections that are drawn from SEED: one request after another, some of them damaged, in chunks cut anywhere. It
 //!   prints how many chunks were answered by how many bytes, how many connections closed, and the MD5 of each chunk's number followed by its answer.
+//!
+//! Of the receiver of mail:
+//!
+//! - `mail TIMES TEXT ..` is a session in which the client says TIMES copies of a text, then of a next one, and so on, in chunks of 2,048 bytes; a space is
+//!   `%20`. It prints the greeting and the replies, with `|` for each line end, and whether the service has closed;
+//! - `sessions COUNT SEED` plays COUNT sessions as `connections` does, with the pieces of the parts for requests. The greeting counts as the answer to a chunk.
 #![tactic(auto)]
 
 use connections::Parts;
 use ft_io::NoMemory;
+use mail_service::Mail;
 use std::alloc::Global;
 use test_data::Said;
+use web_service::Web;
 
 mod connections;
+mod mail;
 mod messages;
 mod services;
 mod web_server;
@@ -56,8 +65,10 @@ pub fn run(alloc: Global, text: &str, said: &mut Said) -> Result<u8, NoMemory> {
             "random" => messages::random_line(alloc, rest, said),
             "part" => parts.begin(rest.parse::<u32>().unwrap_or(0)),
             "piece" => web_server::piece_line(alloc, rest, &mut parts),
-            "say" => web_server::say_line(alloc, rest, said),
-            "connections" => web_server::connections_line(alloc, rest, &parts, said),
+            "say" => web_server::write_line(alloc, rest, said),
+            "connections" => web_server::connections_line::<Web>(alloc, rest, &parts, said),
+            "mail" => mail::mail_line(alloc, rest, said),
+            "sessions" => web_server::connections_line::<Mail>(alloc, rest, &parts, said),
             _ => {
                 said.add(b"no such line");
                 Ok(())

@@ -24,7 +24,7 @@ pub(crate) fn mark_line(alloc: Global, text: &str, said: &mut Said) -> Result<()
     };
     match read_mark(bytes.as_slice()) {
         Ok(msg) => {
-            tell_mark(&msg, said);
+            print_mark(&msg, said);
             let mut room = [0; ROOM];
             let len = write_mark(&msg, &mut room);
             if &room[..len] == bytes.as_slice() {
@@ -37,7 +37,7 @@ pub(crate) fn mark_line(alloc: Global, text: &str, said: &mut Said) -> Result<()
 }
 
 /// Says what a message says.
-fn tell_mark(msg: &MarkMsg<'_>, said: &mut Said) {
+fn print_mark(msg: &MarkMsg<'_>, said: &mut Said) {
     let (kind, key) = match msg.body {
         MarkBody::Mark { key, .. } => ("Mark", key),
         MarkBody::Marked { key, .. } => ("Marked", key),
@@ -164,8 +164,8 @@ fn make_message(draws: &mut Draws, fields: &mut Said) {
     }
 }
 
-/// Makes a message of these fields, in place of what is there: its length and its checksum are put in their places. In five of eight cases it damages the message:
-/// before that it changes a byte of the header, or cuts or lengthens the message; or after that it changes a bit or cuts it.
+/// Makes a message of these fields, in place of what is there: its length and its checksum are put in their places. In five of eight cases it damages the
+/// message: before that it changes a byte of the header, or cuts or lengthens the message; or after that it changes a bit or cuts it.
 fn damage(draws: &mut Draws, fields: &Said, bytes: &mut Vec<u8>) -> Result<(), NoMemory> {
     bytes.clear();
     bytes.extend_from_slice(fields.bytes()?)?;

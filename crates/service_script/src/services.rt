@@ -219,7 +219,7 @@ fn play_run<S: Saved>(
     bytes: &mut Bytes,
     tally: &mut Tally,
 ) -> Result<(), NoMemory> {
-    if give_some(kind, service, draws, bytes)? == Next::Close {
+    if feed_some(kind, service, draws, bytes)? == Next::Close {
         tally.closed = tally.closed.wrapping_add(1);
         return Ok(());
     }
@@ -227,7 +227,7 @@ fn play_run<S: Saved>(
 }
 
 /// Gives a service one to five chunks. Whether it closes. One that has closed is given no more.
-fn give_some<S: Service>(
+fn feed_some<S: Service>(
     kind: u8,
     service: &mut S,
     draws: &mut Draws,

@@ -1,4 +1,4 @@
-//! Connections to the web server, and what it answers.
+//! Connections to the web server or another service, and what it answers.
 
 use crate::connections::{Parts, draw_connection};
 use crate::count_and_seed;
@@ -50,7 +50,7 @@ impl Tally {
     }
 
     /// Says what was counted.
-    fn tell(self, said: &mut Said) {
+    fn write_counts(self, said: &mut Said) {
         let Tally {
             answers,
             bytes,
@@ -62,16 +62,16 @@ impl Tally {
     }
 }
 
-/// Gives the server a chunk, and counts its answer.
-fn give(
+/// Gives a service a chunk, and counts its answer.
+fn feed<S: Service>(
     alloc: Global,
-    web: &mut Web,
+    service: &mut S,
     at: u32,
     chunk: &[u8],
     tally: &mut Tally,
 ) -> Result<Next, NoMemory> {
     let mut answer = Vec::new(alloc);
-    let next = take(web, chunk, &mut answer)?;
+    let next = take(service, chunk, &mut answer)?;
     if !answer.is_empty() {
         tally.count(at, answer.as_slice());
     }
@@ -82,23 +82,23 @@ fn give(
 }
 
 /// Plays one connection with a text as its chunk, and says what came of it.
-pub(crate) fn say_line(alloc: Global, escaped: &str, said: &mut Said) -> Result<(), NoMemory> {
+pub(crate) fn write_line(alloc: Global, escaped: &str, said: &mut Said) -> Result<(), NoMemory> {
     let mut chunk = Vec::new(alloc);
     percent_decode(escaped.as_bytes()).append_to(&mut chunk)?;
     let mut tally = Tally::new();
-    give(
+    feed(
         alloc,
         &mut Web::fresh(alloc, 0),
         0,
         chunk.as_slice(),
         &mut tally,
     )?;
-    tally.tell(said);
+    tally.write_counts(said);
     Ok(())
 }
 
 /// Plays the connections that a line asks for, in chunks that are drawn, and says what came of them.
-pub(crate) fn connections_line(
+pub(crate) fn connections_line<S: Service>(
     alloc: Global,
     text: &str,
     parts: &Parts,
@@ -112,20 +112,23 @@ pub(crate) fn connections_line(
     let mut tally = Tally::new();
     for _connection in 0..count {
         let drawn = draw_connection(alloc, &mut draws, parts)?;
-        let mut web = Web::fresh(alloc, 0);
-        give_cut(alloc, &mut web, &mut draws, &drawn, &mut tally)?;
+        let mut service = S::fresh(alloc, 0);
+        if !service.greeting().is_empty() {
+            tally.count(u32::MAX, service.greeting());
+        }
+        feed_cut(alloc, &mut service, &mut draws, &drawn, &mut tally)?;
     }
-    tally.tell(said);
+    tally.write_counts(said);
     Ok(())
 }
 
 /// The longest chunks of a connection, each drawn as often as it is listed here.
 const LONGEST: [u32; 8] = [1, 5, 20, 100, 500, 2_048, 2_048, 2_048];
 
-/// Gives the server a text in chunks that are drawn, in some cases with the end of input.
-fn give_cut(
+/// Gives a service a text in chunks that are drawn, in some cases with the end of input.
+fn feed_cut<S: Service>(
     alloc: Global,
-    web: &mut Web,
+    service: &mut S,
     draws: &mut Draws,
     text: &Said,
     tally: &mut Tally,
@@ -136,13 +139,13 @@ fn give_cut(
     for at in 0..u32::MAX {
         if rest.is_empty() {
             if ends {
-                give(alloc, web, at, b"", tally)?;
+                feed(alloc, service, at, b"", tally)?;
             }
             return Ok(());
         }
         let size = 1 + draws.below(longest.max(1)) as usize;
         let (chunk, more) = rest.split_at(size.min(rest.len()));
-        if give(alloc, web, at, chunk, tally)? == Next::Close {
+        if feed(alloc, service, at, chunk, tally)? == Next::Close {
             return Ok(());
         }
         rest = more;

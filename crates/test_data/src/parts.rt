@@ -27,8 +27,8 @@ pub struct Program {
 }
 
 impl Program {
-    /// Plays the script of this name, whose text is the whole input, or without a name the parts of the input, and prints what they say. The exit status: that of
-    /// the script, or 0 after parts, or 2 where a line is before the first part or no script has a name.
+    /// Plays the script of this name, whose text is the whole input, or without a name the parts of the input, and prints what they say. The exit status:
+    /// that of the script, or 0 after parts, or 2 where a line is before the first part or no script has a name.
     pub fn play<R: AllocGlobal + Print + Eprint, S: Scripts, I: Source>(
         self,
         system: &R,

@@ -91,6 +91,17 @@ impl Said {
         }
     }
 
+    /// Adds a text on one line: `|` stands for each CR LF.
+    pub fn on_one_line(&mut self, text: &[u8]) {
+        for byte in text {
+            match *byte {
+                b'\r' => (),
+                b'\n' => self.add(b"|"),
+                other => self.add(&[other]),
+            }
+        }
+    }
+
     /// Adds an address.
     pub fn address(&mut self, at: Addr) {
         let [a, b, c, d] = at.ip.to_be_bytes();

@@ -8,7 +8,8 @@ ghost use Rattle.ft_model.specs.World.{are_apart};
 use ft_io::NoMemory;
 use ft_model::grammar::{accepted_schedules_can_be_played, accepted_schedules_fit};
 use line_check::{is_packet_line, read_event_line, read_header_line};
-use schedule_text::{Schedule, read_schedule};
+use schedule_text::fleeting::fleeting_texts_spell_schedules;
+use schedule_text::{Schedule, read_fleeting_schedule};
 use std::alloc::Global;
 
 /// The most bytes of a schedule's own text, with its last line feed.
@@ -17,14 +18,15 @@ const TEXT_BYTES: usize = 8_388_609;
 /// The fewest bytes before a line of a header that comes after the service's.
 const HEADER_BYTES: usize = 12;
 
-/// The schedule that a text spells.
+/// The schedule that a text spells, if its server doesn't last.
 fn schedule_in(alloc: Global, text: &[u8]) -> Option<Schedule>
     ensures fits { IfSome result FitsSchedule }
     ensures apart { IfSome result (λ schedule. are_apart schedule.server (clients_of schedule.server schedule.clients) ≡ true) }
 {
     accepted_schedules_fit();
     accepted_schedules_can_be_played();
-    match read_schedule(alloc, text) {
+    fleeting_texts_spell_schedules();
+    match read_fleeting_schedule(alloc, text) {
         Ok(schedule) => Some(schedule),
         Err(_) => None,
     }

@@ -65,8 +65,8 @@ fn play(
         }
         "read" => read(alloc, rest, said),
         "many" => read_many(alloc, rest, said),
-        "script" => say_script(alloc, rest, said),
-        "packet" => say_packet(alloc, rest, said),
+        "script" => write_script(alloc, rest, said),
+        "packet" => write_packet(alloc, rest, said),
         "schedule" => {
             schedule.clear();
             percent_decode(rest.as_bytes()).append_to(schedule)?;
@@ -103,15 +103,15 @@ fn read(alloc: Global, escaped: &str, said: &mut Said) -> Result<(), NoMemory> {
     let text = bytes_of(alloc, escaped)?;
     match read_schedule(alloc, text.as_slice()) {
         Ok(schedule) => {
-            say_schedule(alloc, &schedule, said);
+            report_schedule(alloc, &schedule, said);
             Ok(())
         }
-        Err(end) => say_end(end, said),
+        Err(end) => write_end(end, said),
     }
 }
 
 /// Says a schedule's header and its events.
-fn say_schedule(alloc: Global, schedule: &Schedule, said: &mut Said) {
+fn report_schedule(alloc: Global, schedule: &Schedule, said: &mut Said) {
     let mut lines = Vec::new(alloc);
     said.note(write_schedule(alloc, schedule, &mut lines));
     said.add(lines.as_slice());
@@ -126,7 +126,7 @@ fn write_schedule(alloc: Global, schedule: &Schedule, lines: &mut Vec<u8>) -> Re
 }
 
 /// Says why a text is refused.
-fn say_end(end: ScheduleEnd, said: &mut Said) -> Result<(), NoMemory> {
+fn write_end(end: ScheduleEnd, said: &mut Said) -> Result<(), NoMemory> {
     match end {
         ScheduleEnd::NoMemory => return Err(NoMemory),
         ScheduleEnd::BadLine { line, why } => write!(said, "line {line}: {why:?}\n"),
@@ -159,12 +159,12 @@ fn read_many(alloc: Global, rest: &str, said: &mut Said) -> Result<(), NoMemory>
             write!(said, "{count} events\n");
             Ok(())
         }
-        Err(end) => say_end(end, said),
+        Err(end) => write_end(end, said),
     }
 }
 
 /// Says what a client has to say.
-fn say_script(alloc: Global, word: &str, said: &mut Said) -> Result<(), NoMemory> {
+fn write_script(alloc: Global, word: &str, said: &mut Said) -> Result<(), NoMemory> {
     match read_script(alloc, word.as_bytes())? {
         Some(Script::Bytes(bytes)) => {
             said.digits(bytes.as_slice());
@@ -177,7 +177,7 @@ fn say_script(alloc: Global, word: &str, said: &mut Said) -> Result<(), NoMemory
 }
 
 /// Says the line of a packet.
-fn say_packet(alloc: Global, rest: &str, said: &mut Said) -> Result<(), NoMemory> {
+fn write_packet(alloc: Global, rest: &str, said: &mut Said) -> Result<(), NoMemory> {
     let (way, text) = rest.split_once(' ').unwrap_or((rest, ""));
     let way = match way {
         "up" => Way::ClientToServer(1),
@@ -188,16 +188,16 @@ fn say_packet(alloc: Global, rest: &str, said: &mut Said) -> Result<(), NoMemory
         _ => Way::LoggerToServer,
     };
     match bytes_of_hex(alloc, text)? {
-        Some(bytes) => say_bytes(alloc, way, bytes.as_slice(), said),
+        Some(bytes) => write_bytes(alloc, way, bytes.as_slice(), said),
         None => said.line("no bytes"),
     }
     Ok(())
 }
 
 /// Says the line of the packet that these bytes are, or why they are none.
-fn say_bytes(alloc: Global, way: Way, bytes: &[u8], said: &mut Said) {
+fn write_bytes(alloc: Global, way: Way, bytes: &[u8], said: &mut Said) {
     if !is_packet(way, bytes) {
-        return say_refusal(way, bytes, said);
+        return write_refusal(way, bytes, said);
     }
     let mut line = Vec::new(alloc);
     said.note(write_packet_line(alloc, 7, way, bytes, &mut line));
@@ -205,7 +205,7 @@ fn say_bytes(alloc: Global, way: Way, bytes: &[u8], said: &mut Said) {
 }
 
 /// Says which test of its grammar a segment or a message fails.
-fn say_refusal(way: Way, bytes: &[u8], said: &mut Said) {
+fn write_refusal(way: Way, bytes: &[u8], said: &mut Said) {
     said.add(b"no packet");
     match way {
         Way::ClientToServer(_) | Way::ServerToClient(_) => {

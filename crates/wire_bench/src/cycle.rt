@@ -89,7 +89,7 @@ fn push_segment(alloc: Global, is_client: bool, seq: u32, ack: u32, text: &[u8],
 }
 
 /// Bytes to be logged, at most one, with as many acknowledged as are logged before.
-#[tactic(auto, unfolding(seq_arith::specs::MessageGrammar::has_length, seq_arith::specs::MessageGrammar::is_sound))]
+#[tactic(auto, unfolding(seq_arith::specs::MessageGrammar::has_length, seq_arith::specs::MessageGrammar::is_sound_by))]
 fn push_data(alloc: Global, offset: u32, bytes: &[u8], sent: &mut Run)
     requires few { length bytes.now ≤ 1 }
     requires within { offset ≤ 100000 }
@@ -99,13 +99,14 @@ fn push_data(alloc: Global, offset: u32, bytes: &[u8], sent: &mut Run)
         offset,
         acked: offset,
         fin: false,
+        more: false,
         bytes,
     });
     push_message(alloc, Way::ServerToLogger, &Msg { boot: 1, body }, sent);
 }
 
 /// The length of a read, which is 1.
-#[tactic(auto, unfolding(seq_arith::specs::MessageGrammar::has_length, seq_arith::specs::MessageGrammar::is_sound))]
+#[tactic(auto, unfolding(seq_arith::specs::MessageGrammar::has_length, seq_arith::specs::MessageGrammar::is_sound_by))]
 fn push_read(alloc: Global, index: u32, sent: &mut Run)
     requires { index ≤ 100000 }
 {
@@ -118,7 +119,7 @@ fn push_read(alloc: Global, index: u32, sent: &mut Run)
 }
 
 /// How much is logged, as an answer to bytes.
-#[tactic(auto, unfolding(seq_arith::specs::MessageGrammar::has_length, seq_arith::specs::MessageGrammar::is_sound))]
+#[tactic(auto, unfolding(seq_arith::specs::MessageGrammar::has_length, seq_arith::specs::MessageGrammar::is_sound_by))]
 fn push_stable(alloc: Global, length: u32, reads: u32, sent: &mut Run)
     requires length { length ≤ 100000 }
     requires reads { reads ≤ 100000 }
@@ -133,7 +134,7 @@ fn push_stable(alloc: Global, length: u32, reads: u32, sent: &mut Run)
 }
 
 /// How much is logged, as an answer to a read.
-#[tactic(auto, unfolding(seq_arith::specs::MessageGrammar::has_length, seq_arith::specs::MessageGrammar::is_sound))]
+#[tactic(auto, unfolding(seq_arith::specs::MessageGrammar::has_length, seq_arith::specs::MessageGrammar::is_sound_by))]
 fn push_reads(alloc: Global, count: u32, sent: &mut Run)
     requires { count ≤ 100000 }
 {

@@ -8,8 +8,8 @@
 //! bytes that were kept, and the minimum time that one of the first 16 and one of the last 16 marks took in nanoseconds, over all rounds.
 //!
 //! `log twin WHO COUNT BURST`, for `bench/twin.sh`, gives messages to one log or to a head and a tail: WHO is `one` or `pair`. COUNT messages, at most
-//! 100,000, are Data of 100 bytes, one after another in one entry. After each BURST of them a pair's tail is given all that the head has forwarded, in order, and
-//! the head all that the tail has confirmed. It prints how many messages there were, how many Forwards, and how many answers.
+//! 100,000, are Data of 100 bytes, one after another in one entry. After each BURST of them a pair's tail is given all that the head has forwarded, in order,
+//! and the head all that the tail has confirmed. It prints how many messages there were, how many Forwards, and how many answers.
 
 ghost use Rattle.std.specs.Prelude.{◌≡◌, ◌≤◌, ◌<◌, ◌+◌, ◌^◌, length};
 ghost use Rattle.logger_wire.specs.Value.{IsSendable};
@@ -144,7 +144,7 @@ struct Talk {
 
 impl Talk {
     /// Spells a message, and gives it to the log.
-    fn say(&mut self, alloc: Global, m: &Msg<'_>)
+    fn send(&mut self, alloc: Global, m: &Msg<'_>)
         requires { IsSendable m.now }
     {
         let len = write_msg(m, &mut self.datagram).min(2_048);
@@ -171,18 +171,18 @@ fn fill_and_fetch(
 ) -> Result<Tally, NoMemory>
     requires { bytes ≤ 2 ^ 24 }
 {
-    talk.say(alloc, &hello());
-    talk.say(alloc, &opening());
+    talk.send(alloc, &hello());
+    talk.send(alloc, &opening());
     let text = [b'a'; limits::TEXT];
     let mut read = 0u32;
     for i in 0..bytes.div_ceil(DATA) {
         let offset = i * DATA;
         let len = DATA.min(bytes.saturating_sub(offset));
-        give_bytes(alloc, talk, offset, &text[..len as usize]);
+        deliver_bytes(alloc, talk, offset, &text[..len as usize]);
         let other = if i % 2 == 0 { DATA - 1 } else { DATA + 1 };
         let wanted = if alternates { other } else { len };
         let next = wanted.min((offset + len).saturating_sub(read));
-        give_read(alloc, talk, i, next);
+        deliver_read(alloc, talk, i, next);
         read += next;
     }
     for i in 0..bytes.div_ceil(PART) {
@@ -198,7 +198,7 @@ fn fill_and_fetch(
 }
 
 /// The first message.
-#[tactic(auto, unfolding(seq_arith::specs::MessageGrammar::has_length, seq_arith::specs::MessageGrammar::is_sound))]
+#[tactic(auto, unfolding(seq_arith::specs::MessageGrammar::has_length, seq_arith::specs::MessageGrammar::is_sound_by))]
 fn hello() -> Msg<'static>
     ensures { IsSendable result }
 {
@@ -209,7 +209,7 @@ fn hello() -> Msg<'static>
 }
 
 /// The message that opens the entry.
-#[tactic(auto, unfolding(seq_arith::specs::MessageGrammar::has_length, seq_arith::specs::MessageGrammar::is_sound))]
+#[tactic(auto, unfolding(seq_arith::specs::MessageGrammar::has_length, seq_arith::specs::MessageGrammar::is_sound_by))]
 fn opening() -> Msg<'static>
     ensures { IsSendable result }
 {
@@ -224,8 +224,8 @@ fn opening() -> Msg<'static>
     }
 }
 
-#[tactic(auto, unfolding(seq_arith::specs::MessageGrammar::has_length, seq_arith::specs::MessageGrammar::is_sound))]
-fn give_bytes(alloc: Global, talk: &mut Talk, offset: u32, bytes: &[u8])
+#[tactic(auto, unfolding(seq_arith::specs::MessageGrammar::has_length, seq_arith::specs::MessageGrammar::is_sound_by))]
+fn deliver_bytes(alloc: Global, talk: &mut Talk, offset: u32, bytes: &[u8])
     requires few { length bytes.now ≤ 1460 }
     requires within { offset + length bytes.now ≤ 2 ^ 24 }
 {
@@ -234,13 +234,14 @@ fn give_bytes(alloc: Global, talk: &mut Talk, offset: u32, bytes: &[u8])
         offset,
         acked: 0,
         fin: false,
+        more: false,
         bytes,
     });
-    talk.say(alloc, &Msg { boot: 1, body });
+    talk.send(alloc, &Msg { boot: 1, body });
 }
 
-#[tactic(auto, unfolding(seq_arith::specs::MessageGrammar::has_length, seq_arith::specs::MessageGrammar::is_sound))]
-fn give_read(alloc: Global, talk: &mut Talk, index: u32, len: u32)
+#[tactic(auto, unfolding(seq_arith::specs::MessageGrammar::has_length, seq_arith::specs::MessageGrammar::is_sound_by))]
+fn deliver_read(alloc: Global, talk: &mut Talk, index: u32, len: u32)
     requires index { index ≤ 2 ^ 24 }
     requires len { len ≤ 2048 }
 {
@@ -249,10 +250,10 @@ fn give_read(alloc: Global, talk: &mut Talk, index: u32, len: u32)
         index,
         length: len as u16,
     };
-    talk.say(alloc, &Msg { boot: 1, body });
+    talk.send(alloc, &Msg { boot: 1, body });
 }
 
-#[tactic(auto, unfolding(seq_arith::specs::MessageGrammar::has_length, seq_arith::specs::MessageGrammar::is_sound))]
+#[tactic(auto, unfolding(seq_arith::specs::MessageGrammar::has_length, seq_arith::specs::MessageGrammar::is_sound_by))]
 fn fetch_bytes(alloc: Global, talk: &mut Talk, offset: u32)
     requires { offset ≤ 2 ^ 24 }
 {
@@ -260,13 +261,13 @@ fn fetch_bytes(alloc: Global, talk: &mut Talk, offset: u32)
         key: CLIENT,
         offset,
     };
-    talk.say(alloc, &Msg { boot: 1, body });
+    talk.send(alloc, &Msg { boot: 1, body });
 }
 
-#[tactic(auto, unfolding(seq_arith::specs::MessageGrammar::has_length, seq_arith::specs::MessageGrammar::is_sound))]
+#[tactic(auto, unfolding(seq_arith::specs::MessageGrammar::has_length, seq_arith::specs::MessageGrammar::is_sound_by))]
 fn fetch_lengths(alloc: Global, talk: &mut Talk, first: u32)
     requires { first ≤ 2 ^ 24 }
 {
     let body = Body::Cuts { key: CLIENT, first };
-    talk.say(alloc, &Msg { boot: 1, body });
+    talk.send(alloc, &Msg { boot: 1, body });
 }

@@ -28,7 +28,7 @@ pub(crate) fn total(alloc: Global, words: &[&str]) -> Result<u64> {
 }
 
 /// The ith Data with this text, or the ith length of a read.
-#[tactic(auto, unfolding(seq_arith::specs::MessageGrammar::has_length, seq_arith::specs::MessageGrammar::is_sound))]
+#[tactic(auto, unfolding(seq_arith::specs::MessageGrammar::has_length, seq_arith::specs::MessageGrammar::is_sound_by))]
 fn message(is_data: bool, i: u32, text: &[u8]) -> Msg<'_>
     requires few { i < 64 }
     requires size { length text.now ≡ 1460 }
@@ -42,6 +42,7 @@ fn message(is_data: bool, i: u32, text: &[u8]) -> Msg<'_>
                 offset: i,
                 acked: 0,
                 fin: false,
+                more: false,
                 bytes: text,
             }),
         };

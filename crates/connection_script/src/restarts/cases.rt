@@ -111,8 +111,8 @@ fn hostile(alloc: Global, bytes: &[u8], said: &mut Said) -> Result<(), NoMemory>
     Ok(())
 }
 
-/// Connections whose client continues to send, and then some whose client has sent its FIN: the server's FIN is acknowledged, isn't, or isn't due before the rest
-/// is read.
+/// Connections whose client continues to send, and then some whose client has sent its FIN: the server's FIN is acknowledged, isn't, or isn't due before the
+/// rest is read.
 fn open_and_ending(alloc: Global, long: &[u8], said: &mut Said) {
     let long = logged(long, 0, &[2_048, 452], 5);
     restart(alloc, "streaming_questions", METER, false, long, said);

@@ -130,7 +130,8 @@ pub(crate) fn at_the_ends(alloc: Global, said: &mut Said) {
     from_mark(alloc, "ended", ECHO, ended, ECHOED, said);
 }
 
-/// A message that isn't the awaited mark: one of another boot or another key, one that the entry can't have, one whose state isn't read back, or another answer.
+/// A message that isn't the awaited mark: one of another boot or another key, one that the entry can't have, one whose state isn't read back, or another
+/// answer.
 fn wrong(alloc: Global, entry: &Logged<'_>, drawn: u32) -> Result<Vec<u8>, NoMemory> {
     let mark = entry.mark;
     let more = 1 + drawn / 10 % 1_000;
@@ -168,8 +169,8 @@ fn wrong(alloc: Global, entry: &Logged<'_>, drawn: u32) -> Result<Vec<u8>, NoMem
     held_of(alloc, BOOT, entry.key, wrong)
 }
 
-/// 1,000 such messages while a mark is awaited, and then three equal marks. The restart continues as if the former hadn't arrived. Once the mark has come, it is no
-/// answer any more. How many of all are taken is said.
+/// 1,000 such messages while a mark is awaited, and then three equal marks. The restart continues as if the former hadn't arrived. Once the mark has come, it
+/// is no answer any more. How many of all are taken is said.
 fn hostile_fetch(
     alloc: Global,
     fetching: &mut Fetching<AnyService>,

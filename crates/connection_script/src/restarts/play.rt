@@ -2,7 +2,7 @@
 
 use crate::peers::SERVER;
 use crate::restarts::logged::{Logged, any_answer};
-use crate::restarts::text::tell_question;
+use crate::restarts::text::write_question;
 use ft_io::NoMemory;
 use logger_wire::{read_mark, read_msg};
 use reincarnate::{AnyMsg, Asked, Entries, Fetching, Replayed};
@@ -35,6 +35,7 @@ pub(crate) fn begin(
 }
 
 /// Hands over bytes, if they are a message of either kind. Whether it fits.
+#[tactic(auto, using(reincarnate::proofs::Sendable::read_plainly))]
 pub(crate) fn hand(
     alloc: Global,
     fetching: &mut Fetching<AnyService>,
@@ -59,7 +60,7 @@ pub(crate) fn fetch(
     for _ in 0..QUESTIONS {
         let bytes = match fetching.question() {
             Some(question) => {
-                tell_question(&question, said);
+                write_question(&question, said);
                 any_answer(alloc, BOOT, entries, &question)?
             }
             None => return Ok(()),

@@ -5,7 +5,7 @@ use reincarnate::AnyMsg;
 use test_data::Said;
 
 /// Says the line of a question of either kind.
-pub(crate) fn tell_question(question: &AnyMsg<'_>, said: &mut Said) {
+pub(crate) fn write_question(question: &AnyMsg<'_>, said: &mut Said) {
     match question {
         AnyMsg::Log(question) => match question.body {
             Body::List { index } => write!(said, "list {index}\n"),

@@ -53,7 +53,7 @@ impl Client {
     }
 
     /// Takes what the server sent.
-    pub(crate) fn hear(&mut self, sent: &Outbox) {
+    pub(crate) fn receive(&mut self, sent: &Outbox) {
         for i in 0..sent.len() {
             if let Ok(packet) = read_packet(sent.packet(i)) {
                 self.endpoint.on_packet(packet);

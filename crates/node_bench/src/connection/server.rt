@@ -142,7 +142,7 @@ impl Server {
     {
         let segments = backend.turn.segments();
         self.segments = self.segments.saturating_add(segments.len() as u64);
-        client.hear(segments);
+        client.receive(segments);
         backend
             .logger
             .take_turn(alloc, &backend.turn, &mut backend.answers)

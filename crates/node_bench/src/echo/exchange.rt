@@ -86,7 +86,7 @@ impl Side {
     }
 
     /// Takes what the other end sent last. With one segment in flight this is at most one packet, since a FIN has a segment of its own.
-    fn hear(&mut self, sent: &Outbox, way: Way) {
+    fn receive(&mut self, sent: &Outbox, way: Way) {
         for i in 0..sent.len() {
             let place = way.place(i, sent.len());
             self.due = self.due.wrapping_add(1);
@@ -179,7 +179,7 @@ impl Exchange {
 
     /// Reads what came back, and writes the next bytes, or closes after the last.
     fn client_turn(&mut self) {
-        self.client.hear(&self.server.out, self.way);
+        self.client.receive(&self.server.out, self.way);
         for _ in 0..self.way.calls() {
             let count = self.client.endpoint.read(&mut self.buf);
             let expected = self.pattern.part(self.echoed, count);
@@ -211,7 +211,7 @@ impl Exchange {
 
     /// Echoes all that came, as far as there is room to write it, and closes after the peer's end.
     fn server_turn(&mut self) {
-        self.server.hear(&self.client.out, self.way);
+        self.server.receive(&self.client.out, self.way);
         for _ in 0..self.way.calls() {
             let room = self.server.endpoint.room().min(limits::TEXT);
             let buf = &mut self.buf[..];

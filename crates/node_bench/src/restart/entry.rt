@@ -28,7 +28,7 @@ pub(crate) fn fill(
     for i in 0..bytes.div_ceil(DATA) {
         let offset = i * DATA;
         let len = DATA.min(bytes.saturating_sub(offset));
-        give_bytes(alloc, logger, offset, &text[..len as usize])?;
+        deliver_bytes(alloc, logger, offset, &text[..len as usize])?;
     }
     cut(alloc, logger, bytes, read)
 }
@@ -44,14 +44,19 @@ fn cut(alloc: Global, logger: &mut Logger, bytes: u32, read: u16) -> Result<(), 
         if len == 0 {
             return Ok(());
         }
-        give_read(alloc, logger, i, len)?;
+        deliver_read(alloc, logger, i, len)?;
         left -= len;
     }
     Ok(())
 }
 
-#[tactic(auto, unfolding(seq_arith::specs::MessageGrammar::has_length, seq_arith::specs::MessageGrammar::is_sound))]
-fn give_bytes(alloc: Global, logger: &mut Logger, offset: u32, bytes: &[u8]) -> Result<(), NoMemory>
+#[tactic(auto, unfolding(seq_arith::specs::MessageGrammar::has_length, seq_arith::specs::MessageGrammar::is_sound_by))]
+fn deliver_bytes(
+    alloc: Global,
+    logger: &mut Logger,
+    offset: u32,
+    bytes: &[u8],
+) -> Result<(), NoMemory>
     requires few { length bytes.now ≤ 1460 }
     requires within { offset + length bytes.now ≤ 2 ^ 24 }
 {
@@ -60,13 +65,14 @@ fn give_bytes(alloc: Global, logger: &mut Logger, offset: u32, bytes: &[u8]) -> 
         offset,
         acked: STREAM,
         fin: false,
+        more: false,
         bytes,
     });
-    logger.say(alloc, &Msg { boot: BOOT, body })
+    logger.send(alloc, &Msg { boot: BOOT, body })
 }
 
-#[tactic(auto, unfolding(seq_arith::specs::MessageGrammar::has_length, seq_arith::specs::MessageGrammar::is_sound))]
-fn give_read(alloc: Global, logger: &mut Logger, index: u32, len: u32) -> Result<(), NoMemory>
+#[tactic(auto, unfolding(seq_arith::specs::MessageGrammar::has_length, seq_arith::specs::MessageGrammar::is_sound_by))]
+fn deliver_read(alloc: Global, logger: &mut Logger, index: u32, len: u32) -> Result<(), NoMemory>
     requires index { index ≤ 2 ^ 24 }
     requires len { len ≤ 2048 }
 {
@@ -75,7 +81,7 @@ fn give_read(alloc: Global, logger: &mut Logger, index: u32, len: u32) -> Result
         index,
         length: len as u16,
     };
-    logger.say(alloc, &Msg { boot: BOOT, body })
+    logger.send(alloc, &Msg { boot: BOOT, body })
 }
 
 /// Logs a mark after so many reads, all of this size, of a service of this kind.
@@ -99,7 +105,7 @@ pub(crate) fn mark(
             state: &[],
         },
     };
-    logger.say_mark(alloc, &MarkMsg { boot: BOOT, body })
+    logger.send_mark(alloc, &MarkMsg { boot: BOOT, body })
 }
 
 /// How many bytes of output a service of this kind writes for a read of this size.

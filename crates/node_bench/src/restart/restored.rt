@@ -1,7 +1,7 @@
 //! A restart from the log.
 
 ghost use Rattle.std.specs.Prelude.{◌≤◌, IfSome};
-ghost use Rattle.reincarnate.specs.Marking.{IsAnySendable};
+ghost use Rattle.reincarnate.specs.Marking.{IsAnyRead};
 
 use crate::SERVER;
 use crate::logger::Logger;
@@ -37,6 +37,7 @@ impl Restored {
 }
 
 /// Restarts a server of this boot number from the log, and from its marks if it has marks.
+#[tactic(auto, using(reincarnate::proofs::Sendable::asked_by))]
 pub(crate) fn restart(
     alloc: Global,
     logger: &mut Logger,
@@ -48,7 +49,7 @@ pub(crate) fn restart(
 {
     let asked = Asked::new(boot);
     let hello = asked.question();
-    logger.say(alloc, &hello)?;
+    logger.send(alloc, &hello)?;
     restored.questions = restored.questions.saturating_add(1);
     let count = match read_msg(logger.answer()) {
         Ok(
@@ -104,8 +105,9 @@ fn fetch(
 }
 
 /// The message of either kind that these bytes are.
+#[tactic(auto, using(reincarnate::proofs::Sendable::read_plainly))]
 fn read_any(bytes: &[u8]) -> Option<AnyMsg<'_>>
-    ensures { IfSome result (λ m. IsAnySendable m) }
+    ensures { IfSome result (λ m. IsAnyRead m) }
 {
     if let Ok(m) = read_msg(bytes) {
         return Some(AnyMsg::Log(m));

@@ -33,7 +33,7 @@ struct Talk {
 
 impl Talk {
     /// Spells a message, and gives it to the log.
-    fn say(&mut self, alloc: Global, m: &Msg<'_>)
+    fn send(&mut self, alloc: Global, m: &Msg<'_>)
         requires { IsSendable m.now }
     {
         let len = write_msg(m, &mut self.datagram).min(2_048);
@@ -43,8 +43,8 @@ impl Talk {
 }
 
 /// The bytes for the reads up to the next mark, and these reads.
-#[tactic(auto, unfolding(seq_arith::specs::MessageGrammar::has_length, seq_arith::specs::MessageGrammar::is_sound))]
-fn give_reads(alloc: Global, talk: &mut Talk, first: u32)
+#[tactic(auto, unfolding(seq_arith::specs::MessageGrammar::has_length, seq_arith::specs::MessageGrammar::is_sound_by))]
+fn deliver_reads(alloc: Global, talk: &mut Talk, first: u32)
     requires { first + 64 ≤ 2 ^ 20 }
 {
     let text = [b'a'; 1_024];
@@ -53,16 +53,17 @@ fn give_reads(alloc: Global, talk: &mut Talk, first: u32)
         offset: 16 * first,
         acked: 0,
         fin: false,
+        more: false,
         bytes: &text,
     });
-    talk.say(alloc, &Msg { boot: 1, body });
+    talk.send(alloc, &Msg { boot: 1, body });
     for i in 0..EVERY {
         let body = Body::Read {
             key: CLIENT,
             index: first + i,
             length: if i % 2 == 0 { 15 } else { 17 },
         };
-        talk.say(alloc, &Msg { boot: 1, body });
+        talk.send(alloc, &Msg { boot: 1, body });
     }
 }
 
@@ -127,13 +128,13 @@ pub(crate) fn run_marks<C: Clock>(clock: &C, alloc: Global, words: &[&str]) -> R
             out: MsgOut::new(),
             is_lost: false,
         };
-        give_marks(clock, alloc, &mut talk, reads / EVERY, &mut seen)?;
+        deliver_marks(clock, alloc, &mut talk, reads / EVERY, &mut seen)?;
     }
     Ok(seen)
 }
 
 /// Opens a connection in an empty log, and gives it so many marks, each after its reads.
-fn give_marks<C: Clock>(
+fn deliver_marks<C: Clock>(
     clock: &C,
     alloc: Global,
     talk: &mut Talk,
@@ -142,10 +143,10 @@ fn give_marks<C: Clock>(
 ) -> Result<()>
     requires { marks ≤ 2 ^ 14 }
 {
-    talk.say(alloc, &hello());
-    talk.say(alloc, &opening());
+    talk.send(alloc, &hello());
+    talk.send(alloc, &opening());
     for i in 0..marks {
-        give_reads(alloc, talk, EVERY * i);
+        deliver_reads(alloc, talk, EVERY * i);
         seen.kept = seen.kept.max(talk.log.kept(0));
         let took = time_mark(clock, alloc, talk, EVERY * (i + 1))?;
         if i < TIMED {

@@ -27,7 +27,7 @@ pub(crate) fn run_twins(alloc: Global, words: &[&str]) -> Result<Tally> {
     let burst: u32 = burst.parse().context("BURST")?;
     ensure!(count <= MESSAGES, "COUNT is at most 100,000");
     let said = if *who == "one" {
-        give_all(alloc, &mut LogStore::new(alloc), count)
+        deliver_all(alloc, &mut LogStore::new(alloc), count)
     } else {
         to_pair(alloc, count, burst)
     };
@@ -87,7 +87,7 @@ fn message(i: u32) -> Datagram
     }
 }
 
-#[tactic(auto, unfolding(seq_arith::specs::MessageGrammar::has_length, seq_arith::specs::MessageGrammar::is_sound))]
+#[tactic(auto, unfolding(seq_arith::specs::MessageGrammar::has_length, seq_arith::specs::MessageGrammar::is_sound_by))]
 fn data(i: u32) -> Datagram
     requires { i < 100000 }
 {
@@ -99,13 +99,14 @@ fn data(i: u32) -> Datagram
             offset: i * DATA,
             acked: 0,
             fin: false,
+            more: false,
             bytes: &text,
         }),
     })
 }
 
 /// Gives one log, which is empty, the messages.
-fn give_all(alloc: Global, log: &mut LogStore, count: u32) -> Result<Tally, NoMemory>
+fn deliver_all(alloc: Global, log: &mut LogStore, count: u32) -> Result<Tally, NoMemory>
     requires { count ≤ 100000 }
 {
     let mut out = MsgOut::new();
