@@ -36,6 +36,33 @@ server() {
 }
 client() { start "client$1" "$ours" client --local "$at:$((base + 2))" --server "$at:$base" --isn 1000 --turns 1000000; }
 
+# Sends datagrams of one byte to a port of this machine, which no role takes for a message or a segment, until a process has ended; prints how many.
+use_up() { # PID PORT
+    python3 - "$1" "$2" "$at" <<'END'
+import os, socket, sys, time
+
+pid, port, host = int(sys.argv[1]), int(sys.argv[2]), sys.argv[3]
+sender = socket.socket(socket.AF_INET, socket.SOCK_DGRAM)
+sent = 0
+
+
+def runs():
+    try:
+        with open(f"/proc/{pid}/stat") as stat:
+            return stat.read().rsplit(")", 1)[1].split()[0] != "Z"
+    except FileNotFoundError:
+        return False
+
+
+while runs():
+    for _ in range(20):
+        sender.sendto(b"x", (host, port))
+    sent += 20
+    time.sleep(0.001)
+print(sent)
+END
+}
+
 lines() { awk -v n="$1" 'BEGIN { for (i = 1; i <= n; i++) printf "%c", i % 64 ? 97 + i % 26 : 10 }' >"$work/script"; }
 
 same() { # NAME STATUS WANTED
@@ -47,9 +74,10 @@ told() {
     for role in server logger; do
         line=$(cat "$work/$role$1.out")
         time=$(tail -1 "$work/$role$1.time")
-        awk -v role="$role" -v line="$line" -v t="$time" 'BEGIN {
+        awk -v role="$role" -v line="$line" -v t="$time" -v used="$(cat "$work/$role$1.used")" 'BEGIN {
             split(line, c, " "); split(t, x, " ")
-            printf "%s: %s; %.1f us of processor a datagram that came, %d KiB held\n", role, line, (x[1] + x[2]) * 1e6 / c[4], x[3]
+            printf "%s: %s, %d of them to use up its turns; %.1f us of processor a datagram that came, %d KiB held\n",
+                role, line, used, (x[1] + x[2]) * 1e6 / (c[4] - used), x[3]
         }'
     done
 }
@@ -70,9 +98,9 @@ beside_echo() {
         wait "$last"
         spun=$(($(date +%s%N) - begun - 200000000))
         wait $!
-        echo "$(cat "$work/serverA.out") $(tail -1 "$work/serverA.time") $1 $(cat "$work/echo.out") $(tail -1 "$work/echo.time") $spun" >"$work/row"
+        echo "$(cat "$work/serverA.out") $(tail -1 "$work/serverA.time") $1 $(cat "$work/echo.out") $(tail -1 "$work/echo.time") $spun $(cat "$work/serverA.used")" >"$work/row"
         awk -v ahead="$ahead" '{
-            ours = $4 + $6; our_us = ($11 + $12) * 1e6 / ours; our_rate = ours * 1e9 / $14
+            ours = $4 - $19 + $6; our_us = ($11 + $12) * 1e6 / ours; our_rate = ours * 1e9 / $14
             theirs = 2 * $15; their_us = ($16 + $17) * 1e6 / theirs; their_rate = theirs * 1e9 / $18
             printf "C echo, %d under way: %d datagrams a second, %.2f us of processor each; server: %d, %.2f us; ", ahead, their_rate, their_us, our_rate, our_us
             printf "as many as C: %.2f, in a second of the processor %.2f\n", our_rate / their_rate, their_us / our_us
@@ -84,13 +112,13 @@ machine
 lines "$size"
 
 # A run whose client sends the script, and to whom the bytes of a file have to come. Server and logger have so many turns for ten segments of the client, as
-# many datagrams as come then, and 600 more, which are ticks (20 ms each)
+# many datagrams as come then, and 600 more. A lost datagram costs further turns, so they have a quarter more; what is left when the client ends is used up.
 transfer() { # NAME WANTED SERVER_TURNS LOGGER_TURNS
     local logger_pid server_pid begun status=0
-    logger "$1" $((size / 14600 * $4 + 600))
+    logger "$1" $((size / 14600 * $4 * 5 / 4 + 600))
     logger_pid=$last
     sleep 0.2
-    server "$1" 1 $((size / 14600 * $3 + 600))
+    server "$1" 1 $((size / 14600 * $3 * 5 / 4 + 600))
     server_pid=$last
     begun=$(date +%s%N)
     client "$1"
@@ -98,6 +126,8 @@ transfer() { # NAME WANTED SERVER_TURNS LOGGER_TURNS
     taken=$(($(date +%s%N) - begun))
     same "$1" "$status" "$2"
     awk -v n="$size" -v ns="$taken" 'BEGIN { printf "%d bytes sent and answered in %.2f s: %.2f MB a second\n", n, ns / 1e9, n * 1e3 / ns }'
+    use_up "$server_pid" "$base" >"$work/server$1.used"
+    use_up "$logger_pid" "$((base + 1))" >"$work/logger$1.used"
     wait "$server_pid" "$logger_pid" || true
     told "$1"
 }

@@ -6,10 +6,12 @@
 #  2. the size of the file, compared with what a client sent in full segments, through a server with the service Meter, which answers little, and with Echo. Goal:
 #     at most 1.05 times;
 #  3. the opening of a file of 64 MiB that is read from the disk, the minimum of ROUNDS. Goal: 100 MB a second;
-#  4. the peak memory of a logger that takes 16 MiB, with a journal and without one. Goal: at most 1 MiB more.
+#  4. the peak memory of a logger that takes 16 MiB, with a journal and without one. Goal: at most 1 MiB more;
+#  5. the length of the file of a logger that keeps 64 connections of 1 MB each and is given GROWTH megabytes for them (bench/journal_growth.py), its longest silence, and a
+#     start with that file. Goal: at most 2.2 times the log and 64 MiB, and less than a second.
 # Status 0 if all goals are met, 1 if one is missed, 2 if it can't run.
 #     sudo bench/journal.sh [PROGRAM] [FOLDER]
-# PROGRAM is a built ftnode, by default this checkout's. The files are in FOLDER, by default /tmp. The environment may set ROUNDS (9). It takes about two minutes.
+# PROGRAM is a built ftnode, by default this checkout's. The files are in FOLDER, by default /tmp. The environment may set ROUNDS (9) and GROWTH (4,096). It takes about four minutes.
 # While it runs, net.core.rmem_default of the machine is raised, so that 256 datagrams fit into a socket's buffer.
 set -eu
 program=${1:+$(realpath "$1")} folder=${2:-}
@@ -145,5 +147,6 @@ measure_file meter
 measure_file echo
 measure_opening
 measure_memory
+bench/journal_growth.py "$program" "$folder" "${GROWTH:-4096}" || missed=1
 echo "load $(cut -d' ' -f1 /proc/loadavg)"
 exit $missed

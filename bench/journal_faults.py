@@ -14,8 +14,8 @@ import time
 from pathlib import Path
 
 sys.path.insert(0, str(Path(__file__).resolve().parent.parent / "tools"))
-from journal_model import HEAD, HEADER, KEY, MAGIC, OLDER, ROUND, Refused, Wrong, blocks, data, file_of, header, hello, opening, read, reading, said
-from twin_model import read_message
+from journal_model import HEAD, HEADER, KEY, MAGIC, OLDER, ROUND, Refused, Wrong, blocks, data, file_of, header, hello, opening, read, reading, said, wide
+from twin_model import PLAIN, WIDE, read_message
 
 HERE, PIECE = ("127.0.0.1", 7360), 1400
 DONE = "turns 1 datagrams 0 sent 0 lost 0 failed 0\n"
@@ -26,8 +26,10 @@ REFUSED = {
     "empty": "ftnode: journal: the file is empty\n",
     "unfinished": "ftnode: journal: the file ends in its header\n",
     "older": "ftnode: journal: version 1\n",
+    "other": "ftnode: journal: another profile\n",
 }
 BEGIN = ["--begin", "yes"]
+WAN = ["--profile", "wan"]
 NOBODY = ["setpriv", "--reuid=65534", "--regid=65534", "--clear-groups", "--"]
 program, room = sys.argv[1], Path(sys.argv[2])
 counts = {"cases": 0, "failed": 0}
@@ -54,17 +56,18 @@ class Logger:
     """A logger that runs, and a socket that asks it."""
 
     def __init__(self, path, more=()):
+        self.version = WIDE if WAN[1] in more else PLAIN
         self.process = subprocess.Popen([program, *words(["--journal", str(path), *more], 1_000_000)], stdout=subprocess.PIPE, stderr=subprocess.STDOUT, text=True)
         self.link = socket.socket(socket.AF_INET, socket.SOCK_DGRAM)
         self.link.connect(HERE)
-        self.link.settimeout(0.5)
+        self.link.settimeout(3)
 
     def asked(self, message):
         """The answer, or None once the logger has ended."""
         while self.process.poll() is None:
             try:
                 self.link.send(message)
-                return read_message(self.link.recv(2048))
+                return read_message(self.link.recv(2048), self.version)
             except (ConnectionRefusedError, TimeoutError):
                 time.sleep(0.01)
         return None
@@ -79,10 +82,10 @@ class Logger:
         return status, text
 
 
-def wanted_of(content):
+def wanted_of(content, version=PLAIN):
     """What a logger with one turn ends with, and the file after it, by the model."""
     try:
-        said, tip, tail = reading(content)
+        said, tip, tail = reading(content, version)
     except Wrong as wrong:
         return (12, f"ftnode: journal: byte {wrong.args[0]}\n"), content
     except Refused as refused:
@@ -90,10 +93,10 @@ def wanted_of(content):
     return (0, DONE + (f"ftnode: journal: cut {len(tail)} bytes\n" if tail else "")), content[: tip[0]]
 
 
-def content_case(what, content):
+def content_case(what, content, version=PLAIN):
     path = room / "content"
     path.write_bytes(content)
-    expect(what, (ended(path), path.read_bytes()), wanted_of(content))
+    expect(what, (ended(path, more=WAN if version == WIDE else ()), path.read_bytes()), wanted_of(content, version))
     path.unlink()
 
 
@@ -164,7 +167,7 @@ def begins():
     """A file is made where none is, and never taken where one is."""
     path = room / "begun"
     expect("made", ended(path, more=BEGIN), (0, DONE))
-    expect("what was made", (path.read_bytes()[:8], len(path.read_bytes()), reading(path.read_bytes())[0]), (MAGIC, HEADER, []))
+    expect("what was made", (path.read_bytes()[:8], len(path.read_bytes()), reading(path.read_bytes(), PLAIN)[0]), (MAGIC, HEADER, []))
     expect("opened", ended(path), (0, DONE))
     for what, content in (("a journal", path.read_bytes()), ("an empty file", b""), ("a part of a header", MAGIC), ("other bytes", bytes(99))):
         path.write_bytes(content)
@@ -243,6 +246,68 @@ def is_there(logger, told):
     return True
 
 
+def boots(logger, first, count):
+    """Tells a logger of so many servers, one after the other; whether it answered each."""
+    return all(getattr(logger.asked(hello(boot)), "name", None) == "Summary" for boot in range(first, first + count))
+
+
+def shorter():
+    """A file that is replaced by a shorter one when it has 4,096 bytes, and what is at the new file's name. The log stays the same."""
+    path, aside = room / "grown", room / "grown.new"
+    compact = ["--compact", "4096"]
+    logger = Logger(path, [*BEGIN, *compact])
+    expect("boots", boots(logger, 1, 5), True)
+    logger.asked(opening(5))
+    expect("bytes", logger.asked(data(5, 0, bytes(range(200)))).fields["length"], 200)
+    expect("a read", logger.asked(read(5, 0, 150)).name, "Reads")
+    expect("more boots", boots(logger, 6, 200), True)
+    expect("the file is short, and the new one is gone", (path.stat().st_size < 4096, aside.exists()), (True, False))
+    expect("its mode", path.stat().st_mode & 0o777, 0o600)
+    logger.end()
+    left = (("a left file", lambda: aside.write_bytes(b"left")), ("a newer journal", lambda: aside.write_bytes(file_of(hello(9999)))), ("a link", lambda: aside.symlink_to("target")))
+    for what, there in left:
+        there()
+        logger = Logger(path, compact)
+        expect(f"{what} is removed at the start", (boots(logger, 300, 1), os.path.lexists(aside)), (True, False))
+        logger.end()
+    logger = Logger(path, compact)
+    expect("boots again", boots(logger, 301, 1), True)
+    aside.mkdir()
+    expect("a folder in its place", (boots(logger, 302, 200), path.stat().st_size > 4096), (True, True))
+    aside.rmdir()
+    expect("and once it is gone", (boots(logger, 502, 200), path.stat().st_size < 4096), (True, True))
+    part = logger.asked(said(5, 502 + 199, KEY + bytes(4)))
+    expect("the bytes", part is not None and part.fields["bytes"], bytes(range(200)))
+    second = subprocess.run([program, *words(["--journal", str(path)], 1)], capture_output=True, text=True, timeout=60)
+    expect("the new file is locked", (second.returncode, second.stderr), (13, IN_USE))
+    logger.end()
+    said_in, tip, tail = reading(path.read_bytes(), PLAIN)
+    expect("the file by the model", (tip[0], tail), (path.stat().st_size, b""))
+    for value in ("4095", "1099511627777", "0", "-1", "x", ""):
+        run = subprocess.run([program, *words(["--journal", str(path), "--compact", value], 1)], capture_output=True, text=True, timeout=60)
+        expect(f"--compact {value}", run.returncode, 2)
+
+
+def profiles():
+    """A journal of the profile wan, which is replaced by a shorter one too: a plain logger refuses it, and a logger of the profile wan a plain one."""
+    path = room / "wide"
+    logger = Logger(path, [*BEGIN, *WAN, "--compact", "4096"])
+    logger.link.send(hello(5))
+    expect("a plain message has no answer", logger.asked(wide(hello(5))).name, "Summary")
+    logger.asked(wide(opening(5)))
+    logger.link.send(wide(data(5, 0, b"abc"), 2))
+    expect("the last of two is answered", logger.asked(wide(data(5, 3, b"d"))).fields["length"], 4)
+    before = path.read_bytes()
+    expect("boots", all(getattr(logger.asked(wide(hello(boot))), "name", None) == "Summary" for boot in range(6, 106)), True)
+    expect("the file is replaced", (path.stat().st_size < 4096, path.read_bytes()[:HEADER] != before[:HEADER]), (True, True))
+    logger.end()
+    content = path.read_bytes()
+    for what, file, version in (("wide", content, PLAIN), ("wide", content, WIDE), ("wide, before", before, PLAIN), ("wide, before", before, WIDE), ("plain", file_of(hello(5)), WIDE), ("no messages", header(), WIDE), ("cut in the first block", before[:80], PLAIN)):
+        content_case(f"{what}, by version {version}", file, version)
+    logger = Logger(path, WAN)
+    part = logger.asked(wide(said(5, 105, KEY + bytes(4))))
+    expect("its bytes", part is not None and part.fields["bytes"], b"abcd")
+    logger.end()
 
 
 def full_disk():
@@ -275,6 +340,27 @@ def full_disk():
     subprocess.run(["umount", disk], check=True)
 
 
+def full_while_replaced():
+    """A disk without room for a second file beside the first: the old file stays, and the logger goes on."""
+    disk = room / "narrow"
+    disk.mkdir()
+    subprocess.run(["mount", "-t", "tmpfs", "-o", "size=64k", "tmpfs", disk], check=True)
+    path = disk / "journal"
+    logger = Logger(path, [*BEGIN, "--compact", "4096"])
+    logger.asked(hello(5))
+    logger.asked(opening(5))
+    told = 0
+    for _ in range(33):
+        answer = logger.asked(data(5, told, bytes((told + i) % 251 for i in range(PIECE))))
+        told = answer.fields["length"] if answer else told
+    expect("what is told while no second file fits", told, 33 * PIECE)
+    expect("no part of one is left", sorted(os.listdir(disk)), ["journal"])
+    expect("what was told is there", is_there(logger, told), True)
+    logger.end()
+    expect("at the end", ended(path), (0, DONE))
+    subprocess.run(["umount", disk], check=True)
+
+
 def full_at_first():
     """A disk that is full before the first start: nothing was ever told, and with room a file is made once what is left of the first is removed."""
     disk = room / "first"
@@ -290,7 +376,7 @@ def full_at_first():
     subprocess.run(["umount", disk], check=True)
 
 
-for part in (wrong_words, no_files, begins, names, two_loggers, full_disk, full_at_first, moved, contents):
+for part in (wrong_words, no_files, begins, names, two_loggers, shorter, profiles, full_disk, full_while_replaced, full_at_first, moved, contents):
     begun, cases = time.monotonic(), counts["cases"]
     part()
     print(f"{part.__name__}: {counts['cases'] - cases} checks, {time.monotonic() - begun:.1f} s")

@@ -2,7 +2,7 @@
 # What `ftnode logger --journal FILE` does with bad files and bad disks: files that are cut at each byte or have one of their bits changed, or two; blocks that were
 # dropped, repeated, exchanged or taken from another journal; other bytes, each prefix of a new file; a file that is missing, or is there and is to be made; a name
 # that is taken away or given to another file while the logger runs; a folder, a link, a device, a second name; no permission to read, to write or to make the file (as nobody, by
-# setpriv); a second logger; a disk that gets full, and one that is full before the first start (a tmpfs in this script's own mount namespace); wrong words.
+# setpriv); a second logger; a journal of another profile; a file that is replaced by a new one, and what is at the new one's name; a disk that gets full, and one that is full before the first start (a tmpfs in this script's own mount namespace); wrong words.
 # In each case the status and the text are checked, that a damaged file isn't changed, and that after a restart the log has all that was answered. It takes 20
 # seconds.
 #     sudo bench/journal_faults.sh [PROGRAM]        a built ftnode, by default this checkout's

@@ -2,8 +2,8 @@
 """Writes the part `link` of the stored run of `node_cases`, which link_script plays: link_oracle.py [FOLDER], into FOLDER/stdin and FOLDER/stdout
 (crates/node_cases).
 
-The expected lines follow only the written rules. A table made by hand says which command lines are allowed. The logger, the server before it has a connection, and
-the pair are played by the short models below, which make the messages' bytes themselves. How a client ends is written down by hand, and also played by the
+The expected lines follow only the written rules. A table made by hand says which command lines are allowed. The loggers are played by the model in
+tools/loggers.py, and the server before it has a connection and the pair by the short models below, which make the messages' bytes themselves. How a client ends is written down by hand, and also played by the
 endpoint of tools/endpoint_model.py. What a server with Counter does with one client, and how it restarts from the log, is written down step by step."""
 import pathlib
 import random
@@ -12,10 +12,11 @@ import sys
 sys.path.insert(0, str(pathlib.Path(__file__).parent.parent / "tools"))
 
 from endpoint_model import Endpoint  # noqa: E402
+from loggers import FOLLOWED, Log, answers_of  # noqa: E402
 from model import LIMIT, Segment  # noqa: E402
 from sender_model import PROFILES  # noqa: E402
 from stored_parts import FOLDER, write_part  # noqa: E402
-from twin_model import KINDS, Head, Tail, read_message, read_twin, spell, spelled as between, told as heard  # noqa: E402
+from twin_model import KINDS, PLAIN, WIDE, Head, Tail, read_message, read_twin, spell, spell_message, spelled as between, told as heard  # noqa: E402
 
 script, printed = [], []
 
@@ -35,22 +36,28 @@ def checksum(data):
     return total ^ 0xFFFF
 
 
-def message(kind, boot, body=b""):
-    head = b"FT\x01" + bytes([kind]) + (16 + len(body)).to_bytes(2, "big")
+def message(kind, boot, body=b"", version=PLAIN):
+    head = b"FT" + bytes([version, kind]) + (16 + len(body)).to_bytes(2, "big")
     rest = boot.to_bytes(8, "big") + body
     return (head + checksum(head + b"\0\0" + rest).to_bytes(2, "big") + rest).hex()
 
 
-def hello(boot):
-    return message(1, boot)
+def hello(boot, version=PLAIN):
+    return message(1, boot, version=version)
 
 
-def summary(boot, count):
-    return message(2, boot, count.to_bytes(2, "big"))
+def summary(boot, count, version=PLAIN):
+    return message(2, boot, count.to_bytes(2, "big"), version)
 
 
-def stale(boot, newer):
-    return message(17, boot, newer.to_bytes(8, "big"))
+def stale(boot, newer, version=PLAIN):
+    return message(17, boot, newer.to_bytes(8, "big"), version)
+
+
+def wide(data):
+    """The same message with version 2."""
+    said = bytes.fromhex(data)
+    return message(said[3], int.from_bytes(said[8:16], "big"), said[16:], WIDE)
 
 
 assert hello(1) == "465401010010b8990000000000000001"
@@ -128,12 +135,17 @@ refused += [without(LOGGER, "turns") + " --times 3"]
 allowed += [(words + more, name) for words, name in ((LOGGER, "logger"), (SERVER, "server"), (PARTED, "head"), (KEPT, "journal")) for more in (" --times 1", " --times=4000000000000")]
 refused += [KEPT + " --begin" + text for text in ("", " no", " ''", "=", " Yes", " 1", " yes --begin yes")] + [words + " --begin yes" for words in (LOGGER, SERVER, CLIENT, PAIR, PARTED, ALONE)]
 allowed += [(KEPT + more, "journal") for more in (" --begin yes", " --begin=yes")]
-# a profile: an option of a server and of a client, which may be left out
-refused += [words + " --profile" + text for words in (SERVER, CLIENT) for text in ("", " ''", "=", " fast", " Wan", " PLAIN", " wan~", " 1", " -", " wan wan")]
-refused += [words + " --profile wan" + text for words in (SERVER, CLIENT) for text in (" --profile wan", " --profile=plain")] + [CLIENT + " --Profile wan"]
-refused += [words + f" --profile {name}" for words in (LOGGER, KEPT, PAIR, PARTED, ALONE) for name in ("plain", "wan")]
-allowed += [(words + more, name) for words, name in ((SERVER, "server"), (CLIENT, "client"), (DOUBLE + " --times 2", "server")) for more in (" --profile plain", " --profile=plain")]
-allowed += [(words + more, name + " wan") for words, name in ((SERVER, "server"), (CLIENT, "client"), (DOUBLE + " --times 2", "server")) for more in (" --profile wan", " --profile=wan")]
+# how long a journal's file may be before it is replaced: 4,096 to 2^40 bytes
+BOUNDS = ("", " 4095", " 04095", " 0", " 1099511627777", " -1", " x", " ''", "=", " 4096 --compact 4096")
+refused += [KEPT + " --compact" + text for text in BOUNDS] + [words + " --compact 4096" for words in (LOGGER, SERVER, CLIENT, PAIR, PARTED, ALONE)]
+allowed += [(KEPT + more, "journal") for more in (" --compact 4096", " --compact=1099511627776", " --begin yes --compact 0004096")]
+# a profile: an option of each role but a pair and what tells a logger, which may be left out
+refused += [words + " --profile" + text for words in (SERVER, CLIENT, LOGGER, KEPT, PARTED) for text in ("", " ''", "=", " fast", " Wan", " PLAIN", " wan~", " 1", " -", " wan wan")]
+refused += [words + " --profile wan" + text for words in (SERVER, CLIENT, LOGGER, KEPT, PARTED) for text in (" --profile wan", " --profile=plain")] + [CLIENT + " --Profile wan"]
+refused += [words + f" --profile {name}" for words in (PAIR, ALONE) for name in ("plain", "wan")]
+PROFILED = ((SERVER, "server"), (CLIENT, "client"), (DOUBLE + " --times 2", "server"), (LOGGER, "logger"), (KEPT + " --begin yes", "journal"), (PARTED + " --times 2", "head"))
+allowed += [(words + more, name) for words, name in PROFILED for more in (" --profile plain", " --profile=plain")]
+allowed += [(words + more, name + " wan") for words, name in PROFILED for more in (" --profile wan", " --profile=wan")]
 allowed += [("server --profile=wan" + SERVER[6:], "server wan"), ("client --profile wan" + CLIENT[6:] + " --script hex:6869", "client wan")]
 allowed += [(KEPT, "journal"), ("logger --times=004000000000000 --turns=1000000 --local=127.0.0.1:7040", "logger")]
 allowed += [(PARTED, "head"), ("logger --other=127.0.0.1:7041 --part=tail --turns=3 --local=127.0.0.1:7040", "tail")]
@@ -180,32 +192,27 @@ class Net:
         return " ".join(f"{name} {count}" for name, count in self.counts.items())
 
 
-def logger(net, turns):
-    boot = 0
+def logger(net, turns, version):
+    log = Log()
     for _ in range(turns):
         came = net.receive()
-        if came is None or came[1] not in KNOWN:
-            continue
-        asks, of = KNOWN[came[1]]
-        if of < boot:
-            net.send(came[0], stale(of, boot))
-        elif asks == "hello":
-            boot = of
-            net.send(came[0], summary(of, 0))
+        said = read_message(bytes.fromhex(came[1]), version) if came else None
+        for answer in answers_of(log, said) if said else []:
+            net.send(came[0], spell_message(answer, version).hex())
     return 0, net.told()
 
 
-def server(net, turns, boot, loggers):
-    serving = False
+def server(net, turns, boot, loggers, version):
+    serving, known = False, {wide(data) if version == WIDE else data: said for data, said in KNOWN.items()}
     for at in loggers:
-        net.send(at, hello(boot))
+        net.send(at, hello(boot, version))
     for _ in range(turns):
         came = net.receive()
         if came is None:
             for at in [] if serving else loggers:
-                net.send(at, hello(boot))
-        elif came[0] in loggers and came[1] in KNOWN and KNOWN[came[1]][1] == boot:
-            asks = KNOWN[came[1]][0]
+                net.send(at, hello(boot, version))
+        elif came[0] in loggers and came[1] in known and known[came[1]][1] == boot:
+            asks = known[came[1]][0]
             if asks == "summary":
                 serving = True
             elif asks != "hello" and asks > boot:
@@ -213,9 +220,9 @@ def server(net, turns, boot, loggers):
     return 0, net.told()
 
 
-def part(net, turns, name, other):
+def part(net, turns, name, other, version):
     """One of two loggers. Told that the other has stopped, it serves alone."""
-    it, at = {"head": Head, "tail": Tail}[name](read_message), None
+    it, at = {"head": Head, "tail": Tail}[name](lambda sent: read_message(sent, version)), None
     for _ in range(turns):
         came = net.receive()
         if came is None:
@@ -225,7 +232,8 @@ def part(net, turns, name, other):
             it.alone = True
             continue
         at = at if came[0] == other else came[0]
-        for to, out in map(spell, it.hear_other(heard(data)) if came[0] == other else it.hear_server(data)):
+        for sent in it.hear_other(heard(data, version)) if came[0] == other else it.hear_server(data):
+            to, out = spell(sent, version)
             if to == "other" or at:
                 net.send(other if to == "other" else at, out.hex())
     return 0, net.told()
@@ -236,7 +244,7 @@ def alone(net, to):
     return 0, f"sent {net.counts['sent']} lost {net.counts['lost']}"
 
 
-KNOWN = {hello(b): ("hello", b) for b in (1, 2, 3)}
+KNOWN = {hello(b): ("hello", b) for b in (1, 2, 3)}  # what tells a server something, in version 1
 KNOWN.update({summary(b, 0): ("summary", b) for b in (1, 2)})
 KNOWN.update({stale(1, 2): (2, 1), stale(1, 18446744073709551615): (18446744073709551615, 1), stale(2, 3): (3, 2)})
 AT = {"logger": "127.0.0.1:7040", "server": "127.0.0.1:7007", "alone": "127.0.0.1:7050"}
@@ -245,7 +253,7 @@ AT = {"logger": "127.0.0.1:7040", "server": "127.0.0.1:7007", "alone": "127.0.0.
 def run(words, come, bind=0, second_bind=False, send=0, receive=0, write=0, error=0, way="run"):
     role, *given = words.replace("=", " ").split(" ")
     options = dict(zip(given[::2], given[1::2]))
-    turns = int(options.get("--turns", 0)) * int(options.get("--times", 1))
+    turns, version = int(options.get("--turns", 0)) * int(options.get("--times", 1)), WIDE if options.get("--profile") == "wan" else PLAIN
     for came in come:
         script.append("nothing" if came is None else f"come {came[0]} {came[1]}".rstrip())
     for call, number in (("bind", bind), ("bind", 2 * second_bind), ("send", send), ("receive", receive), ("write", write), ("error", error)):
@@ -256,11 +264,11 @@ def run(words, come, bind=0, second_bind=False, send=0, receive=0, write=0, erro
     if bind:
         status, said = 4, "ftnode: link fault"
     elif role == "logger":
-        status, said = part(net, turns, options["--part"], options["--other"]) if "--part" in options else logger(net, turns)
+        status, said = part(net, turns, options["--part"], options["--other"], version) if "--part" in options else logger(net, turns, version)
     elif role == "alone":
         status, said = alone(net, options["--to"])
     else:
-        status, said = server(net, turns, 1, [options[name] for name in ("--logger", "--second") if name in options])
+        status, said = server(net, turns, 1, [options[name] for name in ("--logger", "--second") if name in options], version)
     if write and status == 0:
         status, said = 5, None
     if error and status:
@@ -575,7 +583,7 @@ for words in (SERVER + " --times 2", LOGGER + " --times 2", KEPT, PARTED, ALONE)
 for words in (SERVER, CLIENT, LOGGER, PAIR):
     for name in ("plain", "wan"):
         line(f"node {words} --profile {name}", "status 2", "ftnode: usage")
-for words in (SERVER + " --profile fast", CLIENT + " --profile wan --profile wan", LOGGER + " --profile wan", KEPT + " --profile wan", PARTED + " --profile plain"):
+for words in (SERVER + " --profile fast", CLIENT + " --profile wan --profile wan", LOGGER + " --profile fast", KEPT + " --profile", PARTED + " --profile wan --profile wan"):
     line("run " + words, "status 2", "ftnode: usage")
 run(SERVER, six, way="node")
 run(DOUBLE, six, way="node")
@@ -649,7 +657,10 @@ def logs_read(boot, index, length):
 
 def played(words, steps, way="own", second=None):
     """A server with these words, without its turns: each step is what comes (None: the boot, TICK: nothing), and what the server then hands to send. What goes to
-    the logger goes next to the second."""
+    the logger goes next to the second. With the profile for far paths messages have version 2."""
+    if WAN in words:
+        far = lambda it: (it[0], wide(it[1])) if it and it[0] in (LOG, second) else it
+        steps = [(far(came), list(map(far, sends))) for came, sends in steps]
     steps = [(came, [s for to, data in sends for s in [(to, data)] + ([(second, data)] if second and to == LOG else [])]) for came, sends in steps]
     script.extend("nothing" if came == TICK else f"come {came[0]} {came[1]}" for came, sends in steps if came)
     turns, ticks = sum(1 for came, sends in steps if came), sum(1 for came, sends in steps if came == TICK)
@@ -825,6 +836,66 @@ for _ in range(6):
     drawn_list = [drawn.choice([*asked, *forwards, got(1), got(3), (FROM, asks[0]), (STRAY, asks[2]), None, (OTHER, forwards[2][1][:-2])]) for _ in range(30)]
     drawn_list[20:20] = [(STRAY, TOLD)]
     both(drawn_list)
+
+
+# The profile for far paths: messages of version 2, and of a turn's Data the last one alone is answered
+def data(offset, text, ending=0, boot=1, acked=0):
+    return message(DATA, boot, KEY + long(offset) + long(acked) + bytes([ending]) + text)
+
+
+def far(comes):
+    """The same with messages of version 2, also of those that go from a head to a tail."""
+    widened = lambda sent: between(b"FU", 1, said[1], bytes.fromhex(wide(said[2].hex()))).hex() if (said := read_twin(bytes.fromhex(sent))) and said[0] == "Forward" else sent
+    return [(at, wide(sent) if sent[:4] == "4654" and len(sent) >= 32 else widened(sent)) for at, sent in comes]
+
+
+line("# a logger with the profile for far paths: of a turn's Data only the last is answered", "# a logger with the profile for far paths: of a turn's Data only the last is answered")
+begun = [hello(1), message(OPEN, 1, OPENING)]
+first, last, whole = data(0, b"abc", FOLLOWED), data(3, b"defg"), data(0, b"abcdefg", acked=2)
+talks = [
+    [*begun, first, last, message(READ, 1, KEY + long(0) + b"\0\7"), data(7, b"hi", FOLLOWED), data(9, b"", FOLLOWED), data(9, b"j", 1), message(DONE, 1, KEY)],
+    # the first is lost, or the last; a repetition asks again
+    [*begun, last, whole],
+    [*begun, first, whole],
+    # of no connection, and of an older boot
+    [begun[0], first, last],
+    [*begun, hello(2), first, last, data(0, b"abc", FOLLOWED, 2), data(3, b"", 0, 2)],
+    # 3 is no ending, and what only a logger sends has none
+    [*begun, data(0, b"abc", 3), message(STABLE, 1, kept(3, 0)), data(0, b"abc", 1), data(3, b"d", FOLLOWED)],
+]
+LONE = LOGGER[:-1]
+for talk in talks:
+    run(LONE + str(len(talk)) + WAN, far([(FROM, data) for data in talk]))
+run(LONE + str(len(talks[0])) + WAN, far([(FROM, data) for data in talks[0]]), way="own")
+line("# a logger of one profile takes no message of the other's version", "# a logger of one profile takes no message of the other's version")
+for talk in (*talks[:1], kinds):
+    comes = [(FROM, data) for data in talk]
+    run(LONE + str(len(comes)), far(comes))
+    run(LONE + str(len(comes)) + WAN, comes)
+    mixed = [it for pair in zip(comes, far(comes)) for it in pair]
+    for more in ("", WAN):
+        run(LONE + str(len(mixed)) + more, mixed)
+line("# a server of one profile at a logger of the other asks on, and one alike serves", "# a server of one profile at a logger of the other asks on, and one alike serves")
+for words in (SERVER, DOUBLE):
+    for more in ("", WAN):
+        for comes in ([(LOG, summary(1, 0))], [(LOG, stale(1, 2))]):
+            run(words + more, comes + [None] * 3)
+            run(words + more, far(comes) + [None] * 3)
+line("# two loggers with it, in a pair and alone", "# two loggers with it, in a pair and alone")
+for talk in talks[:2]:
+    comes, passed = [(FROM, data) for data in talk], [forward(i + 1, data) for i, data in enumerate(talk)]
+    for name in NAMES:
+        heard_by = far(comes) + far(passed) + [got(2)]
+        run(turns_of(name, heard_by) + WAN, heard_by)
+        run(turns_of(name, heard_by, 1) + WAN, [(STRAY, TOLD)] + heard_by)
+        mixed = [it for pair in zip(comes, far(comes), passed, far(passed)) for it in pair]
+        for more in ("", WAN):
+            run(turns_of(name, mixed) + more, mixed)
+drawn_far = random.Random(8)
+for _ in range(2):
+    drawn_list = [drawn_far.choice([*asked, *forwards, *far(asked), *far(forwards), got(1), got(3), None]) for _ in range(30)]
+    for name in NAMES:
+        run(turns_of(name, drawn_list) + WAN, drawn_list)
 line("# what tells a logger: one Alone, whether or not its send succeeds", "# what tells a logger: one Alone, whether or not its send succeeds")
 run(ALONE, [])
 run(ALONE, [], send=1)
@@ -881,6 +952,14 @@ start(f"{PROCESS_CLIENT} 1000 --script hex:6869", 0, "yes", answers=closing)
 for program, code in (("/bin/true", 0), ("/bin/false", 1)):
     lines = [f"{name} status {code}" for name in ("server", "client", "server", "logger")]
     start(f"pair --program {program} --base 7463 --first 1 --second 1 --turns 1", 0, *lines)
+start(without(PROCESS_LOGGER, "turns") + " --turns 100" + WAN, 0, shell='exec "$0" "$@" >/dev/null', asked=[
+    (hello(1), None),
+    (wide(hello(1)), wide(summary(1, 0))),
+    (hello(1), None),
+    (wide(message(OPEN, 1, OPENING)), wide(message(OPENED, 1, OPENING))),
+    (wide(first), None),
+    (wide(whole), wide(message(STABLE, 1, kept(7, 0)))),
+])
 line("# a word that isn't UTF-8, words that aren't allowed, and an input that is too long", "# a word that isn't UTF-8, words that aren't allowed, and an input that is too long")
 start("logger", 1, shell='exec "$0" "$@" "$(printf \'\\377\')" 2>/dev/null')
 usage = "ftnode: usage"
@@ -947,6 +1026,11 @@ start(LASTING, 0, shell=UNSEEN, asked=[
 ])
 line("# nobody else may read the journal", "# nobody else may read the journal")
 start(KEEPER + " written", 0, "0", "600", shell='"$0" "$@" >/dev/null; echo $?; stat -c %a written')
+# 68 boot numbers of 60 bytes each and the header are 4,112 bytes. The new file has one of them, and that of the next server comes after it
+line("# a journal of more than 4,096 bytes is replaced by a shorter one", "# a journal of more than 4,096 bytes is replaced by a shorter one")
+GROWN = without(PROCESS_LOGGER, "turns") + " --turns 150 --journal grown --begin yes --compact 4096"
+start(GROWN, 0, shell="rm -f grown; echo left >grown.new; " + UNSEEN, asked=[(hello(boot), summary(boot, 0)) for boot in range(1, 70)])
+start(KEEPER + " grown", 0, "0", "600 152", shell='"$0" "$@" >/dev/null; echo $?; stat -c "%a %s" grown; test ! -e grown.new')
 line("# what is written to which output, at status 0 and at another one", "# what is written to which output, at status 0 and at another one")
 start(PROCESS_LOGGER, 0, TWO_TICKS, shell='exec "$0" "$@" 2>/dev/null')
 start(PROCESS_LOGGER, 0, shell='exec "$0" "$@" >/dev/null')

@@ -16,6 +16,7 @@ SERVER = (0xC0000264, 7)
 K = "192.0.2.1:40000"
 SERVICES = {"echo": 1, "line": 2, "transfer": 3, "meter": 4}
 BOOTS = {"plain": "boot", "wan": "boot-wan"}  # the word that boots a server with a profile
+VERSIONS = {"plain": 1, "wan": 2}  # the version of a profile's messages
 FLAGS = {"F": 1, "S": 2, "R": 4, "P": 8, "A": 16}
 KINDS = "Hello Summary List Entry Bytes Part Cuts Lens Open Opened Data Stable Read Reads Done Ended Stale Full".split()
 
@@ -46,10 +47,10 @@ def packet(src, dst, flags, seq, ack, window, mss, data):
         return struct.pack(">BBHHHBBHII", 0x45, 0, 20 + len(body), 0, 0x4000, 64, 6, check, src[0], dst[0])
     return ip(ones(ip(0))) + body
 
-def message(kind, boot, body=b""):
+def message(kind, boot, body=b"", version=1):
     number = KINDS.index(kind) + 1
     def whole(check):
-        return struct.pack(">BBBBHHQ", 0x46, 0x54, 1, number, 16 + len(body), check, boot) + body
+        return struct.pack(">BBBBHHQ", 0x46, 0x54, version, number, 16 + len(body), check, boot) + body
     return whole(ones(whole(0)))
 
 def key_bytes(key):
@@ -61,41 +62,44 @@ def hex_bytes(text):
 def fields(words):
     return dict(zip(words[::2], words[1::2]))
 
-def told(kind, words):
+def told(kind, words, version=1):
     """A message by the words behind its kind in a report."""
     f = fields(words)
-    boot = int(f["boot"])
+    return message(kind, int(f["boot"]), body_of(kind, f), version)
+
+def body_of(kind, f):
+    """The fields of a message, and what follows them."""
     n = lambda name: int(f[name])
     k = key_bytes(key_of(f["key"])) if "key" in f else b""
     if kind == "Hello":
-        return message(kind, boot)
+        return b""
     if kind == "Summary":
-        return message(kind, boot, struct.pack(">H", n("count")))
+        return struct.pack(">H", n("count"))
     if kind == "List":
-        return message(kind, boot, struct.pack(">H", n("index")))
+        return struct.pack(">H", n("index"))
     if kind == "Entry":
-        return message(kind, boot, struct.pack(">H", n("index")) + k + struct.pack(
-            ">IIHIBBII", n("cisn"), n("sisn"), n("mss"), n("length"), n("fin"), n("done"), n("reads"), n("acked")))
+        return struct.pack(">H", n("index")) + k + struct.pack(
+            ">IIHIBBII", n("cisn"), n("sisn"), n("mss"), n("length"), n("fin"), n("done"), n("reads"), n("acked"))
     if kind == "Bytes":
-        return message(kind, boot, k + struct.pack(">I", n("offset")))
+        return k + struct.pack(">I", n("offset"))
     if kind == "Part":
-        return message(kind, boot, k + struct.pack(">I", n("offset")) + hex_bytes(f["bytes"]))
+        return k + struct.pack(">I", n("offset")) + hex_bytes(f["bytes"])
     if kind == "Cuts":
-        return message(kind, boot, k + struct.pack(">I", n("first")))
+        return k + struct.pack(">I", n("first"))
     if kind == "Lens":
-        return message(kind, boot, k + struct.pack(">I", n("first")) + b"".join(struct.pack(">H", int(x)) for x in f["lens"].split(",")))
+        return k + struct.pack(">I", n("first")) + b"".join(struct.pack(">H", int(x)) for x in f["lens"].split(","))
     if kind in ("Open", "Opened"):
-        return message(kind, boot, k + struct.pack(">IIH", n("cisn"), n("sisn"), n("mss")))
+        return k + struct.pack(">IIH", n("cisn"), n("sisn"), n("mss"))
     if kind == "Data":
-        return message(kind, boot, k + struct.pack(">IIB", n("offset"), n("acked"), n("fin")) + hex_bytes(f["bytes"]))
+        return k + struct.pack(">IIB", n("offset"), n("acked"), n("fin")) + hex_bytes(f["bytes"])
     if kind in ("Stable", "Reads"):
-        return message(kind, boot, k + struct.pack(">IBI", n("length"), n("fin"), n("reads")))
+        return k + struct.pack(">IBI", n("length"), n("fin"), n("reads"))
     if kind == "Read":
-        return message(kind, boot, k + struct.pack(">IH", n("index"), n("length")))
+        return k + struct.pack(">IH", n("index"), n("length"))
     if kind in ("Done", "Ended", "Full"):
-        return message(kind, boot, k)
+        return k
     if kind == "Stale":
-        return message(kind, boot, struct.pack(">Q", n("newer")))
+        return struct.pack(">Q", n("newer"))
     raise ValueError(kind)
 
 def segment(way, words, clients):
@@ -139,6 +143,7 @@ class Played:
 
     def __init__(self, service, profile="plain"):
         self.service, self.profile, self.log, self.sent = service, profile, loggers.Log(), []
+        self.version = VERSIONS[profile]
         self.boot(1, 5000)
 
     def boot(self, boot, isn):
@@ -156,7 +161,7 @@ class Played:
         says = []
         for key, content in sent:
             words = packet_words(content).split()
-            says.append(to_client(key_of(key), segment("S>1", words, {"1": key_of(key)})) if key else to_logger(told(words[0], words[1:])))
+            says.append(to_client(key_of(key), segment("S>1", words, {"1": key_of(key)})) if key else to_logger(told(words[0], words[1:], self.version)))
         say(line, *says)
         self.sent = [content for key, content in sent if key is None]
 
@@ -167,7 +172,7 @@ class Played:
             answer, waiting = self.log.answer(waiting[0]), waiting[1:]
             if answer:
                 words = packet_words(answer).split()
-                self.turn(msg(told(words[0], words[1:])), self.server.on_message(answer))
+                self.turn(msg(told(words[0], words[1:], self.version)), self.server.on_message(answer))
                 waiting = waiting + self.sent
 
     def ticks(self, times):
@@ -192,12 +197,12 @@ class Played:
 HOSTILE = "192.0.2.66:666"
 ODD = ["AF", "AR", "AS", "F", "A"]
 
-def digest_of(sent):
+def digest_of(sent, version=1):
     """How many packets, and a polynomial hash of them at 257, modulo 2^32 - 5: of each the client's address, if it goes to one, and its bytes."""
     total = 0
     for key, content in sent:
         words = packet_words(content).split()
-        data = key_bytes(key_of(key)) + segment("S>1", words, {"1": key_of(key)}) if key else told(words[0], words[1:])
+        data = key_bytes(key_of(key)) + segment("S>1", words, {"1": key_of(key)}) if key else told(words[0], words[1:], version)
         for byte in data:
             total = (total * 257 + byte + 1) % (2**32 - 5)
     return f"sent {len(sent)} digest {total}"
@@ -237,7 +242,7 @@ class Target(Played):
         draws, sent = Generator(seed), []
         for _ in range(count):
             sent += self.server.on_segment(HOSTILE, hostile(draws, kinds, seq, ack))
-        say(f"strike {count} {seed} {kinds} {seq} {ack}", digest_of(sent))
+        say(f"strike {count} {seed} {kinds} {seq} {ack}", digest_of(sent, self.version))
         return sent
 
 class Guesser(Played):

@@ -15,7 +15,7 @@ sys.path.insert(0, str(pathlib.Path(__file__).parent.parent / "tools"))
 
 import loggers  # noqa: E402
 import model  # noqa: E402
-from node_lines import (BOOTS, HOSTILE, K, SERVER, SERVICES, Played, Target, conn, fields, guess_in_each_state, key_bytes, key_of, lines, message, msg, numbers, packet, pkt, prints, say, segment, to_client, to_logger, told)  # noqa: E402
+from node_lines import (BOOTS, VERSIONS, HOSTILE, K, SERVER, SERVICES, Played, Target, conn, fields, guess_in_each_state, key_bytes, key_of, lines, message, msg, numbers, packet, pkt, prints, say, segment, to_client, to_logger, told)  # noqa: E402
 from seed_model import packet_words  # noqa: E402
 from stored_parts import FOLDER, write_part  # noqa: E402
 
@@ -24,7 +24,7 @@ OUT = pathlib.Path(sys.argv[2]) if sys.argv[2:] else FOLDER
 
 def play_report(name, title, numbers=()):
     """The server's turns of a worked run. `numbers` names, behind which events, what `conn` must print."""
-    service, boots, clients, packets, event = None, "boot", {}, {}, None
+    service, boots, version, clients, packets = None, "boot", 1, {}, {}
     say(f"# {title}")
     turns = []                      # (number of the event, line, answers)
     path = f"{REPORTS}/{name}.streaming.report"       # a restart asks for an entry's cuts before its bytes
@@ -33,7 +33,7 @@ def play_report(name, title, numbers=()):
         if words[0] == "service":
             service = SERVICES[words[1]]
         elif words[0] == "profile":
-            boots = BOOTS[words[1]]
+            boots, version = BOOTS[words[1]], VERSIONS[words[1]]
         elif words[0] == "client" and len(words) == 5 and ":" in words[2]:
             clients[words[1]] = key_of(words[2])
         elif words[0] == "event":
@@ -55,7 +55,7 @@ def play_report(name, title, numbers=()):
         elif words[0] == "packet":
             number, way, rest = int(words[1]), words[2], words[3:]
             is_message = "L" in way
-            data = told(rest[0], rest[1:]) if is_message else segment(way, rest, clients)
+            data = told(rest[0], rest[1:], version) if is_message else segment(way, rest, clients)
             packets[number] = (way, data)
             if way == "S>L":
                 turns[-1][2].append(to_logger(data))
@@ -113,6 +113,10 @@ play_report("wide_area", "a measured round trip, partial acknowledgements, an ex
     39: [(K, numbers(0, 4, 4, 4, 1, 1608, 2047))],
     49: [(K, numbers(4294072296, 4, 4, 4, 1, 0, 0))],
 }.items())
+
+play_report("batch", "a gap is filled in the profile wan: two texts as a batch, which the log answers once")
+play_report("batch_first_lost", "the first text of a batch is lost on the way to the log")
+play_report("batch_last_lost", "the last text of a batch is lost on the way to the log")
 
 # ---- by hand -----------------------------------------------------------------------------------------------------------------------------
 
@@ -529,7 +533,7 @@ class Struck(Target):
 
     def says(self, answer):
         words = packet_words(answer).split()
-        self.turn(msg(told(words[0], words[1:])), self.server.on_message(answer))
+        self.turn(msg(told(words[0], words[1:], self.version)), self.server.on_message(answer))
 
     def strike(self, times=1):
         """So many times as many hostile segments, in one line, round the numbers that the fourth client's connection has before them."""
@@ -639,6 +643,32 @@ it.drain()
 it.comes(9, letters(9, 12), "AF", ack=9)
 it.drain()
 it.shows()
+say("# the Data of a turn: each but the last says that another follows, of text and of a FIN that were held, and the only one of a turn doesn't")
+it = Played("echo", "wan")
+it.begins()
+for start in range(536, 8 * 536, 536):
+    it.comes(start, letters(start, start + 536))
+it.comes(0, letters(0, 536))
+it.drain()
+it.comes(8 * 536 + 4, letters(8 * 536 + 4, 8 * 536 + 6), "AF", ack=536)
+it.comes(8 * 536, letters(8 * 536, 8 * 536 + 4), ack=536)
+it.drain()
+it.shows()
+it = Played("echo", "wan")
+it.begins()
+it.comes(3, b"", "AF")
+it.comes(0, b"abc")
+it.drain()
+it.shows()
+say("# a message of the other grammar is noise: a server and a log of two profiles serve nobody")
+for boots, own, other in ("boot-wan", 2, 1), ("boot", 1, 2):
+    say(f"{boots} 1 1 5000", to_logger(message("Hello", 1, version=own)))
+    say(msg(message("Summary", 1, struct.pack(">H", 0), other)))
+    say(pkt(syn(client_key(0))))
+    say("tick", to_logger(message("Hello", 1, version=own)))
+    say(msg(message("Summary", 1, struct.pack(">H", 0), own)))
+    say(msg(message("Stale", 1, struct.pack(">Q", 2), other)))
+    say(msg(message("Stale", 1, struct.pack(">Q", 2), own)), "fenced by 2")
 say("# two clients, of which each has an estimate of its own: a round trip of two ticks, and one of five")
 it = Played("transfer", "wan")
 it.begins()

@@ -2,7 +2,7 @@
 """Two sockets of the kernel for bench/loss.sh and bench/wan.py.
 
     socket_echo.py serve HOST PORT [SERVICE [CONTROL]]   serves one client: `echo` returns what it sends, `transfer` sends what it asks for, as Transfer does.
-                                                         CONTROL is the congestion control, by default the system's
+                                                         `discard` sends nothing. CONTROL is the congestion control, by default the system's
     socket_echo.py ask HOST PORT FILE                    sends the bytes of a file and prints the seconds until all are returned
 
 `ask` ends with status 1 if other bytes arrive, or not all within five minutes: after many losses the kernel waits up to two minutes before it retransmits.
@@ -42,7 +42,7 @@ def serve(at, service="echo", control=""):
         link, _ = door.accept()
         transfer = Transfer()
         while data := link.recv(PIECE):
-            for piece in [data] if service == "echo" else transfer.answer(data):
+            for piece in [data] if service == "echo" else [] if service == "discard" else transfer.answer(data):
                 link.sendall(piece)
         link.close()
 

@@ -57,6 +57,7 @@ class Transfer:
 
     def __init__(self, words, kind, loss, delay, seed):
         self.words, self.path, self.processes = words, [str(loss), str(delay / 2), str(seed)], []
+        self.kept = []  # further words of the logger
         whole, rest = divmod(words.size, LONGEST)
         self.service = "echo" if kind == "echo" else "transfer"
         self.wanted = bytes(place % PERIOD for place in range(words.size))
@@ -75,11 +76,11 @@ class Transfer:
         return self.start(HOME, TOP / "bench/relay.py", listen, target, *self.path, up="up")
 
     def serve(self, profile):
-        """A logger, a server that is ready to serve, and the relay before it."""
-        program = self.words.program
-        self.start(HOME, program, "logger", "--local", LOGGER, "--turns", "1000000")
+        """A logger and a server with this profile, which is ready to serve, and the relay before it."""
+        program, profiled = self.words.program, ["--profile", profile] if profile != "plain" else []
+        self.start(HOME, program, "logger", "--local", LOGGER, "--turns", "1000000", *profiled, *self.kept)
         self.start(HOME, program, "server", "--local", SERVER, "--logger", LOGGER, "--service", self.service, "--boot", "1", "--isn", "1007", "--turns",
-                   "1000000", *(["--profile", profile] if profile != "plain" else []))
+                   "1000000", *profiled)
         until = time.monotonic() + STARTED
         with tun.inside(HOME):
             while subprocess.run([TOP / "tools/server_status.py", "--server", SERVER, "--wait", "1"], capture_output=True, check=False).returncode:

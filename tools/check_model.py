@@ -11,6 +11,7 @@ import collections
 import re
 import sys
 
+from loggers import FOLLOWED
 from model import LIMIT, PACKETS, Client, World
 from seed_model import closing, packet_words, script_of
 
@@ -38,6 +39,7 @@ MESSAGES |= {"Entry": {"index": (0, 63), **OPENING, "length": (0, LIMIT), "fin":
 MESSAGES |= {"Bytes": {"key": KEY, "offset": (0, LIMIT)}, "Part": {"key": KEY, "offset": (0, LIMIT), "bytes": (1, 1024)}}
 MESSAGES |= {"Cuts": {"key": KEY, "first": UNITS}, "Lens": {"key": KEY, "first": UNITS, "lens": (1, 512)}, "Stable": KEPT, "Reads": KEPT}
 MESSAGES |= {"Data": {"key": KEY, "offset": (0, LIMIT), "acked": UNITS, "fin": BIT, "bytes": (0, 1460)}}
+WIDE_DATA = {**MESSAGES["Data"], "fin": (0, FOLLOWED)}
 MESSAGES |= {"Read": {"key": KEY, "index": UNITS, "length": (0, 2048)}, "Done": {"key": KEY}, "Ended": {"key": KEY}, "Full": {"key": KEY}}
 
 
@@ -77,9 +79,9 @@ def is_field(name, word, rule):
     return number_in(word, *rule) is not None
 
 
-def is_message(words):
-    """Whether these are a message's words: its name, its boot number and its fields by name."""
-    fields = MESSAGES.get(words[0])
+def is_message(words, profile="plain"):
+    """Whether these are a message's words: its name, its boot number and its fields by name. Only in the profile wan a Data may say that another follows."""
+    fields = WIDE_DATA if words[0] == "Data" and profile == "wan" else MESSAGES.get(words[0])
     if fields is None or len(words) != 3 + 2 * len(fields) or words[1] != "boot" or number_in(words[2], 1, 2**64 - 1) is None:
         return False
     told = dict(zip(words[3::2], words[4::2]))
@@ -89,7 +91,7 @@ def is_message(words):
     return int(told.get("offset", 0)) + held <= LIMIT and ("newer" not in told or int(words[2]) < int(told["newer"]))
 
 
-def is_packet_line(line, n, clients):
+def is_packet_line(line, n, clients, profile="plain"):
     """Whether a line tells packet n of the run, between the server and a client, or the server and the logger."""
     words = line.split(" ")
     if n > PACKETS or len(words) < 4 or words[:2] != ["packet", str(n)]:
@@ -99,7 +101,7 @@ def is_packet_line(line, n, clients):
         return False
     if way[1] or way[2]:
         return int(way[1] or way[2]) <= clients and is_segment(words[3:])
-    return is_message(words[3:])
+    return is_message(words[3:], profile)
 
 
 class Rejected(Exception):
@@ -164,7 +166,7 @@ class Report:
     def heads(self):
         """Whether the next line belongs to the header: a client's with the next number, or one of words that no schedule of a report has here."""
         words = self.words()
-        return words[0] in ("profile", "twin", "marks") or words[:2] == ["client", str(len(self.clients) + 1)]
+        return words[0] in ("profile", "twin", "marks", "lasting") or words[:2] == ["client", str(len(self.clients) + 1)]
 
     def client(self, server):
         found = self.header_line(rf"client {NUMBER} {ADDRESS} {NUMBER} (-|hex:(?:[0-9a-f]{{2}})+|fill:{NUMBER})")
@@ -198,7 +200,7 @@ class Report:
         wanted = [f"{way} {packet_words(content)}" for way, content in self.world.step(*event)]
         self.events += 1
         told = []
-        while self.line() is not None and is_packet_line(self.line(), self.packets + 1, len(self.clients)):
+        while self.line() is not None and is_packet_line(self.line(), self.packets + 1, len(self.clients), self.world.profile):
             told.append(self.line().split(" ", 2)[2])
             self.packets, self.at = self.packets + 1, self.at + 1
         if told != wanted:

@@ -8,6 +8,7 @@ from check_model import PACKETS, is_packet_line, verdict
 EXAMPLES = pathlib.Path(__file__).parent.parent / "examples"
 FIRST = (EXAMPLES / "first_path.report").read_bytes()
 DELAYED = (EXAMPLES / "delayed_ack.report").read_bytes()
+BATCH = (EXAMPLES / "batch.report").read_bytes()
 MEASURED = (EXAMPLES / "wide_area.report").read_bytes()
 HEAD = b"ftreplay 1\nservice echo\nserver 192.0.2.100:7\n"
 
@@ -83,6 +84,14 @@ class Verdicts(unittest.TestCase):
     def test_delayed_ack(self):
         """The ACK of text waits for the log in the profile `wan`, and only there."""
         self.check([(DELAYED, (17, 14)), (DELAYED.replace(b"profile wan\n", b""), (27, "server")), (put(3, lines()[2], b"profile wan\n"), (29, "server"))])
+
+    def test_batches(self):
+        """Only in the profile `wan` a Data says that another follows, and there each but the last of a turn says so."""
+        told = next(line for line in lines(BATCH) if b" fin 2 " in line)
+        self.check([(BATCH, (19, 17)), (BATCH.replace(b" fin 2 ", b" fin 0 "), (lines(BATCH).index(told) + 4, "server"))])  # a turn is judged behind its packets
+        self.assertTrue(is_packet_line(told.decode().rstrip(), 11, 1, "wan"))
+        self.assertFalse(is_packet_line(told.decode().rstrip(), 11, 1))
+        self.assertFalse(is_packet_line(told.decode().rstrip().replace("fin 2", "fin 3"), 11, 1, "wan"))
 
     def test_recovery(self):
         """A timeout that follows a measured round trip, and what partial acknowledgements send again."""

@@ -15,7 +15,7 @@ import sys
 from struct import pack
 
 from loggers import Log, Message
-from twin_model import ANSWERS, read_message, spell_message, spelled
+from twin_model import ANSWERS, PLAIN, WIDE, read_message, spell_message, spelled
 
 MAGIC, OLDER = b"ftlog 2\n", b"ftlog 1\n"
 HEADER, HEAD = 32, 44  # bytes of the file's header, and of what comes before a block's body
@@ -28,7 +28,7 @@ class Wrong(Exception):
 
 
 class Refused(Exception):
-    """Why a file is refused that isn't damaged: `empty`, `unfinished` or `older`."""
+    """Why a file is refused that isn't damaged: `empty`, `unfinished`, `older` or `other` (its first message is of the other profile's grammar)."""
 
 
 def digest(data):
@@ -68,17 +68,31 @@ def shown(data):
     return data.hex() if len(data) <= 256 else f"{len(data)} bytes {number(data)}"
 
 
+def first(body):
+    """The first message of a body and its version, and how long it is; or None."""
+    size = int.from_bytes(body[4:6], "big") if len(body) >= 6 else 0
+    for version in (PLAIN, WIDE):
+        message = read_message(body[:size], version)
+        if message is not None and size <= len(body):
+            return message, version, size
+    return None
+
+
 def apart(body):
     """The messages of a body, or None."""
     said = []
     while body:
-        size = int.from_bytes(body[4:6], "big") if len(body) >= 6 else 0
-        message = read_message(body[:size])
-        if message is None or size > len(body):
+        found = first(body)
+        if found is None:
             return None
-        said.append(message)
-        body = body[size:]
+        said.append(found[0])
+        body = body[found[2] :]
     return said
+
+
+def is_other(bodies, version):
+    found = first(bodies[0]) if bodies else None
+    return found is not None and found[1] != version
 
 
 def walk(data):
@@ -97,8 +111,8 @@ def walk(data):
     return bodies, at, number, previous
 
 
-def reading(data):
-    """The messages of a whole file, where its next block begins, and what comes after the blocks."""
+def reading(data, version=None):
+    """The messages of a whole file of this version's grammar, or of either, where its next block begins, and what comes after the blocks."""
     if not data:
         raise Refused("empty")
     if data.startswith(OLDER):
@@ -109,6 +123,8 @@ def reading(data):
         raise Wrong(0)
     said, place = [], HEADER
     bodies, at, number, previous = walk(data)
+    if version is not None and is_other(bodies, version):
+        raise Refused("other")
     for body in bodies:
         if apart(body) is None:
             raise Wrong(place)
@@ -120,20 +136,18 @@ def reading(data):
     return said, (at, number, previous), tail
 
 
-def reads(data):
-    """How many reads a reading makes, if the first gives the whole file."""
+def reads(data, version):
+    """How many reads a reading makes, if the first gives the whole file, which is shorter than the longest block."""
     if not data:
         return 1
-    if len(data) < HEADER:
+    if len(data) < HEADER or data.startswith(OLDER) or data[:HEADER] != header(data[8:16]):
         return 2
-    if data.startswith(OLDER) or data[:HEADER] != header(data[8:16]):
-        return 1
     bodies, at, _, _ = walk(data)
-    if any(apart(body) is None for body in bodies):
-        return 1
+    if is_other(bodies, version) or any(apart(body) is None for body in bodies):
+        return 2
     rest = data[at:]
     size = int.from_bytes(rest[40:HEAD], "big")
-    return 3 if len(rest) < HEAD or (size <= ROUND and len(rest) < HEAD + size) else 2
+    return 4 if len(rest) < HEAD or (size <= ROUND and len(rest) < HEAD + size) else 3
 
 
 class Failed(Exception):
@@ -144,12 +158,19 @@ class Disk:
     """Its calls, of which one fails."""
 
     def __init__(self, first, read, call):
-        self.first, self.read, self.fails, self.calls = first, read, call, []
+        self.first, self.read, self.fails, self.count, self.calls = first, read, call, 0, []
 
     def call(self, name, *what):
-        failed = len(self.calls) + 1 == self.fails
+        self.count += 1
+        failed = self.count == self.fails
         self.calls.append((name, what, failed))
         if failed:
+            raise Failed
+
+    def aside(self):
+        """A call on the new file beside it, of which nothing is told."""
+        self.count += 1
+        if self.count == self.fails:
             raise Failed
 
     def left(self, count, kept, put):
@@ -165,21 +186,23 @@ class Disk:
             elif name == "put":
                 byte = lambda data: data[: what[0]] + bytes([what[1]]) + data[what[0] + 1 :]
                 seen, held = byte(seen), byte(held) if put else held
+            elif name == "replace":
+                seen, held = seen if failed else what[0], what[0] if put else held
             elif not failed:
                 held = seen
         return held
 
 
 def calls_text(calls):
-    words = {"append": lambda data: f"append {shown(data)}", "put": lambda at, byte: f"put {at} {byte}", "cut": lambda at: f"cut {at}", "sync": lambda: "sync"}
+    words = {"append": lambda data: f"append {shown(data)}", "put": lambda at, byte: f"put {at} {byte}", "cut": lambda at: f"cut {at}", "sync": lambda: "sync", "replace": lambda data: f"replace {shown(data)}"}
     return "".join("; " + "failed " * failed + words[name](*what) for name, what, failed in calls)
 
 
 class Kept:
     """The log, where the next block begins, and what waits."""
 
-    def __init__(self):
-        self.log, self.salt, self.tip, self.round = Log(), b"", (HEADER, 1, b""), b""
+    def __init__(self, version):
+        self.log, self.salt, self.tip, self.round, self.version = Log(), b"", (HEADER, 1, b""), b"", version
 
     def hear(self, message):
         return None if message.name in ANSWERS else self.log.answer(message)
@@ -192,9 +215,9 @@ class Kept:
 
     def open(self, disk):
         """How many bytes were cut off."""
-        if 0 < disk.read <= reads(disk.first):
+        if 0 < disk.read <= reads(disk.first, self.version):
             raise Failed
-        said, self.tip, tail = reading(disk.first)
+        said, self.tip, tail = reading(disk.first, self.version)
         self.salt = disk.first[16:HEADER]
         for message in said:
             self.hear(message)
@@ -208,7 +231,7 @@ class Kept:
         answer = self.hear(message)
         if self.state() != before:
             self.round += data
-        return b"" if answer is None else spell_message(answer)
+        return b"" if answer is None else spell_message(answer, self.version)
 
     def state(self):
         return self.log.boot, [vars(entry) for entry in self.log.entries.values()]
@@ -221,6 +244,40 @@ class Kept:
             disk.call("sync")
             self.tip, self.round = (at + len(new), number + 1, own), b""
 
+    def snapshot(self):
+        """The messages that make the log again."""
+        said = [hello(self.log.boot)]
+        for key, entry in self.log.entries.items():
+            own = pack(">IH", key >> 16, key & 0xFFFF)
+            said.append(spelled(b"FT", 9, self.log.boot, own + pack(">IIH", entry.cisn, entry.sisn, entry.mss)))
+            for at in range(0, len(entry.data), 1024):
+                said.append(data(self.log.boot, at, bytes(entry.data[at : at + 1024]), key=own))
+            said.append(data(self.log.boot, len(entry.data), b"", entry.acked, int(entry.fin), own))
+            said += [read(self.log.boot, index, length, own) for index, length in enumerate(entry.lengths)]
+            if entry.done:
+                said.append(done(self.log.boot, own))
+        return [spell_message(read_message(message), self.version) for message in said]
+
+    def compact(self, disk, made):
+        """Puts a new file in the place of the old one, and says whether it could be written."""
+        if not self.log.boot:
+            return False
+        bodies = [b""]
+        for message in self.snapshot():
+            if len(bodies[-1]) + len(message) > ROUND:
+                bodies.append(b"")
+            bodies[-1] += message
+        try:
+            for _ in range(len(bodies) + 3):  # it is begun, gets its header and its blocks, and is synced
+                disk.aside()
+        except Failed:
+            return False
+        new = file_of(*bodies, made=made)
+        disk.call("replace", new)
+        disk.call("sync")
+        self.salt, self.tip = new[16:HEADER], walk(new)[1:]
+        return True
+
     def text(self):
         return f"boot {self.log.boot} count {len(self.log.entries)} end {self.tip[0]}"
 
@@ -232,10 +289,10 @@ def long_data(boot, piece):
 
 class Bench:
     def __init__(self):
-        self.file, self.fails, self.disk, self.kept, self.shown = b"", (0, 0), Disk(b"", 0, 0), None, 0
+        self.file, self.fails, self.disk, self.kept, self.shown, self.version = b"", (0, 0), Disk(b"", 0, 0), None, 0, PLAIN
 
     def opened(self, data):
-        disk, kept = Disk(data, *self.fails), Kept()
+        disk, kept = Disk(data, *self.fails), Kept(self.version)
         try:
             cut = kept.open(disk)
             text = f"{kept.text()} cut {cut}"
@@ -264,8 +321,12 @@ class Bench:
         self.fails = tuple(map(int, rest.split()))
         return f"fail {rest}"
 
+    def on_profile(self, rest):
+        self.version = {"plain": PLAIN, "wan": WIDE}[rest]
+        return f"profile {rest}"
+
     def on_begin(self, rest):
-        self.disk, self.kept = Disk(b"", *self.fails), Kept()
+        self.disk, self.kept = Disk(b"", *self.fails), Kept(self.version)
         try:
             self.kept.begin(self.disk, pack(">Q", int(rest)))
             text = self.kept.text()
@@ -294,7 +355,7 @@ class Bench:
         data = bytes.fromhex(rest)
         if self.kept is None:
             return "no log"
-        message = read_message(data)
+        message = read_message(data, self.kept.version)
         if message is None:
             return "no message"
         if len(self.kept.round) + 1491 > ROUND:
@@ -316,6 +377,17 @@ class Bench:
         try:
             self.kept.commit(self.disk)
             text = "commit"
+        except Failed:
+            self.kept, text = None, "failed"
+        new, self.shown = self.disk.calls[self.shown :], len(self.disk.calls)
+        return text + calls_text(new)
+
+    def on_compact(self, rest):
+        if self.kept is None:
+            return "no log"
+        try:
+            self.kept.commit(self.disk)
+            text = "compact" if self.kept.compact(self.disk, pack(">Q", int(rest))) else "stays"
         except Failed:
             self.kept, text = None, "failed"
         new, self.shown = self.disk.calls[self.shown :], len(self.disk.calls)
@@ -509,7 +581,7 @@ def deaths():
             order("commit\nstate\nfail 0 0\ndeath 9999 3 0\nopen\ndeath 9999 9999 1\nopen")
     order("# Each read fails in turn.")
     for start in (b"", MAGIC, OLDER, OLDER + bytes(40), file_of(), file_of(SMALL[0]), file_of(SMALL[0], tail=b"."), b"none at all", header() + bytes(60), file_of(good_after())):
-        for call in (1, 2, 3, 4):
+        for call in (1, 2, 3, 4, 5):
             order(f"file {start.hex()}\nfail {call} 0\nopen\nfail 0 0")
 
 
@@ -525,6 +597,55 @@ def rounds():
     order(f"file {file_of(SMALL[0]).hex()}\nopen")
     given(data(5, 0, b"abc"))
     order("entry 0\ndeath 9999 0 0\nopen\nentry 0\nin 00\ndeath 0 0 0\nin 00\ncommit\nstate")
+
+
+def replaced():
+    order("# A new file with the log takes the old one's place: of an empty log, of one with entries in each state, and of one whose snapshot has several blocks.")
+    order("begin 7\ncompact 8\nstate")
+    given(hello(5))
+    order("compact 8\nstate\ndeath 9999 0 0\nopen")
+    given(opening(5), data(5, 0, b"abc", acked=2), read(5, 0, 2), opening(5, OTHER), data(5, 0, bytes(range(256)) * 5, key=OTHER), read(5, 0, 900, OTHER), read(5, 1, 0, OTHER))
+    given(data(5, 1280, b"", 7, 1, OTHER), opening(5, pack(">IH", 9, 9)), data(5, 0, b"", 1, 1, pack(">IH", 9, 9)), read(5, 0, 0, pack(">IH", 9, 9)), done(5, pack(">IH", 9, 9)))
+    tell = "\n".join(f"entry {i}" for i in range(4))
+    order(f"compact 9\nstate\n{tell}\ndeath 9999 0 0\nopen\n{tell}")
+    given(data(5, 3, b"def"), read(5, 1, 1))
+    order(f"commit\nlong 256 0\ncommit\nlong 256 256\ncommit\ncompact 10\nstate\n{tell}\ndeath 9999 0 0\nopen\n{tell}")
+    order("# A death at each call of a replacement: until the folder is synced the name may be the old file's. And each call fails in turn.")
+    for put in (0, 1):
+        for count in range(4):
+            order(f"file {file_of(SMALL[0]).hex()}\nopen")
+            given(data(5, 0, b"abc"))
+            order(f"compact 9\ndeath {count + 1} 0 {put}\nopen\nentry 0")
+    for call in range(1, 10):
+        for put in (0, 1):
+            order(f"file {file_of(SMALL[0]).hex()}\nfail 0 {call}\nopen")
+            given(data(5, 0, b"abc"))
+            order(f"compact 9\nstate\ncompact 10\nfail 0 0\ndeath 9999 9999 {put}\nopen\nentry 0")
+
+
+def wide(message, ending=None):
+    """A plain message in the wide grammar; a Data with this ending."""
+    whole = spell_message(read_message(message), WIDE)
+    return whole if ending is None else spelled(b"FT", 11, int.from_bytes(whole[8:16], "big"), whole[16:30] + bytes([ending]) + whole[31:], WIDE)
+
+
+def grammars():
+    order("# A journal of the profile wan: of two Data of one turn the last is answered, both are kept, and a new file has the same grammar.\nprofile wan\nbegin 7")
+    given(*map(wide, (hello(5), opening(5))), wide(data(5, 0, b"abc"), 2), wide(data(5, 3, b"d"), 0), wide(data(5, 4, b"e", fin=1)), wide(data(5, 9, b"z"), 2), wide(data(4, 0, b"z"), 2), wide(read(5, 0, 2)), hello(6))
+    order("commit\nstate\nentry 0\ncompact 8\nstate\nentry 0")
+    given(wide(data(5, 0, b"", acked=3)), data(5, 0, b"", acked=4))
+    order("commit\ndeath 9999 0 0\nopen\nentry 0\nprofile plain\nopen\nprofile wan\nopen")
+    order("# A journal of the other profile is refused as such, however it goes on; one without a message is opened.")
+    small = [wide(hello(5)) + wide(opening(5)), wide(data(5, 0, b"abc"), 2) + wide(data(5, 3, b"d"))]
+    files = [file_of(*small, tail=b"\x03\xd1."), file_of(*SMALL), file_of(small[0], SMALL[1]), file_of(SMALL[0], small[1]), file_of(SMALL[0] + small[1]), file_of(), file_of(b""), file_of(b"", *small), file_of(small[0] + b"."), file_of(small[0][:20])]
+    files += [header() + bytes(60), file_of(tail=blocks(small[0])[:-1]), file_of(small[0], tail=bytes(400000)), header() + bytes(400000)]
+    for content in files:
+        shape = content.rstrip(b"\0") + bytes(min(60, len(content) - len(content.rstrip(b"\0"))))
+        order(f"file {shape.hex()}" + (f"\nmore {len(content) - len(shape)} 0" if len(content) > len(shape) else "") + "\nprofile plain\nopen\nprofile wan\nopen")
+    order(f"profile plain\nfile {files[0].hex()}\ncuts\nprofile wan\ncuts\nfile {file_of(small[0]).hex()}\nprofile plain\nflips\nprofile wan\nflips")
+    for call in (1, 2, 3, 4):
+        order(f"file {files[1].hex()}\nfail {call} 0\nopen\nfail 0 0")
+    order("profile plain")
 
 
 def large():
@@ -543,6 +664,8 @@ def cases():
     rounds()
     drawn()
     large()
+    replaced()
+    grammars()
 
 
 def make():

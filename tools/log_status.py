@@ -10,6 +10,9 @@
 `bytes`, `reads` and `fin` are what is logged of the client's stream, `acknowledged` what the client has acknowledged of the output, and `done` is 1 once the
 connection has ended. An ended connection keeps its place. --watch prints all of it every 60 seconds.
 
+A logger with the profile wan takes only messages of version 2, and any other only those of version 1. It is asked with version 1 first, and with 2 where nothing
+answers; the first line then ends with `, profile wan`. A server of the other profile gets no answer from it.
+
 It changes nothing: it sends only List, with the logger's present boot number (a smaller one is answered by Stale, which names the present one), and never
 Hello. Each index is asked for at most three times; the first that isn't answered counts as the end. A logger that no server has sent anything doesn't answer,
 and neither does one with boot number 1 and no connections.
@@ -29,6 +32,7 @@ import time
 from internet import address, checksum
 
 LIST, ENTRY, STALE = 3, 4, 17
+PLAIN, WIDE = 1, 2  # versions
 HEADER = struct.Struct("!2sBBHHQ")
 FIELDS = struct.Struct("!H4sHIIHIBBII")
 NEWER = struct.Struct("!Q")
@@ -43,18 +47,18 @@ def places(text):
     return count
 
 
-def message(boot, kind, fields):
+def message(boot, kind, fields, version=PLAIN):
     """The bytes of a message: its header with the checksum, then its fields."""
-    blank = HEADER.pack(b"FT", 1, kind, HEADER.size + len(fields), 0, boot) + fields
+    blank = HEADER.pack(b"FT", version, kind, HEADER.size + len(fields), 0, boot) + fields
     return blank[:6] + struct.pack("!H", checksum(blank)) + blank[8:]
 
 
-def read(data):
-    """The boot, the kind and the fields of a message, or None."""
+def read(data, wanted=PLAIN):
+    """The boot, the kind and the fields of a message of this version, or None."""
     if len(data) < HEADER.size:
         return None
     magic, version, kind, length, _, boot = HEADER.unpack_from(data)
-    if magic != b"FT" or version != 1 or length != len(data) or checksum(data) != 0:
+    if magic != b"FT" or version != wanted or length != len(data) or checksum(data) != 0:
         return None
     return boot, kind, data[HEADER.size :]
 
@@ -71,7 +75,7 @@ class Logger:
 
     def __init__(self, where, wait):
         ip, port = where
-        self.where, self.wait, self.boot = (socket.inet_ntoa(ip), port), wait, 1
+        self.where, self.wait, self.boot, self.version = (socket.inet_ntoa(ip), port), wait, 1, PLAIN
         self.socket = socket.socket(socket.AF_INET, socket.SOCK_DGRAM)
 
     def __enter__(self):
@@ -89,14 +93,14 @@ class Logger:
                 data, source = self.socket.recvfrom(2048)
             except socket.timeout:
                 return None
-            found = read(data) if source == self.where else None
+            found = read(data, self.version) if source == self.where else None
             if found and found[0] == self.boot and is_answer(*found[1:], self.boot, index):
                 return found[1:]
         return None
 
     def answer(self, index):
         """The kind and the fields of what answers the question for an index, with the boot that is asked with; None where nothing does."""
-        question = message(self.boot, LIST, struct.pack("!H", index))
+        question = message(self.boot, LIST, struct.pack("!H", index), self.version)
         for _ in range(TRIES):
             try:
                 self.socket.sendto(question, self.where)
@@ -108,7 +112,14 @@ class Logger:
         return None
 
     def entries(self):
-        """All entries in the logger's order, asked with its present boot; None where it doesn't answer at all."""
+        """All entries in the logger's order, in the version that it answers; None where it answers neither."""
+        for self.version in (PLAIN, WIDE):
+            if (found := self.entries_in_version()) is not None:
+                return found
+        return None
+
+    def entries_in_version(self):
+        """The same in one version, asked with the logger's present boot."""
         self.boot, found = 1, []  # an empty log answers by Stale alone, and a boot that it has already wouldn't get one
         while len(found) < PLACES:
             answer = self.answer(len(found))
@@ -134,7 +145,7 @@ def report(logger, warn):
     if entries is None:
         print("no answer: there is no logger, no server has spoken to it, or it has boot 1 and no connection", file=sys.stderr)
         return 3
-    print(f"boot {logger.boot}: {len(entries)} of {PLACES} places")
+    print(f"boot {logger.boot}: {len(entries)} of {PLACES} places" + (", profile wan" if logger.version == WIDE else ""))
     for entry in entries:
         print(line(entry))
     sys.stdout.flush()

@@ -11,7 +11,7 @@ from unittest import mock
 import log_status
 from loggers import Message
 from stand_ins import StandIn, clients, key, log_of, logger, nobody, silent
-from twin_model import read_message, spell_message, spelled
+from twin_model import WIDE, read_message, spell_message, spelled
 
 WAIT = "0.1"
 # An Entry by hand (docs/FORMATS.md): header and fields; the checksum is the complement of the sum of its words.
@@ -29,12 +29,6 @@ def run(where, *words):
         except SystemExit as end:
             status = end.code
     return status, out.getvalue().splitlines(), err.getvalue().splitlines()
-
-
-def versioned(version, data):
-    """The message with another version: the sum of its words grows by the difference, and so its complement shrinks."""
-    check = int.from_bytes(data[6:8], "big") - (version - data[2]) * 256
-    return data[:2] + bytes([version]) + data[3:6] + struct.pack(">H", check % 0xFFFF) + data[8:]
 
 
 class Messages(unittest.TestCase):
@@ -69,7 +63,7 @@ class States(unittest.TestCase):
         with StandIn(logger(log)) as there:
             said = run(there.where, "--wait", WAIT, *words)
         for data, _ in there.asked:
-            self.assertEqual(read_message(data).name, "List", "it sends what could change the log")
+            self.assertEqual(read_message(data, data[2]).name, "List", "it sends what could change the log")
         return said
 
     def test_entries(self):
@@ -84,6 +78,11 @@ class States(unittest.TestCase):
         lines = ["boot 7: 2 of 64 places", "192.0.2.1:40000 bytes 12 fin 1 reads 1 acknowledged 4 done 0"]
         self.assertEqual(self.ask(log), (0, [*lines, "198.51.100.255:65535 bytes 0 fin 0 reads 0 acknowledged 0 done 1"], []))
         self.assertEqual((log.boot, len(log.entries)), (7, 2))
+
+    def test_wide(self):
+        """A logger that takes only messages of version 2 is named."""
+        with StandIn(logger(log_of(7, clients(1)), WIDE)) as there:
+            self.assertEqual(run(there.where, "--wait", WAIT), (0, ["boot 7: 1 of 64 places, profile wan", FULL[0]], []))
 
     def test_empty(self):
         self.assertEqual(self.ask(log_of(2, [])), (0, ["boot 2: 0 of 64 places"], []))
@@ -119,7 +118,8 @@ class Answers(unittest.TestCase):
     def test_silence(self):
         with StandIn(silent) as there:
             self.assertEqual(run(there.where, "--wait", "0.02")[0], 3)
-        self.assertEqual([read_message(data).fields["index"] for data, _ in there.asked], [0, 0, 0])
+        self.assertEqual([data[2] for data, _ in there.asked], [1, 1, 1, 2, 2, 2])
+        self.assertEqual([read_message(data, data[2]).fields["index"] for data, _ in there.asked], [0] * 6)
 
     def test_lost(self):
         """Two of three questions may be lost, or their answers."""
@@ -139,7 +139,7 @@ class Answers(unittest.TestCase):
             "junk": b"junk",
             "another index": spell_message(Message("Entry", 1, {**entry, "index": 1})),
             "another boot number": spell_message(Message("Entry", 2, entry)),
-            "another version": versioned(2, spell_message(Message("Entry", 1, entry))),
+            "another version": spell_message(Message("Entry", 1, entry), 3),
             "an Entry's fields in another kind": spelled(b"FT", 2, 1, fields),
             "another kind": spell_message(Message("Summary", 1, {"count": 0})),
             "a short entry": spelled(b"FT", 4, 1, fields[:-1]),

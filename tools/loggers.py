@@ -16,6 +16,7 @@ Mark = namedtuple("Mark", "reads length made state")
 NO_MARK = Mark(0, 0, 0, b"")
 
 # The messages that a log sends, and no server.
+FOLLOWED = 2  # the ending of a Data that a later one of the same turn follows
 ANSWERS = {"Summary", "Entry", "Part", "Lens", "Opened", "Stable", "Reads", "Ended", "Stale", "Full", "Marked", "Held"}
 
 
@@ -30,7 +31,7 @@ class Entry:
         self.acked = max(self.acked, said["acked"])
         if not self.fin and said["offset"] <= len(self.data):
             self.data += said["bytes"][len(self.data) - said["offset"] :]
-            self.fin = int(said["fin"] and said["offset"] + len(said["bytes"]) == len(self.data))
+            self.fin = int(said["fin"] == 1 and said["offset"] + len(said["bytes"]) == len(self.data))
 
     def keep_read(self, index, length):
         total = sum(self.lengths) + length
@@ -90,7 +91,10 @@ class Log:
 
     def on_data(self, said):
         entry = self.entries.get(said["key"])
-        return entry and (entry.keep_data(said), ("Stable", entry.counts()))[1]
+        if entry is None:
+            return None
+        entry.keep_data(said)
+        return None if said["fin"] == FOLLOWED else ("Stable", entry.counts())
 
     def on_read(self, said):
         entry = self.entries.get(said["key"])

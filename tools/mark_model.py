@@ -5,12 +5,13 @@ mark_model.py lines      reads a script of `service_script` from standard input,
 mark_model.py cases      writes the script that is stored beside the program, up to the lines about the web server
 
 A saved state is made here from all input that the service was ever given; the program makes it from the service's state. Lines about the web server are
-played by web_model.py.
+played by web_model.py, those about the receiver of mail by mail_model.py.
 """
 import re
 import sys
 from struct import iter_unpack, pack, unpack
 
+from mail_model import mail_line
 from twin_model import Draws, folded, spelled
 from web_model import Connections
 
@@ -272,6 +273,8 @@ def played(line, connections):
         return said_by(bytes.fromhex(rest[0].replace("-", "")))
     if word == "random":
         return random(int(rest[0]), int(rest[1]))
+    if word == "mail":
+        return mail_line(line.partition(" ")[2])
     return connections.played(line)
 
 

@@ -1,11 +1,13 @@
 #!/usr/bin/env python3
 """Whether crashes of the server and the stop of a logger are masked, by the model in tools/model.py.
 
-    tools/masked.py [--seeds N] [--events N] [--first SEED]   plays N drawn schedules with two loggers, and tests the world after each event
+    tools/masked.py [--seeds N] [--events N] [--first SEED] [--greeting BYTES]
+                                plays N drawn schedules with two loggers, in which each service has a greeting, and tests the world after each event
 
 After each event: a client has a front of what a server that never failed sends it, for its script cut into reads as the log that serves has them, and all of it
-where its stream has ended. No segment acknowledges what isn't logged. A restart ends with what is logged. What a live connection has taken and knows to be
-logged is what its client was told last. A mark that is sent is true of the log. The program ends with 1 at the first event that breaks one of these.
+where its stream has ended. A client that the log doesn't know has accepted nothing, not even the greeting. No segment acknowledges what isn't logged. A restart
+ends with what is logged. What a live connection has taken and knows to be logged is what its client was told last. A mark that is sent is true of the log. The
+program ends with 1 at the first event that breaks one of these.
 """
 import argparse
 
@@ -13,12 +15,13 @@ from loggers import NO_MARK, Mark
 from mark_model import FORMS
 from model import Connection, Segment, gap, number
 from seed_model import drawn_run
-from services import Service
+from services import GREETINGS, Service
 
 
 def unfailing(service, script, lengths):
     """What a server that never failed has sent after reads of these lengths, and its service then."""
-    it, sent, at = Service(service), b"", 0
+    it, at = Service(service), 0
+    sent = it.greeting
     for length in lengths:
         sent, at = sent + it.take(script[at : at + length]), at + length
     return sent, it
@@ -54,12 +57,18 @@ class Watch:
             elif not isinstance(content, Segment) and getattr(content, "name", None) in ("Mark", "Held") and not self.tells_truth(world, content):
                 yield f"{content.name} of {content.fields['key']} isn't true"
         yield from (f"client {client.key} sees a failure" for client in world.clients if not sees_front(client, *self.unfailing(world, client)))
+        strangers = (client for client in world.clients if client.accepted and not self.is_known(world, client))
+        yield from (f"client {client.key} has a greeting without an entry" for client in strangers)
         places = world.server.places if world.server else {}
         if world.server and world.server.serves and not self.serves:
             entries = world.log.entries.items()
             yield from (f"{key} restarts otherwise" for key, entry in entries if not entry.done and not resumes(world.service, entry, places.get(key)))
         yield from (f"{key} was told otherwise" for key, place in places.items() if isinstance(place, Connection) and not self.is_told(key, place))
         self.serves = bool(world.server and world.server.serves)
+
+    def is_known(self, world, client):
+        """Whether the log has an entry of a client's connection."""
+        return client.key in world.log.entries
 
     def unfailing(self, world, client):
         """What a server that never failed has sent to a client, for its script cut into reads as the log has them, and whether it has closed."""
@@ -100,9 +109,10 @@ def resumes(service, entry, place):
 
 def main():
     parser = argparse.ArgumentParser(description=__doc__, formatter_class=argparse.RawDescriptionHelpFormatter)
-    for name, default in (("--seeds", 2000), ("--events", 1000), ("--first", 1)):
+    for name, default in (("--seeds", 2000), ("--events", 1000), ("--first", 1), ("--greeting", 0)):
         parser.add_argument(name, type=int, default=default)
     words = parser.parse_args()
+    GREETINGS.update({name: bytes(i % 251 for i in range(words.greeting)) for name in FORMS})
     stops = crashes = accepted = 0
     for seed in range(words.first, words.first + words.seeds):
         world, _ = drawn_run(seed, 1 + seed % 4, words.events, twin=True, watch=Watch())

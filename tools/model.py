@@ -5,7 +5,7 @@ report of a schedule is compared with that of `ftreplay` (tools/seed_model.py), 
 """
 from collections import namedtuple
 
-from loggers import NO_MARK, OPENINGS, Alone, Forward, Got, Journaled, Mark, Message, Pair
+from loggers import FOLLOWED, NO_MARK, OPENINGS, Alone, Forward, Got, Journaled, Mark, Message, Pair
 from sender_model import LONGEST, PROFILES, Congestion, Timing
 from services import Service
 
@@ -209,11 +209,12 @@ class Connection(Stream):
     def __init__(self, key, cisn, sisn, mss, service, every=0, profile="plain"):
         super().__init__()
         self.key, self.cisn, self.sisn, self.mss = key, cisn, sisn, mss
-        self.service, self.output, self.after_read = Service(service), bytearray(), [(0, False)]
+        self.service = Service(service)
+        self.output, self.after_read = bytearray(self.service.greeting), [(len(self.service.greeting), False)]
         self.fetched, self.fetched_output, self.answered = 0, 0, 0
         self.lengths, self.consumed, self.reads_answered = [], 0, 0
         self.una = self.sent = self.edge = self.wl1 = self.wl2 = 0
-        measures, self.delays = PROFILES[profile]
+        measures, self.delays, self.batches = PROFILES[profile]
         self.timing, self.congestion, self.again = Timing(measures), Congestion(mss, measures), False
         self.counted, self.interval, self.rest = False, self.timing.base, self.timing.base
         self.end_ticks, self.reset = 0, False
@@ -458,7 +459,8 @@ class Connection(Stream):
         """What the log is told: the copies, or that more is acknowledged; the reads; that the connection has ended."""
         if rose and not copied:
             copied = [(min(self.answered, len(self.data)), b"", 0)]
-        told = [self.message("Data", offset=offset, acked=self.una, fin=fin, bytes=data) for offset, data, fin in copied]
+        endings = [FOLLOWED if self.batches else fin for _, _, fin in copied[:-1]] + [fin for _, _, fin in copied[-1:]]
+        told = [self.message("Data", offset=offset, acked=self.una, fin=end, bytes=data) for (offset, data, _), end in zip(copied, endings)]
         indexes = range(self.reads_answered, len(self.lengths)) if kind == "tick" else made
         told += [self.message("Read", index=index, length=self.lengths[index]) for index in indexes]
         if kind == "tick" and self.is_over() and self.answered >= self.taken():

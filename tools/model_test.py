@@ -4,6 +4,7 @@ with lost segments, and the part `replay` of the stored run of crates/node_cases
 import pathlib
 import re
 import unittest
+from unittest import mock
 
 import lossy
 from endpoint_model import play_script
@@ -14,7 +15,7 @@ from reordered import drawn
 from replay_stored import printed
 from seed_model import drawn_run
 from sender_model import WIDEST, Congestion, Timing
-from services import Service
+from services import GREETINGS, Service
 from stored_parts import read_part
 
 KEY, SERVER = "192.0.2.1:40000", "192.0.2.100:7"
@@ -339,6 +340,24 @@ class Timings(unittest.TestCase):
             self.assertEqual([*sent, len(place.turn("logged", logged)[0])], counts, profile)
 
 
+    def test_batches(self):
+        """In the profile `wan` each Data of a turn but the last says that another follows; a log keeps such a Data, and answers only the last."""
+        for profile, endings in (("plain", [0, 0, 1]), ("wan", [2, 2, 1])):
+            place = Connection(KEY, 1000, 5000, 536, "echo", profile=profile)
+            place.turn("start")
+            for it in (text(0, b""), text(1, b"b" * 1460), text(1461, b"c" * 1460)._replace(flags="AF")):
+                place.turn("segment", it)
+            log = Log()
+            log.answer(Message("Hello", 1, {}))
+            log.answer(Message("Open", 1, {"key": KEY, "cisn": 1000, "sisn": 5000, "mss": 536}))
+            told = [Message(name, 1, said) for name, said in place.turn("segment", text(0, b"a"))[1] if name == "Data"]
+            self.assertEqual([(said.fields["offset"], said.fields["fin"]) for said in told], list(zip((0, 1, 1461), endings)), profile)
+            answers = [log.answer(said) for said in told]
+            lengths = [answer and answer.fields["length"] for answer in answers]
+            self.assertEqual(lengths, [1, 1461, 2921] if profile == "plain" else [None, None, 2921])
+            self.assertEqual(log.answer(Message("Data", 0, told[0].fields)).name, "Stale")
+
+
 class Congestions(unittest.TestCase):
     """The congestion window by RFC 5681. `a` acknowledges so many units, `d` is a duplicate with so many units in flight, `l` a loss by the timer, the first
     one with `f`; behind each the window, the threshold and the count of duplicates."""
@@ -516,6 +535,48 @@ class Worlds(unittest.TestCase):
             play(world, "ack 1 65535")
             drain(world, start)
             self.assertEqual((bytes(client.accepted), world.log.entries[KEY].lengths), (b"hello", [5]), (count, failures))
+
+    def test_a_greeting_through_a_crash_at_each_turn(self):
+        """The service speaks first. Behind each event, up to the one at which the greeting has left, the server crashes; the client gets greeting and echo once."""
+        events = FIRST_PATH.split("|")[:10]
+        with mock.patch.dict(GREETINGS, echo=b"220 hi\r\n"):
+            for count in range(1, len(events) + 1):
+                client = Client(KEY, 1000, b"hello")
+                world = World("echo", SERVER, [client], False)
+                play(world, *events[:count], "crash", "boot 2 900000")
+                start = drain(world, len(world.packets) - 1)
+                if client.phase in ("new", "opening"):
+                    play(world, "open 1 65535")
+                    start = drain(world, start)
+                self.assertIn(bytes(client.accepted), (b"", b"220 hi\r\n"), count)
+                for _ in range(4):
+                    play(world, "ack 1 65535", *["tick"] * 70)
+                    start = drain(world, start)
+                self.assertEqual(bytes(client.accepted), b"220 hi\r\n", count)
+                play(world, "send 1 0 5")
+                start = drain(world, start)
+                play(world, "ack 1 65535")
+                drain(world, start)
+                self.assertEqual((bytes(client.accepted), world.log.entries[KEY].lengths), (b"220 hi\r\nhello", [5]), count)
+
+    def test_greetings_are_masked(self):
+        for seed in range(25):
+            with mock.patch.dict(GREETINGS, {name: bytes(range(1, 9)) for name in ("echo", "line", "transfer", "meter")}):
+                drawn_run(seed, 1 + seed % 4, 1000, twin=True, watch=Watch())
+
+    def test_a_forgotten_greeting_is_seen(self):
+        """A restart that doesn't make the greeting again is refused in one of these schedules."""
+        begin = Connection.of_entry
+
+        def forgetful(entry, service, *rest):
+            it = begin(entry, service, *rest)
+            it.output, it.after_read = it.output[8:], [(length - 8, closed) for length, closed in it.after_read]
+            return it
+
+        greets, forgets = mock.patch.dict(GREETINGS, echo=bytes(range(1, 9))), mock.patch.object(Connection, "of_entry", forgetful)
+        with greets, forgets, self.assertRaisesRegex(SystemExit, "failure|otherwise"):
+            for seed in range(0, 200, 4):
+                drawn_run(seed, 1, 1000, twin=True, watch=Watch())
 
     def test_segments_out_of_order(self):
         for seed in range(100):

@@ -30,6 +30,8 @@ def made(words, text):
     """What is printed of an order, or None where the model can't tell."""
     if words[0] == "crash":
         return crashes(words[1], [("stop", [int(words[2])])] if words[2:] else [], text)
+    if words[0] == "greeted":
+        return crashes(words[1], [], text, "mail")
     if words[0] == "deltas":
         return delta(words[1], text)
     if words[0] == "checked":
@@ -44,7 +46,7 @@ def made(words, text):
         report, why = (summary(seed, count, events), None) if allowed else (None, None)
     elif spoken == ["check"]:
         return judged(name, text)
-    elif spoken == ["run"]:
+    elif spoken == ["run"] and not re.search(r"(?m)^lasting ", text):  # the program plays no such schedule, and the model doesn't know
         report, why = play(text)
     else:
         return None
@@ -61,19 +63,21 @@ def judged(name, text):
     return f"{name}: status 0\n{told_verdict(it)}\n" if it.law == "legal" else f"{name}: status 9\nftreplay: {told_verdict(it)}\n"
 
 
-def crashes(name, stops, text):
-    """The first events of a schedule, for each number of them, then a crash, or also a stop, and a restart, and the client goes on as far as it must."""
+def crashes(name, stops, text, service=None):
+    """The first events of a schedule, for each number of them, then a crash, or also a stop, and a restart, and the client goes on as far as it must. Another
+    service may stand in for the schedule's."""
     schedule = read_schedule(text)
     ((key, isn, script),) = schedule.clients
     told = ""
     for count in range(1, len(schedule.events) + 1):
         client = Client(key, isn, script_of(script))
-        world = World(schedule.service, schedule.server, [client], schedule.twin, schedule.marks, schedule.profile)
+        world = World(service or schedule.service, schedule.server, [client], schedule.twin, schedule.marks, schedule.profile)
         for verb, words in [*schedule.events[:count], ("crash", []), *stops]:
             world.step(verb, words)
         go_on(world, client)
         entry = world.log.entries[key]
-        told += f"{name}, crash after {count}: {client.accepted.decode()} in reads of {len(entry.data)} bytes, {len(entry.lengths)} reads\n"
+        accepted = client.accepted.replace(b"\r\n", b"|").decode()
+        told += f"{name}, crash after {count}: {accepted} in reads of {len(entry.data)} bytes, {len(entry.lengths)} reads\n"
     return told
 
 
@@ -113,7 +117,7 @@ def printed(stored, told):
     marks = []
     told = told.partition(SHELL_TOLD)[0]
     for words, text in orders(stored.partition(SHELL)[0]):
-        mark = words[1] + {"play": ": status ", "checked": ": status ", "deltas": ": delta ", "crash": ", crash after 1: "}[words[0]]
+        mark = words[1] + {"play": ": status ", "checked": ": status ", "deltas": ": delta ", "crash": ", crash after 1: ", "greeted": ", crash after 1: "}[words[0]]
         at = told.find(mark, marks[-1][0] if marks and marks[-1][0] is not None else 0)
         marks.append((at if at >= 0 else None, words, text))
     starts = [at for at, _, _ in marks if at is not None] + [len(told)]

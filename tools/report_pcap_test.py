@@ -32,7 +32,7 @@ SPELLINGS = [
         f"S>1 AF seq 5001 ack 1002 window 65535 mss - data {bytes(range(100)).hex()}",
     ),
 ]
-# What tcpdump prints of examples/crash (`tcpdump -n -S -t`), as in docs/FORMATS.md.
+# What tcpdump prints of examples/crash (`tcpdump -n -S -t`).
 CRASH = """\
 IP 192.0.2.1.40000 > 192.0.2.100.7: Flags [S], seq 1000, win 65535, length 0
 IP 192.0.2.100.7 > 192.0.2.1.40000: Flags [S.], seq 5000, ack 1001, win 65535, options [mss 1460], length 0

@@ -65,6 +65,7 @@ class Report:
     profile: str = "plain"
     twin: bool = False
     marks: int = 0  # after how many reads the server marks a connection
+    lasting: tuple = ()  # the ticks of a quarantine and of a silence, of a server that lasts
     clients: dict = field(default_factory=dict)
     events: list = field(default_factory=list)
     closing: list = field(default_factory=list)
@@ -88,7 +89,7 @@ def take_line(report, words):
         report.events.append(Event(int(words[1]), words[2:]))
     elif head == "packet":
         report.events[-1].packets.append(read_packet(words, report.events[-1].number))
-    elif report.events or head in ("end", "log"):
+    elif report.events or head in ("end", "log", "gone"):
         report.closing.append(words)
     elif head == "service":
         report.service = words[1]
@@ -100,6 +101,8 @@ def take_line(report, words):
         report.twin = True
     elif head == "marks":
         report.marks = int(words[1])
+    elif head == "lasting":
+        report.lasting = int(words[1]), int(words[2])
     elif head == "client" and words[3] != "accepted":
         report.clients[words[1]] = words[2]
     elif head == "client":

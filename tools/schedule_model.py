@@ -7,6 +7,7 @@ LIMIT = 1 << 24  # bytes of a script
 TEXT = 8_388_608  # bytes of a text
 EVENTS = 100_000
 CLIENTS = 16
+WAITS = 100_000  # ticks for which a server that lasts may wait
 SERVICES = ("echo", "line", "transfer", "meter")
 PROFILES = ("wan",)  # those that are named; a schedule that names none has the plain one
 
@@ -14,10 +15,10 @@ PROFILES = ("wan",)  # those that are named; a schedule that names none has the 
 LONG, PACKET, CLIENT, WINDOW = (0, 2**32 - 1), (1, 2**32 - 1), (1, CLIENTS), (0, 65535)
 VERBS = {"boot": [(1, 2**64 - 1), LONG], "crash": [], "tick": [], "deliver": [PACKET], "flip": [PACKET, LONG], "open": [CLIENT, WINDOW]}
 VERBS |= {"send": [CLIENT, LONG, LONG], "fin": [CLIENT], "ack": [CLIENT, WINDOW], "reset": [CLIENT], "stop": [(1, 2)]}
-HEADS = {"service": 2, "server": 2, "profile": 2, "twin": 1, "marks": 2, "client": 5}  # how many words they have
+HEADS = {"service": 2, "server": 2, "profile": 2, "twin": 1, "marks": 2, "lasting": 3, "client": 5}  # how many words they have
 
-# A script is as a report spells it; a client has its address, its initial number and its script.
-Schedule = namedtuple("Schedule", "service server profile twin marks clients events")
+# A script is as a report spells it; a client has its address, its initial number and its script; `lasting` has the ticks of a quarantine and of a silence.
+Schedule = namedtuple("Schedule", "service server profile twin marks lasting clients events")
 
 
 class Refused(Exception):
@@ -55,7 +56,7 @@ class Reader:
 
     def __init__(self):
         self.service = self.server = None
-        self.profile, self.twin, self.marks, self.clients, self.events = "plain", False, 0, [], []
+        self.profile, self.twin, self.marks, self.lasting, self.clients, self.events = "plain", False, 0, None, [], []
         self.last = None  # the first word of the last line that counted
 
     def take(self, line):
@@ -84,7 +85,7 @@ class Reader:
             return self.last == "service"
         if words[0] == "profile":
             return self.last == "server"
-        if words[0] in ("twin", "marks"):
+        if words[0] in ("twin", "marks", "lasting"):
             return self.last in ("server", "profile")
         if words[0] != "client":
             return self.server is not None
@@ -102,10 +103,13 @@ class Reader:
             self.twin = True
         elif head == "marks":
             self.marks = number_of(words[0], 1, 1000)
+        elif head == "lasting":
+            self.lasting = number_of(words[0], 1, WAITS), number_of(words[1], 0, WAITS)
         elif head == "client":
             number_of(words[0], 1, CLIENTS)
             isn = number_of(words[2], *LONG)
-            address = address_of(words[1], [self.server, *(client[0] for client in self.clients)])
+            others = [] if self.lasting else [client[0] for client in self.clients]
+            address = address_of(words[1], [self.server, *others])
             self.clients.append((address, isn, script_of(words[3])))
         else:
             self.events.append((head, [number_of(word, *rule) for word, rule in zip(words, VERBS[head])]))
@@ -123,4 +127,4 @@ def read_schedule(text):
             raise why if str(why).startswith("too long") else Refused(f"line {number}: {why}") from None
     if reader.server is None:
         raise Refused(f"line {len(lines) + 1}: place")
-    return Schedule(reader.service, reader.server, reader.profile, reader.twin, reader.marks, reader.clients, reader.events)
+    return Schedule(reader.service, reader.server, reader.profile, reader.twin, reader.marks, reader.lasting, reader.clients, reader.events)

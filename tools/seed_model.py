@@ -5,11 +5,12 @@
     tools/seed_model.py schedule SEED CLIENTS EVENTS  that schedule as text, for `ftreplay run`
     tools/seed_model.py pair SEED CLIENTS EVENTS      one with two loggers: at drawn events one of them stops, and the server crashes if it is up
     tools/seed_model.py run < SCHEDULE                the report of a schedule, up to its first event that isn't allowed; a refused line has none
-    tools/seed_model.py compare PROGRAM [--seeds N] [--events N] [--first SEED] [--through seed|run|pair]
+    tools/seed_model.py compare PROGRAM [--seeds N] [--events N] [--first SEED] [--through seed|run|pair] [--profile plain|wan]
                                                       plays N seeds with 1 to 16 clients each by both, and compares what they write
 
 PROGRAM is a built `ftreplay`. `compare` ends with status 1 at the first difference, and prints the words that reproduce it. With `--through run` the program plays
-each schedule as text, and the whole reports are compared; with `--through pair` these are the schedules with two loggers.
+each schedule as text, and the whole reports are compared; with `--through pair` these are the schedules with two loggers. With `--profile wan` the schedules that
+are played as text name this profile.
 """
 import argparse
 import signal
@@ -39,9 +40,9 @@ def fill(length):
     return bytes(97 + place % 26 for place in range(length))
 
 
-def drawn_world(draws, count, twin=False):
+def drawn_world(draws, count, twin=False, profile="plain"):
     clients = [Client(f"192.0.2.{i}:40000", draws.draw(), fill(1000 * i)) for i in range(1, count + 1)]
-    return World("echo", SERVER, clients, twin)
+    return World("echo", SERVER, clients, twin, profile=profile)
 
 
 def drawn_event(draws, world):
@@ -83,10 +84,10 @@ def drawn_failures(draws, events):
     return {crashes: ("crash", []), stops: ("stop", [1 + draws.draw() % 2])}
 
 
-def drawn_run(seed, count, events, twin=False, watch=None):
+def drawn_run(seed, count, events, twin=False, watch=None, profile="plain"):
     """The world behind a drawn schedule, with the events; `None` in its place where the packets pass their limit. `watch` finds faults in it after each."""
     draws, played = Generator(seed), []
-    world = drawn_world(draws, count, twin)
+    world = drawn_world(draws, count, twin, profile)
     failures = drawn_failures(draws, events) if twin else {}
     for place in range(events):
         verb, words = drawn_event(draws, world) if place else ("boot", [1, draws.draw()])
@@ -114,9 +115,9 @@ def event_words(verb, words):
     return " ".join([verb, *map(str, words)])
 
 
-def schedule_text(seed, count, events, twin=False):
-    lines = header(drawn_world(Generator(seed), count, twin), [f"fill:{1000 * i}" for i in range(1, count + 1)])
-    return lines + [event_words(verb, words) for verb, words, _ in drawn_run(seed, count, events, twin)[1]]
+def schedule_text(seed, count, events, twin=False, profile="plain"):
+    lines = header(drawn_world(Generator(seed), count, twin, profile), [f"fill:{1000 * i}" for i in range(1, count + 1)])
+    return lines + [event_words(verb, words) for verb, words, _ in drawn_run(seed, count, events, twin, profile=profile)[1]]
 
 
 def summary(seed, count, events):
@@ -167,6 +168,7 @@ def play(text):
         schedule = read_schedule(text)
     except Refused as why:
         return [], str(why)
+    assert schedule.lasting is None, "tools/lasting_model.py plays these"
     clients = [Client(key, isn, script_of(script)) for key, isn, script in schedule.clients]
     world = World(schedule.service, schedule.server, clients, schedule.twin, schedule.marks, schedule.profile)
     report, number, done = ["ftreplay 1", *header(world, [script for _, _, script in schedule.clients])], 0, 0
@@ -185,13 +187,13 @@ def play(text):
     return report + closing(world, done), None
 
 
-def differs(program, seed, count, events, through):
+def differs(program, seed, count, events, through, profile):
     """Whether the program writes something else than the model, for one seed."""
     if through == "seed":
         wanted = summary(seed, count, events)
         words, given = ["seed", str(seed), str(count), str(events)], ""
     else:
-        given = "\n".join(schedule_text(seed, count, events, through == "pair")) + "\n"
+        given = "\n".join(schedule_text(seed, count, events, through == "pair", profile)) + "\n"
         wanted, words = play(given)[0], ["run"]
     run = subprocess.run([program, *words], input=given, capture_output=True, text=True, timeout=120, check=False)
     return run.stdout != "".join(line + "\n" for line in wanted or [])
@@ -200,7 +202,7 @@ def differs(program, seed, count, events, through):
 def compare(words):
     for place in range(words.seeds):
         seed, count = words.first + place, 1 + place % 16
-        if differs(words.program, seed, count, words.events, words.through):
+        if differs(words.program, seed, count, words.events, words.through, words.profile):
             sys.exit(f"they differ at: seed {seed} {count} {words.events}")
     print(f"{words.seeds} seeds of {words.events} events: all equal")
 
@@ -219,6 +221,7 @@ def main():
     both.add_argument("--events", type=int, default=2000)
     both.add_argument("--first", type=int, default=1)
     both.add_argument("--through", choices=("seed", "run", "pair"), default="seed")
+    both.add_argument("--profile", choices=("plain", "wan"), default="plain")
     words = parser.parse_args()
     signal.signal(signal.SIGPIPE, signal.SIG_DFL)
     if words.verb == "compare":

@@ -8,9 +8,10 @@ THRESHOLD = 65535  # the slow start threshold of a new connection
 WIDEST = 1 << 20  # the most units of a congestion window
 LONGEST = 64  # the longest interval of the timer
 
-# `measures`: the timer follows measured round trips, and the losses of one flight are recovered one after another. `delays`: the ACK of what isn't logged waits
-Profile = namedtuple("Profile", "measures delays")
-PROFILES = {"plain": Profile(False, False), "wan": Profile(True, True)}
+# `measures`: the timer follows measured round trips, and the losses of one flight are recovered one after another. `delays`: the ACK of what isn't logged waits.
+# `batches`: of what a turn copies to the log only the last is answered, and each other says that one follows
+Profile = namedtuple("Profile", "measures delays batches")
+PROFILES = {"plain": Profile(False, False, False), "wan": Profile(True, True, True)}
 
 
 class Timing:

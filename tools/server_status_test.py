@@ -8,7 +8,7 @@ from unittest import mock
 import server_status
 from loggers import Message
 from stand_ins import ACK, FIN, PSH, RST, SYN, StandIn, clients, listener, log_of, logger, nobody, read_segment, segment, silent
-from twin_model import read_message
+from twin_model import PLAIN, WIDE, read_message
 
 WAIT, SHORT = "0.1", "0.03"
 
@@ -104,12 +104,12 @@ class Loggers(unittest.TestCase):
         with StandIn(listener) as server, StandIn(answers) as there:
             said = run("--server", server.where, "--logger", there.where, "--wait", wait, *words)
         for data, _ in there.asked:
-            self.assertEqual(read_message(data).name, "List", "it sends what could change the log")
+            self.assertEqual(read_message(data, data[2]).name, "List", "it sends what could change the log")
         return said
 
-    def check(self, log, boot, *words):
+    def check(self, log, boot, *words, version=PLAIN):
         """Whether it says that the server serves is whether an Open of the server's boot number is answered by Opened."""
-        status, out, err = self.ask(logger(log), *words)
+        status, out, err = self.ask(logger(log, version), *words)
         opened = log.answer(Message("Open", boot, {"key": 1, "cisn": 1, "sisn": 2, "mss": 536}))
         can_open = opened is not None and opened.name == "Opened"
         self.assertEqual((status, out) if can_open else (status > 0, out), (0, "serves") if can_open else (True, ""))
@@ -121,6 +121,11 @@ class Loggers(unittest.TestCase):
         status, err = self.check(log_of(2, clients(64)), 2)
         self.assertEqual(status, 1)
         self.assertIn("64 places", err)
+
+    def test_wide(self):
+        """A logger that takes only messages of version 2."""
+        self.assertEqual(self.check(log_of(2, clients(63)), 2, version=WIDE), (0, ""))
+        self.assertEqual(self.check(log_of(2, clients(64)), 2, version=WIDE)[0], 1)
 
     def test_new_log(self):
         """The logger was started again without a journal, and the server runs on: its messages aren't answered."""

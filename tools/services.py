@@ -1,11 +1,16 @@
-"""The four services in plain Python, by the rules and not by the program. tools/model.py has the rest."""
+"""The four services in plain Python, by the rules and not by the program, and the receiver of mail. tools/model.py has the rest."""
+import mail_model
+
+GREETINGS = {"mail": mail_model.GREETING}  # of services that speak first, by name: none of the four does
 
 
 class Service:
-    """One of the four services: what it makes of one chunk after another."""
+    """One of these services: what it makes of one chunk after another."""
 
     def __init__(self, name):
         self.name, self.closed, self.held, self.count, self.made = name, False, b"", 0, 0
+        self.greeting = GREETINGS.get(name, b"")
+        self.session = mail_model.Session() if name == "mail" else None
 
     def form(self):
         """The bytes as which its state is saved. One that has closed has none."""
@@ -38,6 +43,11 @@ class Service:
 
     def meter(self, chunk):
         return b"%d\n" % len(chunk) if chunk else b""
+
+    def mail(self, chunk):
+        out = self.session.take(chunk)
+        self.closed = self.session.closed
+        return out
 
     def line(self, chunk):
         out, held = b"", self.held

@@ -8,7 +8,7 @@ import struct
 import threading
 
 from loggers import Log, Message, answers_of
-from twin_model import folded, read_message, spell_message
+from twin_model import PLAIN, folded, read_message, spell_message
 
 FIN, SYN, RST, PSH, ACK = 1, 2, 4, 8, 16
 TCP = 6
@@ -81,12 +81,12 @@ def clients(count):
     return [key("192.0.2.1", 40000 + place) for place in range(count)]
 
 
-def logger(log):
-    """What a logger with this log answers."""
+def logger(log, version=PLAIN):
+    """What a logger with this log answers, whose messages have this version."""
 
     def answers(data, _asker):
-        message = read_message(data)
-        return [spell_message(it) for it in answers_of(log, message)] if message else []
+        message = read_message(data, version)
+        return [spell_message(it, version) for it in answers_of(log, message)] if message else []
 
     return answers
 

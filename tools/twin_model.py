@@ -9,8 +9,9 @@ It stores a head's whole history and spells each datagram again; the program sto
 import sys
 from struct import pack, unpack
 
-from loggers import ANSWERS, Forward, Got, Head, Message, Tail
+from loggers import ANSWERS, FOLLOWED, Forward, Got, Head, Message, Tail
 
+PLAIN, WIDE = 1, 2  # the versions of messages: only in a wide one may a Data say that another of its turn follows
 KINDS = "Hello Summary List Entry Bytes Part Cuts Lens Open Opened Data Stable Read Reads Done Ended Stale Full".split()
 LIMIT = 1 << 24
 KEY, OPEN, KEPT = [("key", 6)], [("key", 6), ("cisn", 4), ("sisn", 4), ("mss", 2)], [("key", 6), ("length", 4), ("fin", 1), ("reads", 4)]
@@ -45,15 +46,15 @@ def folded(data):
     return total
 
 
-def spelled(magic, kind, number, behind):
+def spelled(magic, kind, number, behind, version=PLAIN):
     """A datagram with its length and checksum."""
-    head = lambda check: pack(">2sBBHHQ", magic, 1, kind, 16 + len(behind), check, number)
+    head = lambda check: pack(">2sBBHHQ", magic, version, kind, 16 + len(behind), check, number)
     return head(0xFFFF - folded(head(0) + behind)) + behind
 
 
-def header(data, magic, kinds):
+def header(data, magic, kinds, version=PLAIN):
     """The kind and the number of a datagram, or None where its header is wrong."""
-    if len(data) < 16 or data[:2] != magic or data[2] != 1 or data[3] not in range(1, kinds + 1):
+    if len(data) < 16 or data[:2] != magic or data[2] != version or data[3] not in range(1, kinds + 1):
         return None
     return data[3], unpack(">Q", data[8:16])[0]
 
@@ -62,16 +63,16 @@ def whole(data):
     return unpack(">H", data[4:6])[0] == len(data) and folded(data) == 0xFFFF
 
 
-def in_range(name, boot, said, behind):
+def in_range(name, boot, said, behind, version):
     most = {"count": 64, "index": 63 if name in ("List", "Entry") else LIMIT + 1, "first": LIMIT + 1, "reads": LIMIT + 1, "acked": LIMIT + 1}
-    most |= {"fin": 1, "done": 1, "mss": 1460, "length": 2048 if name == "Read" else LIMIT, "offset": LIMIT - len(behind)}
+    most |= {"fin": FOLLOWED if name == "Data" and version == WIDE else 1, "done": 1, "mss": 1460, "length": 2048 if name == "Read" else LIMIT, "offset": LIMIT - len(behind)}
     ok = boot >= 1 and all(said[field] <= most[field] for field in said if field in most)
     return ok and said.get("mss", 64) >= 64 and said.get("newer", boot + 1) > boot
 
 
-def read_message(data):
-    """The message that bytes are, or None."""
-    front = header(data, b"FT", 18)
+def read_message(data, version=PLAIN):
+    """The message of a version that bytes are, or None."""
+    front = header(data, b"FT", 18, version)
     if front is None or not whole(data):
         return None
     name, boot = KINDS[front[0] - 1], front[1]
@@ -85,31 +86,31 @@ def read_message(data):
         said[field] = int.from_bytes(data[at : at + width], "big")
         at += width
     lens = [unpack(">H", behind[i : i + 2])[0] for i in range(0, len(behind), 2)] if name == "Lens" else []
-    if not in_range(name, boot, said, behind) or any(length > 2048 for length in lens):
+    if not in_range(name, boot, said, behind, version) or any(length > 2048 for length in lens):
         return None
     return Message(name, boot, {**said, "bytes": behind, "lens": lens})
 
 
-def spell_message(message):
+def spell_message(message, version=PLAIN):
     said = message.fields
     body = b"".join(int(said[field]).to_bytes(width, "big") for field, width in FIELDS[message.name])
     behind = b"".join(pack(">H", n) for n in said["lens"]) if message.name == "Lens" else said.get("bytes", b"")
-    return spelled(b"FT", KINDS.index(message.name) + 1, message.boot, body + bytes(behind))
+    return spelled(b"FT", KINDS.index(message.name) + 1, message.boot, body + bytes(behind), version)
 
 
-def is_asking(data):
-    message = read_message(data)
+def is_asking(data, version):
+    message = read_message(data, version)
     return message is not None and message.name not in ANSWERS
 
 
-def read_twin(data):
-    """("Forward", number, message), ("Got", number), ("Alone",) or None."""
+def read_twin(data, version=PLAIN):
+    """("Forward", number, message), ("Got", number), ("Alone",) or None. The version is that of the loggers' messages; what goes between them has version 1."""
     front = header(data, b"FU", 3)
     if front is None or not whole(data):
         return None
     kind, number = front
     if kind == 1:
-        return ("Forward", number, data[16:]) if 32 <= len(data) <= 1507 and number >= 1 and is_asking(data[16:]) else None
+        return ("Forward", number, data[16:]) if 32 <= len(data) <= 1507 and number >= 1 and is_asking(data[16:], version) else None
     if len(data) != 16:
         return None
     if kind == 2:
@@ -117,16 +118,16 @@ def read_twin(data):
     return ("Alone",) if number == 0 else None
 
 
-def told(data):
+def told(data, version=PLAIN):
     """What a datagram of the other logger says, as the model has it, or None."""
-    said, kinds = read_twin(data), {"Forward": Forward, "Got": Got}
+    said, kinds = read_twin(data, version), {"Forward": Forward, "Got": Got}
     return kinds[said[0]](*said[1:]) if said and said[0] in kinds else None
 
 
-def spell(sent):
+def spell(sent, version=PLAIN):
     """To whom something goes, and its bytes."""
     if isinstance(sent, Message):
-        return "server", spell_message(sent)
+        return "server", spell_message(sent, version)
     return "other", spelled(b"FU", 1, sent.number, sent.message) if isinstance(sent, Forward) else spelled(b"FU", 2, sent.number, b"")
 
 

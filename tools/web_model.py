@@ -11,6 +11,7 @@ import re
 import sys
 from urllib.parse import unquote_to_bytes
 
+from mail_model import GREETING, Session
 from twin_model import Draws
 
 REASONS = {200: "OK", 400: "Bad Request", 404: "Not Found", 405: "Method Not Allowed", 414: "URI Too Long", 431: "Request Header Fields Too Large",
@@ -183,14 +184,16 @@ class Tally:
     def __init__(self):
         self.answers, self.bytes, self.closed, self.digest = 0, 0, 0, hashlib.md5()
 
-    def play(self, chunks):
-        server = Server()
+    def count(self, at, out):
+        if out:
+            self.answers += 1
+            self.bytes += len(out)
+            self.digest.update(at.to_bytes(4, "big") + out)
+
+    def play(self, chunks, server, greeting=b""):
+        self.count(2**32 - 1, greeting)
         for at, chunk in enumerate(chunks):
-            out = server.take(chunk)
-            if out:
-                self.answers += 1
-                self.bytes += len(out)
-                self.digest.update(at.to_bytes(4, "big") + out)
+            self.count(at, server.take(chunk))
             if server.closed:
                 self.closed += 1
                 return
@@ -200,7 +203,7 @@ class Tally:
 
 
 class Connections:
-    """The lines of a script about the web server. It keeps the pieces of each part of a request."""
+    """The lines of a script about the web server, and those about drawn sessions of mail. It keeps the pieces of each part of a request."""
 
     def __init__(self):
         self.parts, self.last = [], 0
@@ -218,12 +221,12 @@ class Connections:
             return None
         tally = Tally()
         if word == "say":
-            tally.play([unquote_to_bytes(rest)])
+            tally.play([unquote_to_bytes(rest)], Server())
         else:
             count, seed = map(int, rest.split(" "))
             draws = Draws(seed)
             for _ in range(count):
-                tally.play(drawn_chunks(draws, drawn_text(draws, self.parts)))
+                tally.play(drawn_chunks(draws, drawn_text(draws, self.parts)), *((Session(), GREETING) if word == "sessions" else (Server(),)))
         return tally.said()
 
 

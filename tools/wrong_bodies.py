@@ -10,7 +10,8 @@ The crates' files at HEAD are checked out in a temporary folder, where all wrong
 0 if all are refused. Each takes 15 to 80 processor seconds, after the crate and those below it are built.
 
 The table has the first line of each edit. In it, a function of the module `excluded` stands for the wrong body of its name, and `tools/excluded.tsv` says of each which clause or law it stands on and
-whether it was seen to fail once that was taken out. The status is 1 if the two don't agree, or the page isn't up to date.
+whether it was seen to fail once that was taken out. The status is 1 if the two don't agree, or the page isn't up to date. The end of the page lists bodies that
+were planted by hand, from `tools/planted.tsv`.
 """
 import argparse
 import csv
@@ -23,6 +24,7 @@ import tempfile
 TRIED = "must-fail"
 UNTRIED = "wrong-bodies"
 RECORDS = "tools/excluded.tsv"
+PLANTED = "tools/planted.tsv"
 PAGE = "docs/EXCLUDED.md"
 
 HEAD = """# What stands for each wrong body
@@ -42,6 +44,15 @@ function stands for on 30 November 2026, when it still tried them; those of `sch
 `a_stray_packet_counts` it had refused earlier. Those of December 2026 it never tried: of marks,
 of openings that are pending, of another client's segments, of turns and journals of `node_process` and `link_parts`, and of acknowledgements of what was never sent.
 """
+
+BY_HAND = """
+## Planted by hand
+
+These bodies have no edit. They were put in once, on the day named. A clause that is named wasn't proved of its function any more ("the contract", "that function":
+of the function that was changed). Where none is named, the program was built without proof, and the lines named differed from the stored ones.
+
+| wrong body | refused by | day |
+|---|---|---|"""
 
 
 def edits_of(top, folder):
@@ -66,6 +77,16 @@ def records_of(top):
     """What `tools/excluded.tsv` says: crate and edit, the law that stands for it or nothing, the clause, and what was seen."""
     with open(top / RECORDS, newline="", encoding="utf-8") as file:
         return {(row["crate"], row["edit"]): row for row in csv.DictReader(file, delimiter="\t", quoting=csv.QUOTE_NONE)}
+
+
+def planted(top):
+    """The lines about bodies that were planted by hand, as `tools/planted.tsv` says; none without that file."""
+    path = top / PLANTED
+    if not path.is_file():
+        return []
+    with open(path, newline="", encoding="utf-8") as file:
+        rows = csv.DictReader(file, delimiter="\t", quoting=csv.QUOTE_NONE)
+        return [BY_HAND, *(f"| {row['body']} | {row['refused']} | {row['day']} |" for row in rows)]
 
 
 def first_line(top, crate, edit):
@@ -100,6 +121,7 @@ def page(top):
         rests = "" if record is None else record["clause"] + ("" if record["seen"] == "yes" else f" ({record['seen']})")
         out.append(f"| `{crate}` | `{edit}` | {first_line(top, crate, edit)} | {words} | {rests} |")
     out.append(f"\n{len(keys)} in all: " + ", ".join(f"{n} {kind}" for kind, n in sorted(count.items())) + ".")
+    out += planted(top)
     wrong = [key for key in functions if key not in keys or key not in records]
     wrong += [key for key, row in records.items() if key not in keys or not (row["law"] or key in functions)]
     for key in sorted(set(wrong)):
