@@ -1,7 +1,8 @@
-# Sourced by gateway.sh, bench/gateway.sh and bench/gateway_faults.sh, which set `name` and `program` (a built ftnode). Three network namespaces are the machines of
-# plain clients, with an address and a default route and nothing else. One is the server's machine, with tools/gateway.py, and one is ftnode's namespace on it.
-# Where `remote` is the logger's host, the logger is on the third machine, and `log` is its address there. `syn_proxy` may be yes.
-program=$(realpath "$program") service=10.77.0.2 port=7 log=${log:-10.77.0.3:7008} remote=${remote:-} syn_proxy=${syn_proxy:-no}
+# Sourced by gateway.sh, mail.sh, bench/gateway.sh and bench/gateway_faults.sh, which set `name` and `program` (a built ftnode or own_node). Three network namespaces
+# are the machines of plain clients, with an address and a default route and nothing else. One is the server's machine, with tools/gateway.py, and one is ftnode's
+# namespace on it. Where `remote` is the logger's host, the logger is on the third machine, and `log` is its address there. `syn_proxy` may be yes. A script for
+# own_node sets `own`, its first word, and `chosen`, the words that choose a server's service, none; and `port`.
+program=$(realpath "$program") service=10.77.0.2 port=${port:-7} own=${own:-} chosen=${chosen---service echo} log=${log:-10.77.0.3:7008} remote=${remote:-} syn_proxy=${syn_proxy:-no}
 host=ftgw$$ node=ftnode$$ machines=(ftc1_$$ ftc2_$$ ftc3_$$) room=$(mktemp -d) clients=() gateways=0
 spaces=("$host" "$node" "${machines[@]}") # which are removed at the end, with all that runs in them
 homes=("${machines[@]}") inner=${log%:*} logger_space=$node # where clients are, the namespace's own addresses, where the logger is
@@ -72,12 +73,12 @@ start_gateway() { # WORD..
 }
 
 start_logger() { # WORD..
-    start_in "$logger_space" logger "$program" logger --local "$log" --turns 1000000 --times 1000 "$@"
+    start_in "$logger_space" logger "$program" $own logger --local "$log" --turns 1000000 --times 1000 "$@"
     logger_process=$last
 }
 
 start_server() { # BOOT
-    start_in "$node" "server.$1" "$program" server --local "$service:$port" --logger "$log" --service echo --boot "$1" --isn "$((100000 * $1))" \
+    start_in "$node" "server.$1" "$program" $own server --local "$service:$port" --logger "$log" $chosen --boot "$1" --isn "$((100000 * $1))" \
         --turns 1000000 --times 1000
     server_process=$last
 }

@@ -53,13 +53,5 @@ one_run() (
     exit 1
 )
 
-passed=0
-for ((run = 0; run < runs; run++)); do
-    one_run
-    case $? in
-    0) passed=$((passed + 1)) ;;
-    2) exit 2 ;;
-    esac
-done
-echo "$name: $passed of $runs passed"
-[ $passed = "$runs" ]
+. examples/repeated.sh
+repeat "$runs" one_run

@@ -1,8 +1,9 @@
 #!/usr/bin/env bash
 # A log that survives the death of its logger. A kernel's TCP client, through tools/bridge.py, and ftnode's own client each send 2,000,000 bytes to an echo server
-# of ftnode, whose logger has a journal. During the transfers the server and the logger are each killed (kill -9) 30 times, independently and at random moments,
-# and started again: the server with the next boot number, the logger with the same words. Both clients must get all bytes back, and at the end the journal must
-# open once more. The moments and the bytes are drawn from a seed, which is printed. It makes two network namespaces and a TUN device, and removes them at the end.
+# of ftnode, whose logger has a journal. The file is replaced by a new one when it has more than a megabyte, and at each start from then on. During the transfers the
+# server and the logger are each killed (kill -9) 30 times, independently and at random moments, and started again: the server with the next boot number, the logger
+# with the same words. Both clients must get all bytes back, and at the end the journal must open once more. The moments and the bytes are drawn from a seed, which
+# is printed. It makes two network namespaces and a TUN device, and removes them at the end.
 # A run takes about a minute. It needs root and a built ftnode:
 #     sudo examples/logger_crash.sh [PROGRAM] [RUNS] [SEED]
 # Defaults: PROGRAM crates/ftnode/out/ftnode, RUNS 10, SEED random. SEED is the first run's seed; each further run has the next number.
@@ -17,7 +18,7 @@ end_by() { # SIGNAL PROCESS: its status
 }
 
 start_logger() { # NUMBER
-    ip netns exec "$outside" "$program" logger --local "$logger" --turns 1000000 --journal "$room/journal" >"$room/logger.$1" 2>&1 &
+    ip netns exec "$outside" "$program" logger --local "$logger" --turns 1000000 --journal "$room/journal" --compact 1000000 >"$room/logger.$1" 2>&1 &
     process=$!
 }
 # Makes the journal, in a run of one turn.
@@ -116,13 +117,5 @@ one_run() ( # SEED
     exit $failed
 )
 
-passed=0
-for ((run = 0; run < runs; run++)); do
-    one_run $((seed + run))
-    case $? in
-        0) passed=$((passed + 1)) ;;
-        2) exit 2 ;;
-    esac
-done
-echo "$name: $passed of $runs passed"
-[ $passed = "$runs" ]
+. examples/repeated.sh
+repeat "$runs" one_run "$seed"
