@@ -1,6 +1,6 @@
-//! Input and output of FT-TCP as traits: sources of bytes and sinks for bytes, a network of datagrams, and programs that run alongside this one. `ft_system` has the
-//! forms of these traits, in memory and over std. The crate also has what every program does with the traits: it reads an input to its end under a limit, and writes
-//! a complete text.
+//! Input and output of FT-TCP as traits: sources of bytes and sinks for bytes, a network of datagrams, and programs that run alongside this one. `ft_system`
+//! has the forms of these traits, in memory and over std. The crate also has what every program does with the traits: it reads an input to its end under a
+//! limit, and writes a complete text.
 #![tactic(auto)]
 
 pub use link::{Heard, Link};

@@ -30,7 +30,17 @@ pub record LinkState : Type 0 where
 -- a link before its first call
 abbrev pub fresh_link : List Arrival → List ℕ → List ℕ → Bool → LinkState
 fresh_link arriving send_fails recv_fails fails =
-    record { arrivals = arriving; binds = no_call []; sends = no_call send_fails; recvs = no_call recv_fails; bind_fails = fails; calls = []; faults = 0; bind_faults = 0; starved = 0 }
+    record {
+      arrivals = arriving;
+      binds = no_call [];
+      sends = no_call send_fails;
+      recvs = no_call recv_fails;
+      bind_fails = fails;
+      calls = [];
+      faults = 0;
+      bind_faults = 0;
+      starved = 0;
+    }
 
 -- the binds with these numbers are to fail
 abbrev pub failing_binds : LinkState → List ℕ → LinkState

@@ -1,5 +1,5 @@
-//! The forms of the traits of `ft_io`. Each trait has a form in memory, whose content contracts can specify, and a real one over std, of which contracts know only how
-//! many calls failed.
+//! The forms of the traits of `ft_io`. Each trait has a form in memory, whose content contracts can specify, and a real one over std, of which contracts know
+//! only how many calls failed.
 #![tactic(auto)]
 
 pub use mem_link::{Arrival, MemLink};

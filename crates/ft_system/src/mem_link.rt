@@ -8,7 +8,8 @@ ghost use Rattle.ft_system.specs.NumberedCalls.{IsNextListed};
 ghost use Rattle.ft_io.specs.Told.{Tells};
 ghost use Rattle.ft_io.specs.Link.{bind_told, send_told, recv_told, heard_as, HasAtMost};
 ghost use Rattle.ft_system.specs.Arrival.{arriving};
-ghost use Rattle.ft_system.specs.MemLink.{fresh_link, failing_binds, BindFails, told_of, noted, failed, starved, at_bind, binding, sending, receiving, without_arrival};
+ghost use Rattle.ft_system.specs.MemLink.{fresh_link, failing_binds, BindFails, told_of, noted, failed, starved, at_bind, binding, sending};
+ghost use Rattle.ft_system.specs.MemLink.{receiving, without_arrival};
 
 use crate::mem_source::copy_front;
 use crate::numbered::NumberedCalls;
@@ -161,7 +162,7 @@ impl MemLink {
     }
 
     /// Moves the next arrival to `buf`, and records it. Only that uses it up.
-    fn hear(&mut self, buf: &mut [u8]) -> Result<Heard, Failed>
+    fn receive(&mut self, buf: &mut [u8]) -> Result<Heard, Failed>
         ensures within { IfOk result (λ heard. HasAtMost heard (length buf.new)) }
         ensures heard { IfOk result (λ heard.
             heard_as heard buf.new ≡ arriving (length buf.new) self.old.arrivals) }
@@ -287,6 +288,6 @@ impl Link for MemLink {
             self.note(LinkCall::Missed)?;
             return Err(self.fail());
         }
-        self.hear(buf)
+        self.receive(buf)
     }
 }

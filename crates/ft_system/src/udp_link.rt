@@ -138,7 +138,7 @@ impl Bound {
     }
 
     /// Receives a datagram, or times out. `None` where the socket fails.
-    fn hear(&mut self, now: Instant, buf: &mut [u8]) -> Option<Heard>
+    fn receive(&mut self, now: Instant, buf: &mut [u8]) -> Option<Heard>
         ensures { IfSome result (λ heard. HasAtMost heard (length buf.new)) }
     {
         let left = self.patience_left(now);
@@ -214,7 +214,7 @@ fn recv_by<R: Clock>(clock: &R, bound: &mut Option<Bound>, buf: &mut [u8]) -> Op
     let Some(bound) = bound else {
         return None;
     };
-    bound.hear(Instant::now(clock).ok()?, buf)
+    bound.receive(Instant::now(clock).ok()?, buf)
 }
 
 fn is_silence(kind: io::ErrorKind) -> bool {

@@ -1,4 +1,4 @@
-//! The limits of FT-TCP, each with where it comes from. `tools/limits.py` lists the places of code that still spell one.
+//! The limits of FT-TCP, each with where it comes from. Code spells no limit: it takes it from here (`tools/limits.py` looks).
 #![tactic(auto)]
 
 /// The most bytes of a stream, of a client's input or of a server's output. Numbers are modulo 2^32, so each number means one offset of such a stream, with its
