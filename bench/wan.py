@@ -14,7 +14,7 @@ WAY is one of these, with each of the kernel's congestion controls `reno` and `b
     kernel-CONTROL-options   two sockets of the kernel with them
 
 `table` reads such lines, of one run or of several, and prints tables of their medians, and which goals are met: at 50 ms at least half as fast as two bare
-sockets of the kernel at 0 and at 1 % loss, and at most 1.4 times their packets without loss.
+sockets of the kernel at 0 and at 1 % loss, and at most 1.4 times their packets without loss. tools/wide_area.py prints docs/WIDE_AREA.md from them.
 
 All is done in network namespaces that it makes and removes, so it needs Linux, root and TUN devices. Runs at the same time don't meet.
 """
@@ -199,7 +199,7 @@ def run(words):
 
 def rows_of(files):
     for name in files:
-        for found in filter(None, map(LINE.match, open(name, encoding="utf-8"))):
+        for found in filter(None, map(LINE.match, pathlib.Path(name).read_text(encoding="utf-8").splitlines())):
             kind, delay, loss, seed, way, *counts = found.groups()
             came, size, seconds, *more = counts
             yield Row(kind, int(delay), float(loss), int(seed), way, int(came), int(size), float(seconds), *map(int, more))

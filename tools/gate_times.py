@@ -4,6 +4,7 @@
     tools/gate_times.py run [--save FILE] [--anew] [NAME..]   starts `rt ci NAME..` here, and watches it
     tools/gate_times.py watch PID [--save FILE]               watches an `rt ci` that is already running
     tools/gate_times.py table FILE                            prints the table of what was saved
+    tools/gate_times.py page [--check]                        prints docs/GATE.md from tools/gate_times.tsv, or says whether it is up to date
     tools/gate_times.py log FILE                              prints what the log of a run says, which has no times
 
 The log of `rt ci` has no times, so they are read from /proc while it runs (only on Linux), twice a second: for each process of the prover,
@@ -12,17 +13,32 @@ What an earlier run on this machine passed is not proved again: for the times of
 
 A crate's row has its proof (with the building of its library or program), the proof and building of its tests, and its edits. `chain` is the
 proof of the crate and of the longest chain of crates below it: a run takes at least as long, however many processors it has.
+
+tools/gate_times.tsv is what a run saved, below lines that begin with `#`, which say of what run it is; the page has them.
 """
 import argparse
 import collections
+import contextlib
+import io
 import os
 import re
 import subprocess
 import sys
+import textwrap
 import time
 
 TICKS = os.sysconf("SC_CLK_TCK")
 KINDS = ("proof", "tests", "edits")
+TOP = os.path.dirname(os.path.dirname(os.path.abspath(__file__)))
+KEPT, PAGE = "tools/gate_times.tsv", "docs/GATE.md"
+HEAD = """# What each crate of the gate takes
+
+{made}
+
+*Chain* is the proof of the crate and of the longest chain of crates below it. What the prover takes for a crate has the building of its library or program.
+[ARCHITECTURE.md](ARCHITECTURE.md#what-the-gate-costs) says how it is measured.
+"""
+MADE = f"`tools/gate_times.py page` prints this page from `{KEPT}`, in processor minutes."
 # A run of the prover: which crate, what for, how many processor seconds, when it was first and last seen (seconds of the clock), and the most
 # memory that it held (MB).
 Run = collections.namedtuple("Run", "crate kind seconds first last memory")
@@ -124,15 +140,14 @@ def write(runs, path):
 
 def read(path):
     with open(path, encoding="utf-8") as file:
-        rows = [line.rstrip("\n").split("\t") for line in file]
+        rows = [line.rstrip("\n").split("\t") for line in file if not line.startswith("#")]
     return [Run(row[0], row[1], float(row[2]), float(row[3]), float(row[4]), int(row[5])) for row in rows]
 
 
 def crates_below():
     """Each crate of crates.txt with the crates of the repository that it names."""
     below_of = {}
-    top = os.path.dirname(os.path.dirname(os.path.abspath(__file__)))
-    with open(f"{top}/crates.txt", encoding="utf-8") as file:
+    with open(f"{TOP}/crates.txt", encoding="utf-8") as file:
         for line in file:
             head, colon, rest = line.partition("#")[0].partition(":")
             if colon:
@@ -159,21 +174,48 @@ def print_table(runs):
         spent[run.crate, run.kind] += run.seconds
     crates = {run.crate for run in runs}
     ways = chains({crate: spent[crate, "proof"] for crate in crates}, crates_below())
-    print("| crate | proof | tests | edits | all | chain |")
-    print("|---|---|---|---|---|---|")
-    for crate in sorted(crates, key=lambda name: -sum(spent[name, kind] for kind in KINDS)):
-        parts = [spent[crate, kind] for kind in KINDS]
+    kinds = [kind for kind in KINDS if any(spent[crate, kind] for crate in crates)]
+    print(f"| crate | {' | '.join(kinds)} | all | chain |")
+    print(f"|---|{'---|' * len(kinds)}---|---|")
+    for crate in sorted(crates, key=lambda name: (-sum(spent[name, kind] for kind in kinds), name)):
+        parts = [spent[crate, kind] for kind in kinds]
         figures = [f"{part / 60:.1f}" if part else "" for part in parts] + [f"{sum(parts) / 60:.1f}"]
         print(f"| `{crate}` | {' | '.join(figures)} | {ways.get(crate, (0, 0))[0] / 60:.1f} |")
-    sums = [sum(spent[crate, kind] for crate in crates) for kind in KINDS]
+    sums = [sum(spent[crate, kind] for crate in crates) for kind in kinds]
     print(f"| all | {' | '.join(f'{part / 60:.1f}' for part in sums)} | {sum(sums) / 60:.1f} | |")
     if ways:
         seconds, way = max(ways.values())
-        print(f"\nThe longest chain of proofs is {seconds / 60:.1f} processor minutes: {', '.join(way)}.")
+        print("\n" + textwrap.fill(f"The longest chain of proofs is {seconds / 60:.1f} processor minutes: {', '.join(way)}.", 160))
     if runs:
         minutes = (max(run.last for run in runs) - min(run.first for run in runs)) / 60
         largest = max(runs, key=lambda run: run.memory)
-        print(f"By the clock {minutes:.0f} minutes. The most memory that one process held: {largest.memory} MB ({largest.crate}, {largest.kind}).")
+        held = f" The most memory that one process held: {largest.memory} MB ({largest.crate}, {largest.kind})." if largest.memory else ""
+        print(f"By the clock {minutes:.0f} minutes.{held}")
+
+
+def page():
+    """The text of docs/GATE.md."""
+    with open(f"{TOP}/{KEPT}", encoding="utf-8") as file:
+        notes = [line[1:].strip() for line in file if line.startswith("#")]
+    runs, out = read(f"{TOP}/{KEPT}"), io.StringIO()
+    with contextlib.redirect_stdout(out):
+        print(HEAD.format(made=textwrap.fill(" ".join([MADE, *notes]), 160)))
+        print_table(runs)
+        if unseen := sorted(set(crates_below()) - {run.crate for run in runs}):
+            print("\n" + textwrap.fill(f"Not measured: {', '.join(f'`{crate}`' for crate in unseen)}.", 160))
+    return out.getvalue()
+
+
+def print_page(is_check):
+    """Prints the page, or says whether it is up to date; the status."""
+    text = page()
+    if not is_check:
+        sys.stdout.write(text)
+        return 0
+    with open(f"{TOP}/{PAGE}", encoding="utf-8") as file:
+        is_same = file.read() == text
+    print("up to date" if is_same else f"{PAGE} isn't what tools/gate_times.py page prints")
+    return 0 if is_same else 1
 
 
 def print_log(path):
@@ -205,6 +247,7 @@ def main():
     by_pid.add_argument("--save", metavar="FILE", help="where to keep the measurements")
     for verb in ("table", "log"):
         verbs.add_parser(verb).add_argument("file")
+    verbs.add_parser("page").add_argument("--check", action="store_true")
     words = parser.parse_args()
     if words.verb == "run":
         gate = subprocess.Popen(["rt", "ci", *(["--anew"] if words.anew else []), *words.names])
@@ -214,6 +257,8 @@ def main():
         print_table(watch(words.pid, words.save, lambda: not is_running(words.pid)))
     elif words.verb == "table":
         print_table(read(words.file))
+    elif words.verb == "page":
+        sys.exit(print_page(words.check))
     else:
         print_log(words.file)
 

@@ -150,6 +150,26 @@ class Tables(unittest.TestCase):
             with mock.patch("sys.argv", ["gate_times.py", "table", f"{room}/times"]):
                 self.assertEqual(printed(gate_times.main), TABLE)
 
+    def test_page(self):
+        """The notes of the kept file stand above its table, and crates without times below it; and the page in docs is what the tool prints."""
+        with tempfile.TemporaryDirectory() as room, mock.patch.object(gate_times, "crates_below", lambda: {**BELOW, "new": ["low"]}):
+            os.mkdir(f"{room}/tools")
+            with mock.patch.object(gate_times, "TOP", room):
+                with open(f"{room}/{gate_times.KEPT}", "w", encoding="utf-8") as file:
+                    file.write("# One run\n# of today.\n" + SAVED)
+                text = gate_times.page()
+        self.assertIn("in processor minutes. One run of today.\n", text)
+        self.assertTrue(text.endswith(f"\n\n{TABLE}\nNot measured: `new`.\n"), text)
+        with mock.patch("sys.argv", ["gate_times.py", "page", "--check"]), self.assertRaises(SystemExit) as end:
+            self.assertEqual(printed(gate_times.main), "up to date\n")
+        self.assertEqual(end.exception.code, 0)
+
+    def test_without_tests(self):
+        """A kind of which there is nothing has no column, and memory that isn't known no sentence."""
+        text = printed(gate_times.print_table, [Run("low", "proof", 60.0, 0.0, 60.0, 0)])
+        self.assertTrue(text.startswith("| crate | proof | all | chain |\n|---|---|---|---|\n| `low` | 1.0 | 1.0 | "), text)
+        self.assertTrue(text.endswith("By the clock 1 minutes.\n"), text)
+
     def test_chains(self):
         """The dearest way down, not the longest one."""
         below = {"a": [], "b": ["a"], "c": ["b"], "d": [], "e": ["c", "d"]}
