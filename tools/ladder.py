@@ -279,11 +279,15 @@ class Ladder:
         self.draw_labels()
         self.draw_ends()
         self.draw_legend()
+        self.draw_bands()
         return self.svg()
 
-    def draw_events(self):
+    def draw_bands(self):
+        """The grounds of the events, as wide as the picture has become."""
         for place, (top, height) in enumerate(self.bands):
-            self.drawing.under.append(f'<rect class="{GROUNDS[place % 2]}" x="0" y="{top:.1f}" width="{self.width}" height="{height}"/>')
+            self.drawing.under.append(f'<rect class="{GROUNDS[place % 2]}" x="0" y="{top:.1f}" width="{self.width:.0f}" height="{height}"/>')
+
+    def draw_events(self):
         for event in self.events:
             y = self.event_y[event.number] + 4
             self.drawing.text(EVENTS, y, str(event.number), "number", "end")
@@ -390,6 +394,8 @@ class Ladder:
             if self.is_crossed(*place, y, packet, words, start) and self.has_room(other, packet):
                 beside = other, "end" if to_right else "start"
                 place = place if self.is_crossed(*beside, y, packet, words, start) else beside
+            left, width = box(place[0], f"{packet.number} {words}", place[1])
+            self.width = max(self.width, left + width + 12)
             self.drawing.label(place[0], y, packet.number, words, ink, place[1], self.ground(packet.event))
 
     def is_crossed(self, x, anchor, y, packet, words, start):
@@ -398,9 +404,8 @@ class Ladder:
         return any(crosses(arrow, left, y - 9.5, width, 12.5) for arrow in self.drawing.arrows if arrow[:2] != start)
 
     def has_room(self, x, packet):
-        """Whether a lifeline is further on, on this side of the sender's, and nothing is written in the row."""
-        among = sorted(self.x.values())
-        return among[0] < x < among[-1] and self.sent_y[packet.number] != self.event_y[packet.event]
+        """Whether nothing is written here in the row: left of the first lifeline are the words of the events, and right of the last one there is nothing."""
+        return min(self.x.values()) < x and self.sent_y[packet.number] != self.event_y[packet.event]
 
     def draw_delivery(self, delivery):
         """The arrow that ends in a delivery: from the packet's sending, or out of a ring."""

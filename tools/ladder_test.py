@@ -252,11 +252,19 @@ class Examples(unittest.TestCase):
             self.assertEqual("delivered again" in seen.printed("legend"), len(numbers) != len(set(numbers)), path.name)
 
     def test_labels_are_clear(self):
-        """Packet 11 of examples/crash is sent just after packet 10, whose arrow would run through its label, so the label is to the left of the server's line."""
+        """The arrow of packet 10 of examples/crash would run through the label of packet 11, and that one's through the label of packet 12: so these two are on the
+        other side of their sender's line. In the end no label lies over an arrow."""
         seen = picture(example("crash"))
         places = {said(it).split()[0]: (float(it.get("x")), it.get("text-anchor")) for it in seen.texts if it.get("class").startswith("label-")}
         self.assertEqual(places["10"], (seen.x["server"] + 14, "start"))
         self.assertEqual(places["11"], (seen.x["server"] - 14, "end"))
+        self.assertEqual(places["12"], (seen.x["log"] + 14, "start"))
+        for ground in seen.of("rect", "ground"):
+            left, top, width, height = (float(ground.get(name)) for name in ("x", "y", "width", "height"))
+            for arrow in seen.of("line", "arrow"):
+                for part in range(1001):
+                    x, y = (float(arrow.get(f"{a}1")) + part / 1000 * (float(arrow.get(f"{a}2")) - float(arrow.get(f"{a}1"))) for a in "xy")
+                    self.assertFalse(left < x < left + width and top < y < top + height, (ground.attrib, arrow.attrib))
 
     def test_boxes(self):
         """Whether a line runs through the box from (10, 20) to (30, 26): through it, above it, short of it, through a corner's neighbourhood, straight down."""
