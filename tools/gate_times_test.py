@@ -25,12 +25,12 @@ RUNS = [
     Run("side", "tests", 6.0, 1000.0, 1010.0, 100),
 ]
 TABLE = """\
-| crate | proof | tests | edits | all | chain |
-|---|---|---|---|---|---|
-| `low` | 2.0 |  |  | 2.0 | 2.0 |
-| `top` | 1.0 |  | 0.5 | 1.5 | 3.0 |
-| `side` |  | 0.1 |  | 0.1 | 2.0 |
-| all | 3.0 | 0.1 | 0.5 | 3.6 | |
+| crate | proof | tests | edits | all | chain | above | again |
+|---|---|---|---|---|---|---|---|
+| `low` | 2.0 |  |  | 2.0 | 2.0 | 2 | 3.6 |
+| `top` | 1.0 |  | 0.5 | 1.5 | 3.0 | 0 | 1.5 |
+| `side` |  | 0.1 |  | 0.1 | 2.0 | 0 | 0.1 |
+| all | 3.0 | 0.1 | 0.5 | 3.6 | | | |
 
 The longest chain of proofs is 3.0 processor minutes: low, top.
 By the clock 2 minutes. The most memory that one process held: 900 MB (top, edits).
@@ -110,7 +110,7 @@ class Processes(unittest.TestCase):
         runs, inner = {}, f"{sys.executable} -c \"{PROVER}\" 'sleep 60' --crate-name low &"
         with prover(inner, "--crate-name", "top") as child:
             until = time.monotonic() + 20
-            while not (provers := self.provers_below(child.pid)) and time.monotonic() < until:
+            while (provers := self.provers_below(child.pid)) != [("low", "proof")] and time.monotonic() < until:
                 time.sleep(0.01)
             self.assertEqual(provers, [("low", "proof")])
             gate_times.look(os.getpid(), runs)
@@ -152,7 +152,7 @@ class Tables(unittest.TestCase):
 
     def test_page(self):
         """The notes of the kept file stand above its table, and crates without times below it; and the page in docs is what the tool prints."""
-        with tempfile.TemporaryDirectory() as room, mock.patch.object(gate_times, "crates_below", lambda: {**BELOW, "new": ["low"]}):
+        with tempfile.TemporaryDirectory() as room, mock.patch.object(gate_times, "crates_below", lambda: {**BELOW, "new": []}):
             os.mkdir(f"{room}/tools")
             with mock.patch.object(gate_times, "TOP", room):
                 with open(f"{room}/{gate_times.KEPT}", "w", encoding="utf-8") as file:
@@ -167,7 +167,7 @@ class Tables(unittest.TestCase):
     def test_without_tests(self):
         """A kind of which there is nothing has no column, and memory that isn't known no sentence."""
         text = printed(gate_times.print_table, [Run("low", "proof", 60.0, 0.0, 60.0, 0)])
-        self.assertTrue(text.startswith("| crate | proof | all | chain |\n|---|---|---|---|\n| `low` | 1.0 | 1.0 | "), text)
+        self.assertTrue(text.startswith("| crate | proof | all | chain | above | again |\n|---|---|---|---|---|---|\n| `low` | 1.0 | 1.0 | "), text)
         self.assertTrue(text.endswith("By the clock 1 minutes.\n"), text)
 
     def test_chains(self):
@@ -177,6 +177,10 @@ class Tables(unittest.TestCase):
         self.assertEqual(ways["e"], (12.0, ["d", "e"]))
         self.assertEqual(ways["c"], (3.0, ["a", "b", "c"]))
         self.assertEqual(gate_times.chains({}, {"x": ["not_here"], "not_here": []})["x"], (0.0, ["not_here", "x"]))
+
+    def test_above(self):
+        above = gate_times.crates_above({"a": [], "b": ["a"], "c": ["b"], "d": ["b", "c"], "e": []})
+        self.assertEqual({crate: sorted(above[crate]) for crate in "abcde"}, {"a": ["b", "c", "d"], "b": ["c", "d"], "c": ["d"], "d": [], "e": []})
 
     def test_crates(self):
         """Each crate has a folder, and stands on those that its line in crates.txt names."""

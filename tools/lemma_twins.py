@@ -17,7 +17,10 @@ NAME = r"[\w'-]+"
 HEAD = re.compile(rf"^(?:unfoldable )?(?:pub )?({NAME}) : ")
 BINDER = re.compile(r"[({]([\w' -]+) : ")
 # Modules whose definitions are said of a run that each of them imports under the same name.
-OF_A_RUN = re.compile(r"ClientKnowsMore|Crash|Restart|SegmentWhile|ResetWhile|EarlyAck|ZeroWindow|Closing|FirstPath|Report|OnLiterals")
+OF_A_RUN = re.compile(
+    r"ClientKnowsMore|Crash|Restart|SegmentWhile|ResetWhile|EarlyAck|ZeroWindow|Closing|FirstPath|Report|OnLiterals|Batch|DelayedAck|MeasuredRecovery|HeldSegments|"
+    r"CongestionWindow|LateRe"
+)
 
 
 def order_of_crates():

@@ -129,7 +129,7 @@ class Answers(unittest.TestCase):
             times[data] += 1
             return right(data, asker) if times[data] > 2 else []
 
-        self.assertEqual(self.ask(third, "0.1"), (0, ["boot 4: 2 of 64 places", *FULL[:2]], []))
+        self.assertEqual(self.ask(third, "0.4"), (0, ["boot 4: 2 of 64 places", *FULL[:2]], []))
 
     def test_bad(self):
         """None of these is an answer to the question for entry 0 by boot number 1."""

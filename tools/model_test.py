@@ -498,7 +498,7 @@ class StoredRuns(unittest.TestCase):
 
     def test_replay_script(self):
         told = {name: (stands, wanted) for name, stands, wanted in printed(*read_part("replay"))}
-        self.assertEqual(sum(wanted is not None for _, wanted in told.values()), 243)
+        self.assertEqual(sum(wanted is not None for _, wanted in told.values()), 271)
         for name, (stands, wanted) in told.items():
             self.assertIn(wanted, (None, stands), name)
 
