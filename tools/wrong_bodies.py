@@ -45,6 +45,8 @@ function stands for on 30 November 2026, when it still tried them; those of `sch
 of openings that are pending, of another client's segments, of turns and journals of `node_process` and `link_parts`, and of acknowledgements of what was never sent.
 """
 
+# What the file of bodies planted by hand leaves out.
+THE_CONTRACT, EARLIER = "the contract of the function that is changed", "before December 2026"
 BY_HAND = """
 ## Planted by hand
 
@@ -86,7 +88,7 @@ def planted(top):
         return []
     with open(path, newline="", encoding="utf-8") as file:
         rows = csv.DictReader(file, delimiter="\t", quoting=csv.QUOTE_NONE)
-        return [BY_HAND, *(f"| {row['body']} | {row['refused']} | {row['day']} |" for row in rows)]
+        return [BY_HAND, *(f"| {row['body']} | {row['refused'] or THE_CONTRACT} | {row['day'] or EARLIER} |" for row in rows)]
 
 
 def first_line(top, crate, edit):
