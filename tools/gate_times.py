@@ -12,8 +12,9 @@ user and system time, and that of the children for which it waited. Time after t
 What an earlier run on this machine passed is not proved again: for the times of a whole run give `--anew`.
 
 A crate's row has its proof (with the building of its library or program), the proof and building of its tests, and its edits. `chain` is the
-proof of the crate and of the longest chain of crates below it: a run takes at least as long, however many processors it has. `above` is how
-many crates depend on it, directly or not; `again` is what it and they take, which is done again after a change of it.
+proof of the crate and of the longest chain of crates below it: a run takes at least as long, however many processors it has. `below` is the
+proof of the crate and of all crates below it, as a first check of it takes; `above` how many crates depend on it, directly or not; `again` what
+it and they take, which is done again after a change of it.
 
 tools/gate_times.tsv is what a run saved, below lines that begin with `#`, which say of what run it is; the page has them.
 """
@@ -36,8 +37,9 @@ HEAD = """# What each crate of the gate takes
 
 {made}
 
-*Proof* includes the building of the library or program. *Chain* is the proof of the crate and of the longest chain of crates below it. *Above* is how many crates
-depend on it, directly or not; after a change of it, it and they are proved again, which takes *again*.
+*Proof* includes the building of the library or program. *Chain* is the proof of the crate and of the longest chain of crates below it, *below* that of the crate and
+of all below it, as a first check of it takes. *Above* is how many crates depend on it, directly or not; after a change of it, it and they are proved again, which
+takes *again*.
 [ARCHITECTURE.md](ARCHITECTURE.md#what-the-gate-costs) says how this is measured.
 """
 MADE = f"`tools/gate_times.py page` prints this page from `{KEPT}`, in processor minutes."
@@ -191,16 +193,17 @@ def print_table(runs):
         spent[run.crate, run.kind] += run.seconds
     crates = {run.crate for run in runs}
     ways, above = chains({crate: spent[crate, "proof"] for crate in crates}, crates_below()), crates_above(crates_below())
+    first = {crate: sum(spent[name, "proof"] for name in crates if name == crate or crate in above[name]) for crate in crates}
     kinds = [kind for kind in KINDS if any(spent[crate, kind] for crate in crates)]
-    print(f"| crate | {' | '.join(kinds)} | all | chain | above | again |")
-    print(f"|---|{'---|' * len(kinds)}---|---|---|---|")
+    print(f"| crate | {' | '.join(kinds)} | all | chain | below | above | again |")
+    print(f"|---|{'---|' * len(kinds)}---|---|---|---|---|")
     for crate in sorted(crates, key=lambda name: (-sum(spent[name, kind] for kind in kinds), name)):
         parts = [spent[crate, kind] for kind in kinds]
         figures = [f"{part / 60:.1f}" if part else "" for part in parts] + [f"{sum(parts) / 60:.1f}"]
         again = sum(spent[name, kind] for name in {crate, *above[crate]} for kind in kinds)
-        print(f"| `{crate}` | {' | '.join(figures)} | {ways.get(crate, (0, 0))[0] / 60:.1f} | {len(above[crate])} | {again / 60:.1f} |")
+        print(f"| `{crate}` | {' | '.join(figures)} | {ways.get(crate, (0, 0))[0] / 60:.1f} | {first[crate] / 60:.1f} | {len(above[crate])} | {again / 60:.1f} |")
     sums = [sum(spent[crate, kind] for crate in crates) for kind in kinds]
-    print(f"| all | {' | '.join(f'{part / 60:.1f}' for part in sums)} | {sum(sums) / 60:.1f} | | | |")
+    print(f"| all | {' | '.join(f'{part / 60:.1f}' for part in sums)} | {sum(sums) / 60:.1f} | | | | |")
     if ways:
         seconds, way = max(ways.values())
         print("\n" + textwrap.fill(f"The longest chain of proofs is {seconds / 60:.1f} processor minutes: {', '.join(way)}.", 160))

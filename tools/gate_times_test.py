@@ -25,12 +25,12 @@ RUNS = [
     Run("side", "tests", 6.0, 1000.0, 1010.0, 100),
 ]
 TABLE = """\
-| crate | proof | tests | edits | all | chain | above | again |
-|---|---|---|---|---|---|---|---|
-| `low` | 2.0 |  |  | 2.0 | 2.0 | 2 | 3.6 |
-| `top` | 1.0 |  | 0.5 | 1.5 | 3.0 | 0 | 1.5 |
-| `side` |  | 0.1 |  | 0.1 | 2.0 | 0 | 0.1 |
-| all | 3.0 | 0.1 | 0.5 | 3.6 | | | |
+| crate | proof | tests | edits | all | chain | below | above | again |
+|---|---|---|---|---|---|---|---|---|
+| `low` | 2.0 |  |  | 2.0 | 2.0 | 2.0 | 2 | 3.6 |
+| `top` | 1.0 |  | 0.5 | 1.5 | 3.0 | 3.0 | 0 | 1.5 |
+| `side` |  | 0.1 |  | 0.1 | 2.0 | 2.0 | 0 | 0.1 |
+| all | 3.0 | 0.1 | 0.5 | 3.6 | | | | |
 
 The longest chain of proofs is 3.0 processor minutes: low, top.
 By the clock 2 minutes. The most memory that one process held: 900 MB (top, edits).
@@ -167,7 +167,7 @@ class Tables(unittest.TestCase):
     def test_without_tests(self):
         """A kind of which there is nothing has no column, and memory that isn't known no sentence."""
         text = printed(gate_times.print_table, [Run("low", "proof", 60.0, 0.0, 60.0, 0)])
-        self.assertTrue(text.startswith("| crate | proof | all | chain | above | again |\n|---|---|---|---|---|---|\n| `low` | 1.0 | 1.0 | "), text)
+        self.assertTrue(text.startswith("| crate | proof | all | chain | below | above | again |\n|---|---|---|---|---|---|---|\n| `low` | 1.0 | 1.0 | "), text)
         self.assertTrue(text.endswith("By the clock 1 minutes.\n"), text)
 
     def test_chains(self):
