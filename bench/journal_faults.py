@@ -58,17 +58,22 @@ class Logger:
     def __init__(self, path, more=()):
         self.version = WIDE if WAN[1] in more else PLAIN
         self.process = subprocess.Popen([program, *words(["--journal", str(path), *more], 1_000_000)], stdout=subprocess.PIPE, stderr=subprocess.STDOUT, text=True)
+        self.connect()
+
+    def connect(self):
         self.link = socket.socket(socket.AF_INET, socket.SOCK_DGRAM)
         self.link.connect(HERE)
         self.link.settimeout(3)
 
     def asked(self, message):
-        """The answer, or None once the logger has ended."""
+        """The answer, or None once the logger has ended. Each try has a socket of its own: so a late answer isn't taken for that of a later message."""
         while self.process.poll() is None:
             try:
                 self.link.send(message)
                 return read_message(self.link.recv(2048), self.version)
             except (ConnectionRefusedError, TimeoutError):
+                self.link.close()
+                self.connect()
                 time.sleep(0.01)
         return None
 
