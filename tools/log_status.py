@@ -143,7 +143,7 @@ def report(logger, warn):
     """Prints what the logger holds, and gives the exit status."""
     entries = logger.entries()
     if entries is None:
-        print("no answer: there is no logger, no server has spoken to it, or it has boot 1 and no connection", file=sys.stderr)
+        print("no answer: there is no logger, no server of its profile has spoken to it, or it has boot 1 and no connection", file=sys.stderr)
         return 3
     print(f"boot {logger.boot}: {len(entries)} of {PLACES} places" + (", profile wan" if logger.version == WIDE else ""))
     for entry in entries:
