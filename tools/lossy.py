@@ -107,9 +107,10 @@ def differs(program, lines):
 
 def compare(program, first, count):
     for seed in range(first, first + count):
-        for name, lines in ("lossy", drawn(seed)[0]), ("lossy wan", drawn(seed, "wan")[0]), ("reordered", reordered.drawn(seed)[0]):
-            if differs(program, lines):
-                sys.exit(f"they differ at: {name}, seed {seed}")
+        for kind, draw in ("lossy", drawn), ("reordered", reordered.drawn):
+            for profile in "plain", "wan":
+                if differs(program, draw(seed, profile=profile)[0]):
+                    sys.exit(f"they differ at: {kind}, {profile}, seed {seed}")
     print(f"{count} seeds of each kind: all equal")
 
 

@@ -100,10 +100,10 @@ def finish(run):
     raise AssertionError("it has no end")
 
 
-def drawn(seed, in_order=False):
-    """The lines of a schedule, and what the client has accepted."""
+def drawn(seed, in_order=False, profile="plain"):
+    """The lines of a schedule for a server with this profile, and what the client has accepted."""
     dice = random.Random(seed)
-    run = Run(f"fill:{dice.randrange(200, 500)}")
+    run = Run(f"fill:{dice.randrange(200, 500)}", profile=profile)
     run.begin()
     send_all(run, dice)
     come(run, dice, in_order)
