@@ -37,9 +37,9 @@ HEAD = """# What each crate of the gate takes
 
 {made}
 
-*Proof* includes the building of the library or program. *Chain* is the proof of the crate and of the longest chain of crates below it, *below* that of the crate and
-of all below it, as a first check of it takes. *Above* is how many crates depend on it, directly or not; after a change of it, it and they are proved again, which
-takes *again*.
+*Proof* includes the building of the library or program. *Chain* is the proof of the crate and of the longest chain of crates below it, *below* that of the crate
+and of all below it, as a first check of it takes. *Above* is how many crates depend on it, directly or not; after a change of it, it and they are proved again,
+which takes *again*.
 [ARCHITECTURE.md](ARCHITECTURE.md#what-the-gate-costs) says how this is measured.
 """
 MADE = f"`tools/gate_times.py page` prints this page from `{KEPT}`, in processor minutes."
