@@ -2,6 +2,6 @@ pub mod Lengths
 pub mod Ranges
 pub mod Sent
 pub mod Fins
-pub mod FirstPlace
+pub mod Runs
 pub mod Laying
 pub mod Kept

@@ -5,7 +5,6 @@ ghost use Rattle.tcp_rules.specs.Coming.{Early, nothing_came, ahead as ahead_lem
 
 use crate::arrival::{part, place_of};
 use crate::held::Held;
-use crate::places::{behind, holds_some, take_front};
 use ft_io::NoMemory;
 use std::alloc::Global;
 use std::marker::Model;
@@ -80,10 +79,9 @@ impl Coming {
         let new = self.new_text(n, edge, first, text);
         let ahead = ahead(n, first);
         if ahead > 0 {
-            return self.held.hold(alloc, ahead as usize, new);
+            return self.held.hold(ahead as usize, new);
         }
-        let left = behind(self.held.text.as_slice(), new.len() as u64);
-        self.held.text = Vec::from_slice(alloc, left)?;
+        self.held.text.drop_front(new.len());
         self.added = Vec::from_slice(alloc, new)?;
         Ok(())
     }
@@ -98,7 +96,7 @@ impl Coming {
         let end = n + self.added.len() as u64;
         place < edge
             && end <= place
-            && !holds_some(behind(self.held.text.as_slice(), place - end))
+            && !self.held.text.hold_some_from(place - end)
             && self.held.fin.is_none()
             && !self.fin
     }
@@ -123,13 +121,10 @@ impl Coming {
 
     /// Takes the held bytes that follow the bytes taken without a gap.
     #[tactic(auto, unfolding(tcp_rules::specs::Coming::continued))]
-    fn take_held(&mut self, alloc: Global) -> Result<(), NoMemory>
+    fn take_held(&mut self) -> Result<(), NoMemory>
         ensures { OnOk result (self.new ≡ continued self.old) }
     {
-        let left = take_front(self.held.text.as_slice(), &mut self.added)?;
-        let left = Vec::from_slice(alloc, left)?;
-        self.held.text = left;
-        Ok(())
+        self.held.text.take_front(&mut self.added)
     }
 
     /// Takes a FIN that is held at the end of the bytes taken.
@@ -165,7 +160,7 @@ impl Coming {
         let mut coming = Coming::nothing(alloc, held, stream.fin);
         coming.take_text(alloc, n, edge, first, text)?;
         coming.hold_fin(n, edge, first, text.len() as u64, has_fin);
-        coming.take_held(alloc)?;
+        coming.take_held()?;
         coming.take_fin(n);
         Ok(coming)
     }

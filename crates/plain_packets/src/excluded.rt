@@ -7,20 +7,14 @@ ghost use Rattle.tcp_rules.specs.Early.{laid, run_count};
 use crate::arrival::{is_allowed_at_zero, is_at_right_edge};
 use crate::held::Held;
 use ft_io::NoMemory;
-use std::alloc::Global;
 
 /// Text that would make a seventeenth run isn't held: the contract of `Held::hold`.
 #[tactic(auto, unfolding(tcp_rules::specs::Early::held_with))]
-fn a_seventeenth_run(
-    held: &mut Held,
-    alloc: Global,
-    at: usize,
-    bytes: &[u8],
-) -> Result<(), NoMemory>
+fn a_seventeenth_run(held: &mut Held, at: usize, bytes: &[u8]) -> Result<(), NoMemory>
     requires { run_count (laid at bytes.now held.old.text) ≡ 17 }
     ensures { OnOk result (held.new ≡ held.old) }
 {
-    held.hold(alloc, at, bytes)
+    held.hold(at, bytes)
 }
 
 /// A byte at exactly the right edge isn't accepted; only a segment of length 0 is: the contract of `is_at_right_edge`.

@@ -3,18 +3,15 @@
 ghost use Rattle.std.specs.Prelude.{◌≡◌, ◌==◌, OnOk, is_none, length};
 ghost use Rattle.tcp_rules.specs.Coming.{nothing_early, text_edge as edge_lem};
 
-use crate::places::{lay, run_count};
+use crate::places::Places;
 use ft_io::NoMemory;
 use std::alloc::Global;
 use std::marker::Model;
 
-/// The largest number of runs that are held.
-const MOST_RUNS: usize = 16;
-
 /// Out-of-order data: text after the bytes taken, place by place, and at most one FIN, by its offset in the stream.
 #[derive(Drop)]
 pub struct Held {
-    pub(crate) text: Vec<Option<u8>>,
+    pub(crate) text: Places,
     pub(crate) fin: Option<u64>,
 }
 
@@ -23,7 +20,7 @@ impl Model for Held {
 
     ghost Value = { Early };
 
-    ghost view = { λ h. record { text = h.text.items; fin = h.fin } };
+    ghost view = { λ h. record { text = h.text; fin = h.fin } };
 }
 
 impl Held {
@@ -35,7 +32,7 @@ impl Held {
         ensures { result ≡ nothing_early }
     {
         Held {
-            text: Vec::new(alloc),
+            text: Places::new(alloc),
             fin: None,
         }
     }
@@ -68,15 +65,9 @@ impl Held {
     }
 
     /// Holds bytes from a place on, unless that would make more than sixteen runs. After `NoMemory` it may only be dropped.
-    #[tactic(auto, unfolding(tcp_rules::specs::Early::held_with))]
-    pub(crate) fn hold(&mut self, alloc: Global, at: usize, bytes: &[u8]) -> Result<(), NoMemory>
+    pub(crate) fn hold(&mut self, at: usize, bytes: &[u8]) -> Result<(), NoMemory>
         ensures { OnOk result (self.new ≡ record self.old { text = held_with at bytes.now self.old.text }) }
     {
-        let mut text = Vec::from_slice(alloc, self.text.as_slice())?;
-        lay(&mut text, at, bytes)?;
-        if run_count(text.as_slice()) <= MOST_RUNS {
-            self.text = text;
-        }
-        Ok(())
+        self.text.hold(at, bytes)
     }
 }

@@ -1,0 +1,6 @@
+use Rattle.std.proofs.Common.{◌∙◌, ap, drop}
+use Rattle.std.proofs.lemmas.List.{drop-drop}
+use Rattle.plain_packets.proofs.places.Places.drop_front.Goals as goal
+
+pub loop-place-preserved : goal.loop-place-preserved
+loop-place-preserved c = c.pop.ensures ∙ ap (drop 1) c.loop-place.invariant ∙ drop-drop 1 c.loop-place._place c.args.self.now
