@@ -1,13 +1,11 @@
 #!/usr/bin/env python3
 """Prints docs/WIDE_AREA.md: transfers over paths with delay and loss, as `bench/wan.py run` measured them.
 
-    tools/wide_area.py --table            prints the page, from the medians in tools/wide_area.tsv
-    tools/wide_area.py --check            says whether the page is up to date
-    tools/wide_area.py --medians FILE..   prints such medians of the lines that `bench/wan.py run` printed into these files
+    tools/wide_area.py --table     prints the page, from tools/wide_area.lines
+    tools/wide_area.py --check     says whether the page is up to date
 
-The first lines of tools/wide_area.tsv, which begin with `#`, say when and where it was measured; the page has them. Then there is a line for each kind of transfer,
-delay, loss and way: the median of the speeds (MB a second), whether at least half of the transfers weren't done in time, and the median of a whole transfer's
-packets, which is empty where none was whole.
+tools/wide_area.lines has the lines that `bench/wan.py run` printed, below lines that begin with `#`, which say when and where that was; the page has those, too.
+The page has medians over the seeds: of the speeds (MB a second), with a star if at least half of the transfers weren't done in time, and of a whole transfer's packets.
 """
 import argparse
 import collections
@@ -21,10 +19,9 @@ sys.path.insert(0, str(TOP / "bench"))
 sys.dont_write_bytecode = True
 import wan  # noqa: E402
 
-KEPT = TOP / "tools/wide_area.tsv"
+KEPT = TOP / "tools/wide_area.lines"
 PAGE = TOP / "docs/WIDE_AREA.md"
-COLUMNS = ("kind", "delay", "loss", "way", "speed", "late", "packets")
-Median = collections.namedtuple("Median", COLUMNS)
+Median = collections.namedtuple("Median", "kind delay loss way speed late packets")
 
 HEAD = """# Transfers over paths with delay and loss
 
@@ -34,13 +31,13 @@ The columns: `ftnode`'s client and server with a profile; a kernel's client with
 sockets of the kernel, without window scaling, selective acknowledgements and timestamps; and two with all options. A delay is a round trip's. A star: at least
 half of the transfers weren't done in time, and count by what had come. [PERFORMANCE.md](PERFORMANCE.md#processes-over-udp) says what the figures show."""
 
-MADE = "`tools/wide_area.py --table` prints this page from `tools/wide_area.tsv`, the medians of what `bench/wan.py run` measured."
+MADE = "`tools/wide_area.py --table` prints this page from `tools/wide_area.lines`, the lines that `bench/wan.py run` printed."
 
 
-def medians_of(files):
-    """The medians of transfers, by kind, delay, loss and way."""
+def medians_of(file):
+    """The medians of a file's transfers, by kind, delay, loss and way."""
     groups = collections.defaultdict(list)
-    for row in wan.rows_of(files):
+    for row in wan.rows_of([file]):
         groups[row.kind, row.delay, row.loss, row.way].append(row)
     for key, rows in sorted(groups.items(), key=lambda group: (wan.KINDS.index(group[0][0]), *group[0][1:3], wan.WAYS.index(group[0][3]))):
         whole = [row.packets for row in rows if row.came == row.size]
@@ -48,17 +45,9 @@ def medians_of(files):
         yield Median(*key, speed, 2 * len(whole) <= len(rows), statistics.median(whole) if whole else None)
 
 
-def spell(median):
-    packets = "" if median.packets is None else f"{median.packets:g}"
-    return "\t".join([median.kind, str(median.delay), f"{median.loss:g}", median.way, f"{median.speed:.4g}", "late" if median.late else "", packets])
-
-
-def kept(lines):
-    """The notes and the medians of a file such as tools/wide_area.tsv."""
-    notes = [line[1:].strip() for line in lines if line.startswith("#")]
-    rows = [line.rstrip("\n").split("\t") for line in lines if not line.startswith("#")]
-    assert tuple(rows[0]) == COLUMNS, rows[0]
-    return notes, [Median(row[0], int(row[1]), float(row[2]), row[3], float(row[4]), row[5] == "late", float(row[6]) if row[6] else None) for row in rows[1:]]
+def notes_of(file):
+    """What the file says of when and where."""
+    return [line[1:].strip() for line in pathlib.Path(file).read_text(encoding="utf-8").splitlines() if line.startswith("#")]
 
 
 def heading(way):
@@ -122,12 +111,8 @@ def main():
     what = parser.add_mutually_exclusive_group(required=True)
     what.add_argument("--table", action="store_true")
     what.add_argument("--check", action="store_true")
-    what.add_argument("--medians", nargs="+", metavar="FILE")
     words = parser.parse_args()
-    if words.medians:
-        print("\t".join(COLUMNS), *map(spell, medians_of(words.medians)), sep="\n")
-        return 0
-    text = page(*kept(KEPT.read_text(encoding="utf-8").splitlines()))
+    text = page(notes_of(KEPT), list(medians_of(KEPT)))
     if words.table:
         sys.stdout.write(text)
         return 0

@@ -20,12 +20,11 @@ LINES = [
     "relay: up\n",
 ]
 # 0.05 is the middle of 1, 0.05 and 0.03 MB a second, 1.25 that of 2 and 0.5
-MEDIANS = """\
-kind\tdelay\tloss\tway\tspeed\tlate\tpackets
-echo\t50\t0\tftnode-wan\t0.05\tlate\t7000
-echo\t50\t0\tkernel-reno-bare\t1.25\t\t3500.5
-echo\t50\t1\tftnode-plain\t20\t\t5000
-"""
+MEDIANS = [
+    ("echo", 50, 0.0, "ftnode-wan", 0.05, True, 7000),
+    ("echo", 50, 0.0, "kernel-reno-bare", 1.25, False, 3500.5),
+    ("echo", 50, 1.0, "ftnode-plain", 20.0, False, 5000),
+]
 TABLES = """
 | echo, MB a second | `ftnode`, plain | `ftnode`, wan | bare, reno |
 |---|---|---|---|
@@ -45,19 +44,17 @@ TABLES = """
 
 
 class Pages(unittest.TestCase):
-    def test_medians(self):
+    def test_lines(self):
         with tempfile.NamedTemporaryFile("w", suffix=".lines") as file:
-            file.writelines(LINES)
+            file.writelines(["# Measured\n", "# today.\n", *LINES])
             file.flush()
-            out = io.StringIO()
-            with mock.patch("sys.argv", ["wide_area.py", "--medians", file.name]), contextlib.redirect_stdout(out):
-                wide_area.main()
-        self.assertEqual(out.getvalue(), MEDIANS)
+            self.assertEqual(wide_area.notes_of(file.name), ["Measured", "today."])
+            medians = list(wide_area.medians_of(file.name))
+        self.assertEqual([(*median[:4], round(median.speed, 9), *median[5:]) for median in medians], MEDIANS)
+        self.assertTrue(wide_area.page([], medians).endswith(TABLES), wide_area.page([], medians))
 
-    def test_page(self):
-        text = wide_area.page(*wide_area.kept(["# Measured", "# today.", *MEDIANS.splitlines()]))
-        self.assertIn("`bench/wan.py run` measured. Measured today.\n", text)
-        self.assertTrue(text.endswith(TABLES), text)
+    def test_notes(self):
+        self.assertIn("`bench/wan.py run` printed. Measured today.\n", wide_area.page(["Measured", "today."], [wide_area.Median(*MEDIANS[0])]))
 
     def test_goals(self):
         """A speed of half and 1.4 times the packets are right still; bbr is compared with bbr."""
