@@ -6,12 +6,13 @@
 # 1,000,000 bytes whose server is killed (kill -9) when a quarter, a half and three quarters of them have been returned, and started again with the next boot
 # number. Each time the client must end with status 0, and its bytes must be the script's.
 #     bench/ftnode.sh [SIZE] [PORT]        it uses seven ports from PORT (default 7200) on, three from PORT + 10 on, and three from PORT + 20 on
+# The environment may set PROGRAM and OWN, a built ftnode and a built own_node; otherwise it builds this checkout's.
 set -eu
 . "$(dirname "$0")/common.sh"
 size=${1:-15000000} base=${2:-7200}
-build ftnode logger --local 127.0.0.1:7040 --turns 1
-build own_node counter logger --local 127.0.0.1:7041 --turns 1
-ours=$PWD/crates/ftnode/out/ftnode own=$PWD/crates/own_node/out/own_node
+[ -n "${PROGRAM:-}" ] || build ftnode logger --local 127.0.0.1:7040 --turns 1
+[ -n "${OWN:-}" ] || build own_node counter logger --local 127.0.0.1:7041 --turns 1
+ours=$(realpath "${PROGRAM:-crates/ftnode/out/ftnode}") own=$(realpath "${OWN:-crates/own_node/out/own_node}")
 program=$ours own_words=() service=(--service echo)
 pids=()
 clean_up() {
