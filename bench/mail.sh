@@ -35,6 +35,7 @@ over_relay() { # WORD..: a command that starts the receiver, in the foreground
     (
         set +eu
         here=maila$$ there=mailb$$
+        rm -f "$work/relay" # of the receiver before
         bench/relay.py "tun:$here" "tun:$there" 0 0 1 >"$work/relay" 2>&1 &
         pids=("$!")
         trap 'exec 2>/dev/null; ip netns pids "$there" | xargs -r kill -9; kill -9 "${pids[@]}"; wait; ip netns del "$here"; ip netns del "$there"' EXIT

@@ -32,19 +32,20 @@ start_curl() { # NUMBER..
 }
 
 send_by_smtplib() { # NUMBER
-    timeout 60 python3 - "$service" "$port" "$room/message.$1" <<'END'
+    timeout 60 python3 - "$service" "$port" "$room/message.$1" "$1" <<'END'
 import smtplib, sys
-with smtplib.SMTP(sys.argv[1], int(sys.argv[2]), "client.example") as client:
+with smtplib.SMTP(sys.argv[1], int(sys.argv[2]), "client.example", source_address=("", 20000 + int(sys.argv[4]))) as client:
     client.set_debuglevel(1)
     client.sendmail("a@client.example", "b@mail.example", open(sys.argv[3], "rb").read())
 END
 }
 
 send_by_swaks() { # NUMBER
-    timeout 60 swaks --server "$service" --port "$port" --helo client.example --from a@client.example --to b@mail.example --data "@$room/message.$1"
+    timeout 60 swaks --server "$service" --port "$port" --local-port $((20000 + $1)) --helo client.example --from a@client.example --to b@mail.example \
+        --data "@$room/message.$1"
 }
 
-# Messages, each over a connection of its own
+# Messages, each over a connection of its own, from a port of its own: a log takes each port of a client once, and the kernel may choose one again.
 send_each() { # NUMBER..
     local number by=send_by_swaks
     command -v swaks >/dev/null || by=send_by_smtplib
