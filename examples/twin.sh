@@ -4,13 +4,14 @@
 # have, the server is killed too, and started again with the next boot number. The client has to end with 0 and to have all its bytes. The head is killed in the
 # first half of the runs, the tail in the second. A run takes a few seconds. It wants a built ftnode:
 #     examples/twin.sh [PROGRAM] [RUNS] [PORT]
-# PROGRAM is crates/ftnode/out/ftnode and RUNS, for each of the two, 10 where nothing is said; it takes five ports from PORT (7120) on.
+# PROGRAM is crates/ftnode/out/ftnode and RUNS, for each of the two, 10 where nothing is said; it takes five ports from PORT (7120) on. The environment may set PROFILE
+# (wan), which all of them get.
 set -u
 cd "$(dirname "$0")/.." || exit 2
 program=$(realpath "${1:-crates/ftnode/out/ftnode}") runs=${2:-10} base=${3:-7120} bytes=200000
 [ -x "$program" ] || { echo "twin: there is no program $program; build it: (cd crates/ftnode && rt run)" >&2; exit 2; }
 server=127.0.0.1:$base head=127.0.0.1:$((base + 1)) tail=127.0.0.1:$((base + 2)) client=127.0.0.1:$((base + 3)) teller=127.0.0.1:$((base + 4))
-room=$(mktemp -d)
+room=$(mktemp -d) profile=(${PROFILE:+--profile "$PROFILE"})
 pids=()
 end_all() { for pid in "${pids[@]}"; do { kill -9 "$pid" && wait "$pid"; } 2>/dev/null; done; pids=(); }
 trap 'end_all; rm -rf "$room"' EXIT
@@ -23,22 +24,22 @@ start() { # NAME WORD..: its process number is in `last`
     pids+=("$last")
 }
 start_server() { # BOOT
-    start "server.$1" server --local "$server" --logger "$head" --second "$tail" --service echo --boot "$1" --isn $((5000 + $1)) --turns 1000000
+    start "server.$1" server --local "$server" --logger "$head" --second "$tail" --service echo --boot "$1" --isn $((5000 + $1)) --turns 1000000 "${profile[@]}"
 }
 end() { { kill -9 "$1" && wait "$1"; } 2>/dev/null; } # PROCESS
 
 one_run() { # VICTIM: 0 where all bytes came
     local head_pid tail_pid server_pid client_pid survivor status=0
     rm -rf "$room"/*
-    start head logger --local "$head" --turns 1000000 --part head --other "$tail"
+    start head logger --local "$head" --turns 1000000 --part head --other "$tail" "${profile[@]}"
     head_pid=$last
-    start tail logger --local "$tail" --turns 1000000 --part tail --other "$head"
+    start tail logger --local "$tail" --turns 1000000 --part tail --other "$head" "${profile[@]}"
     tail_pid=$last
     start_server 1
     server_pid=$last
     # The client writes into a pipe: behind what is read from it, only what the pipe and the client's TCP hold can have come.
     mkfifo "$room/client.out"
-    start client client --local "$client" --server "$server" --isn 1000 --turns 1000000 --script "fill:$bytes"
+    start client client --local "$client" --server "$server" --isn 1000 --turns 1000000 "${profile[@]}" --script "fill:$bytes"
     client_pid=$last
     exec 3<"$room/client.out"
     head -c 20000 <&3 >"$room/came"
