@@ -6,8 +6,9 @@
     tools/limits.py NAME..     looks only at these crates
 
 A limit has one home, the crate `limits`: its constants are what code uses. A place is counted where a number with the value of a limit stands in any spelling
-(1_460, 1460, 0x5B4, 1 << 24, 2 ^ 24, 16_777_217 for a limit and one), outside of comments and texts. Numbers that have the value of a limit and mean something
-else are in ELSEWHERE, each with what it means there. The status is 1 if code outside of the home spells a limit.
+(1_460, 1460, 0x5B4, 1 << 24, 2 ^ 24, 16_777_217 for a limit and one, 63 for the largest index of an entry), outside of comments and texts. Numbers that have the
+value of a limit and mean something else are in ELSEWHERE, each with what it means there. Proofs, Python and scripts aren't read. The status is 1 if code outside
+of the home spells a limit.
 """
 import os
 import pathlib
@@ -26,9 +27,13 @@ LIMITS = [
     (1_460, 'SEGMENT', []),
     (128, 'SHORT', []),
     (64, 'SHORTEST_SEGMENT, ENTRIES, PENDING or WAITING', []),
+    (63, 'ENTRIES - 1', []),
     (28, 'a Read', []),
     (22, 'a message with a key alone', []),
 ]
+
+# the two limits that are lengths of messages: only these are excused where a line names a kind
+LENGTHS = (28, 22)
 
 # what else a number of this value may mean: crate, file or folder, a part of the line, why
 ELSEWHERE = [
@@ -83,6 +88,7 @@ ELSEWHERE = [
     ('log_script', 'src/twins/messages.rt', '', 'drawn messages'),
     ('node_script', 'src/strike.rt', '1 => 64', 'a drawn distance'),
     ('plain_world', 'src/opening.rt', 'pending_count', 'a clause, in a line that begins as code does'),
+    ('web_service', 'specs/Request', 'byte == 63', 'a question mark'),
 ]
 # lines in which such a number is a modulus, a width or an offset
 NO_LIMIT = re.compile(r'2\s*\^\s*(?:64|128|22|28)\b|\bu(?:64|128)\b|%\s*(?:64|128)\b|\.\.22\b|\b22\.\.|/\s*64\b')
@@ -93,7 +99,7 @@ def number(value):
     digits = str(value)
     decimal = '_?'.join(digits)
     hexadecimal = '_?'.join(f'{value:X}')
-    return rf'(?<![\w.^]){decimal}(?:_?u(?:8|16|32|64|size))?(?![\w.]\d|\w)|(?<!\w)0x(?:0|_)*{hexadecimal}(?!\w)'
+    return rf'(?<![\w.^])(?<!\^ ){decimal}(?:_?u(?:8|16|32|64|size))?(?![\w.]\d|\w)|(?<!\w)0x(?:0|_)*{hexadecimal}(?!\w)'
 
 
 PATTERNS = [(value, name, re.compile('|'.join([*more, number(value)]), re.I)) for value, name, more in LIMITS]
@@ -111,8 +117,11 @@ def kind_of(path, line):
     return 'contract' if re.match(r'\s*(?:requires|ensures|ghost|×|→|\()', line) else 'code'
 
 
-def elsewhere(crate, path, line):
-    return any(crate == c and path.startswith(f'crates/{c}/{p}') and part in line for c, p, part, _ in ELSEWHERE)
+def elsewhere(crate, path, line, value):
+    def means(c, p, part, why):
+        return crate == c and path.startswith(f'crates/{c}/{p}') and part in line and (value in LENGTHS or why != 'the length of a message of this kind')
+
+    return any(means(*it) for it in ELSEWHERE)
 
 
 def places(crate):
@@ -128,7 +137,7 @@ def places(crate):
                         continue
                     for value, limit, pattern in PATTERNS:
                         for _ in pattern.finditer(line):
-                            if not elsewhere(crate, path, line):
+                            if not elsewhere(crate, path, line, value):
                                 yield path, at, kind_of(path, line), value, limit, text.strip()
 
 

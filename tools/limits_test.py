@@ -77,6 +77,18 @@ class Limits(unittest.TestCase):
         wanted += [f"{it}: 0 in code, 0 in contract, 1 in definition" for it in ("STREAM", "UNITS")]
         self.assertEqual(sorted(lines[2:5]), wanted)
 
+    def test_one_less(self):
+        """The largest index of an entry is a limit too; an exponent isn't."""
+        self.put("crates/low/src/lib.rt", "fn low(n: u64) -> bool\n    requires { n < 2 ^ 63 + 1460 }\n{\n    n <= 63\n}\n")
+        status, lines = self.run_tool("--list")
+        found = [line.split(":")[1:3] for line in lines if line.startswith("  ")]
+        self.assertEqual((status, lines[0], found), (1, "low: 1 in code, 1 in contract", [["2", " contract 1460 (SEGMENT)"], ["4", " code 63 (ENTRIES - 1)"]]))
+
+    def test_kinds(self):
+        """A line that names a kind of message may have its length, and no index."""
+        self.put("crates/plain_packets/src/message.rt", "fn low(n: u64) -> bool {\n    Body::Done(_) => n == 22,\n    Body::List { index } => index <= 63,\n}\n")
+        self.assertEqual(self.run_tool()[1][0], "plain_packets: 1 in code")
+
     def test_named(self):
         """Only the crates that are named."""
         self.put("crates/low/src/lib.rt", CODE)

@@ -8,7 +8,7 @@ message is written if its end is in a read that the journal has: then it was acc
 begins with the client's address and port, the number that the reply says, and its size. A client whose connection ended before it got the reply may send the message
 again in another connection: within one it is accepted once.
 
-The status is 0, or 1 where the file isn't a whole journal.
+The status is 0; 1 where the file can't be read or isn't a whole journal; 2 for wrong words.
 """
 import re
 import sys
@@ -69,12 +69,18 @@ def mbox(data):
 
 
 def main():
-    if len(sys.argv) != 2:
+    if sys.argv[1:] in (["-h"], ["--help"]):
+        print(__doc__.strip())
+        return 0
+    if len(sys.argv) != 2 or sys.argv[1].startswith("-"):
         print("mailbox.py JOURNAL", file=sys.stderr)
         return 2
     try:
         with open(sys.argv[1], "rb") as file:
             text = mbox(file.read())
+    except OSError as why:
+        print(f"mailbox.py: {why.filename}: {why.strerror}", file=sys.stderr)
+        return 1
     except Refused as why:
         print(f"mailbox.py: the journal is {why}", file=sys.stderr)
         return 1

@@ -99,9 +99,20 @@ class Mailbox(unittest.TestCase):
         self.assertEqual(run(bytes(damaged)), (1, b"", "mailbox.py: the journal is damaged at byte 0\n"))
 
     def test_wrong_words(self):
-        with mock.patch("sys.argv", ["mailbox.py"]), contextlib.redirect_stderr(io.StringIO()) as err:
-            self.assertEqual(mailbox.main(), 2)
-        self.assertEqual(err.getvalue(), "mailbox.py JOURNAL\n")
+        for words in ([], ["a", "b"], ["--halp"]):
+            with mock.patch("sys.argv", ["mailbox.py", *words]), contextlib.redirect_stderr(io.StringIO()) as err:
+                self.assertEqual(mailbox.main(), 2)
+            self.assertEqual(err.getvalue(), "mailbox.py JOURNAL\n")
+
+    def test_help(self):
+        with mock.patch("sys.argv", ["mailbox.py", "--help"]), contextlib.redirect_stdout(io.StringIO()) as out:
+            self.assertEqual(mailbox.main(), 0)
+        self.assertIn("tools/mailbox.py JOURNAL\n", out.getvalue())
+
+    def test_no_such_file(self):
+        with mock.patch("sys.argv", ["mailbox.py", "/dev/null/none"]), contextlib.redirect_stderr(io.StringIO()) as err:
+            self.assertEqual(mailbox.main(), 1)
+        self.assertEqual(err.getvalue(), "mailbox.py: /dev/null/none: Not a directory\n")
 
 
 if __name__ == "__main__":
