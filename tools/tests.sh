@@ -1,5 +1,5 @@
 #!/usr/bin/env bash
-# Runs the tests of the tools in this folder, which take one to two minutes together. Those of devices are skipped where there is no root.
+# Runs the tests of the tools in this folder, which take some 50 processor seconds together. Those of devices are skipped where there is no root.
 #     tools/tests.sh [NAME..]      default: all; a name is that of a file, such as gateway_test
 set -eu
 cd "$(dirname "$0")"
