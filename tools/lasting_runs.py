@@ -3,7 +3,6 @@
 
     tools/lasting_runs.py draw SEED                     writes the schedule of a seed
     tools/lasting_runs.py masked [--seeds N] [--first SEED]   plays N of them, and tests the world after each event
-    tools/lasting_runs.py compare PROGRAM [--seeds N] [--first SEED]   plays N of them by a built `ftreplay` and by the model, and compares the reports
 
 Packets are lost, repeated and reordered, old ones come again, and the server crashes often. After each event all that tools/masked.py tests must hold of the
 clients that are there, and one that is gone must have a front of what a server that never failed sends for the reads that its entry had. In the end nothing is
@@ -11,7 +10,6 @@ lost: each client that wasn't reset must have all of its answer, its entry must 
 """
 import argparse
 import random
-import subprocess
 import sys
 from collections import Counter
 
@@ -207,29 +205,16 @@ def test(first, count):
     print(f"{count} schedules with lasting: {said}; of the clients that are gone {ends}; all masked")
 
 
-def compare(program, first, count):
-    for seed in range(first, first + count):
-        text = "\n".join(drawn(seed).lines()) + "\n"
-        run = subprocess.run([program, "run"], input=text, capture_output=True, text=True, timeout=120, check=False)
-        if run.stdout.splitlines() != lasting_model.play(text)[0]:
-            sys.exit(f"they differ at: seed {seed}")
-    print(f"{count} schedules with lasting: all equal")
-
-
 def main():
     parser = argparse.ArgumentParser(description=__doc__, formatter_class=argparse.RawDescriptionHelpFormatter)
     verbs = parser.add_subparsers(dest="verb", required=True)
     verbs.add_parser("draw").add_argument("seed", type=int)
-    both = verbs.add_parser("compare")
-    both.add_argument("program")
-    for many in (verbs.add_parser("masked"), both):
-        many.add_argument("--seeds", type=int, default=500)
-        many.add_argument("--first", type=int, default=1)
+    many = verbs.add_parser("masked")
+    many.add_argument("--seeds", type=int, default=500)
+    many.add_argument("--first", type=int, default=1)
     words = parser.parse_args()
     if words.verb == "draw":
         print("\n".join(drawn(words.seed).lines()))
-    elif words.verb == "compare":
-        compare(words.program, words.first, words.seeds)
     else:
         test(words.first, words.seeds)
 
