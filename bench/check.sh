@@ -1,8 +1,9 @@
 #!/usr/bin/env bash
-# Times `ftreplay check` on reports, and `ftreplay run` on their schedules: eight clients with a crash at each 1,000th event (bench/crash_schedule.awk), and one client
-# without a crash (bench/echo_schedule.awk), of 10,000 and of 100,000 events each. The two run alternately, 21 times (or ROUNDS times), four runs each time, with
-# their output written to a file. Printed are the events a second by the least CPU time of each, their ratio, how much longer the larger report takes than the
-# smaller, and the memory of both. The number of the last packet of each larger report is changed, too, which must be found at its line.
+# Times `ftreplay check` on reports, and `ftreplay run` on their schedules: eight clients with a crash at each 1,000th event (bench/crash_schedule.awk), one client
+# without a crash (bench/echo_schedule.awk), and one whose text is all behind a gap (bench/held_schedule.awk), of 10,000 and of 100,000 events each. The two run
+# alternately, 21 times (or ROUNDS times), four runs each time, with their output written to a file. Printed are the events a second by the least CPU time of each,
+# their ratio, how much longer the larger report takes than the smaller, and the memory of both. The number of the last packet of each larger report is changed,
+# too, which must be found at its line.
 set -eu
 . "$(dirname "$0")/common.sh"
 build ftreplay run <examples/first_path.schedule
@@ -59,6 +60,8 @@ machine
 for events in 10000 100000; do
     awk -v events="$events" -f bench/crash_schedule.awk >"$work/crash$events.schedule"
     awk -v cycles="$((events / 10 - 1))" -f bench/echo_schedule.awk >"$work/echo$events.schedule"
+    awk -v events="$events" -f bench/held_schedule.awk >"$work/held$events.schedule"
 done
 compare crash10000 crash100000 'eight clients, with crashes'
 compare echo10000 echo100000 'one client, without a crash'
+compare held10000 held100000 'one client, whose text is all behind a gap'

@@ -191,14 +191,8 @@ impl<S: Service> North<S> {
 
     /// Takes a chunk of this length from the rest while any is left, and otherwise from the socket, and gives it to the service.
     #[tactic(auto, using(crate::proofs::Empty::drop_none, crate::proofs::Empty::take_zero), unfolding(crate::specs::NorthState::socket_on))]
-    fn take_chunk<K: Socket>(
-        &mut self,
-        sock: &mut K,
-        size: usize,
-        chunk: &mut [u8],
-    ) -> Result<(), NoMemory>
+    fn take_chunk<K: Socket>(&mut self, sock: &mut K, size: usize) -> Result<(), NoMemory>
         requires allowed { Allows (length (K.unread sock.old)) size self.old }
-        requires buffer { length chunk.old ≡ 2048 }
         ensures state { OnOk result (self.new ≡ record self.old {
           run = run_on S.after self.old.run (chunk_of (K.unread sock.old) size self.old);
           rest = drop size self.old.rest;
@@ -215,7 +209,7 @@ impl<S: Service> North<S> {
         if size == 0 {
             return self.run.feed(&[]);
         }
-        self.run.feed_from(sock, size, chunk)
+        self.run.feed_from(sock, size)
     }
 
     /// Notes a read of this length, whose bytes the service was given.
@@ -251,11 +245,9 @@ impl<S: Service> North<S> {
         &mut self,
         sock: &mut K,
         size: usize,
-        chunk: &mut [u8],
         news: &mut ReadRecords,
     ) -> Result<(), NoMemory>
         requires allowed { Allows (length (K.unread sock.old)) size self.old }
-        requires buffer { length chunk.old ≡ 2048 }
         requires within { self.old.read + length self.old.rest + length (K.unread sock.old) ≤ longest_stream }
         requires room { length news.old < 32 }
         ensures state { OnOk result (self.new ≡ read_on S.after (K.unread sock.old) size self.old) }
@@ -264,7 +256,7 @@ impl<S: Service> North<S> {
         ensures reads { OnOk result (self.new.reads ≡ self.old.reads ++ record_of size self.old self.new.run ∷ []) }
         ensures bounded { self.new.read + length self.new.rest + length (K.unread sock.new) ≤ longest_stream }
     {
-        self.take_chunk(sock, size, chunk)?;
+        self.take_chunk(sock, size)?;
         let read = self.note(size);
         news.push(read);
         Ok(())
@@ -285,9 +277,8 @@ impl<S: Service> North<S> {
         ensures news { OnOk result (self.new.reads ≡ self.old.reads ++ news.new) }
         ensures bounded { self.new.read + length self.new.rest + length (K.unread sock.new) ≤ longest_stream }
     {
-        let mut chunk = [0u8; CHUNK_LIMIT];
         while let Some(size) = self.next_length(una, sock.readable(), sock.ended()) {
-            self.read_next(sock, size, &mut chunk, news)?;
+            self.read_next(sock, size, news)?;
         }
         Ok(())
     }

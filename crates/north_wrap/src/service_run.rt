@@ -5,9 +5,12 @@ ghost use Rattle.std.specs.Prelude.{◌≡◌, ℕ, ◌^◌, ◌-◌, ◌≤◌,
 ghost use Rattle.north_wrap.specs.RunState.{run_on, gives, given_to};
 
 use ft_io::NoMemory;
-use server_trait::{Next, Service};
+use server_trait::{CHUNK_LIMIT, Next, Service};
 use socket_layer::Socket;
 use std::marker::Model;
+
+/// The most bytes of a short read.
+const SHORT_READ: usize = 128;
 
 /// A service that has run so far.
 #[derive(Drop)]
@@ -86,23 +89,31 @@ impl<S: Service> ServiceRun<S> {
         self.take(chunk)
     }
 
-    /// Reads `size` bytes from a socket, and gives them to the service, unless it has closed.
-    #[tactic(auto, using(std::proofs::lemmas::Grind::common_steps))]
-    pub(crate) fn feed_from<K: Socket>(
-        &mut self,
-        sock: &mut K,
-        size: usize,
-        chunk: &mut [u8],
-    ) -> Result<(), NoMemory>
+    /// Reads `size` bytes from a socket, and gives them to the service, unless it has closed. A short read has a short buffer, which takes less time to clear.
+    pub(crate) fn feed_from<K: Socket>(&mut self, sock: &mut K, size: usize) -> Result<(), NoMemory>
         requires most { size ≤ 2048 }
         requires there { size ≤ length (K.unread sock.old) }
-        requires buffer { length chunk.old ≡ 2048 }
         requires room { self.old.made ≤ longest_stream - 2 ^ 20 }
         ensures state { OnOk result (self.new ≡ run_on S.after self.old (take size (K.unread sock.old))) }
         ensures socket { sock.new ≡ K.after_read sock.old size }
     {
-        read_whole(sock, &mut chunk[..size]);
-        self.feed(&chunk[..size])
+        if size <= SHORT_READ {
+            return self.feed_through(sock, &mut [0; SHORT_READ][..size]);
+        }
+        self.feed_through(sock, &mut [0; CHUNK_LIMIT][..size])
+    }
+
+    /// Fills a buffer from a socket, and gives the service what it then has, unless it has closed.
+    #[tactic(auto, using(std::proofs::lemmas::Grind::common_steps))]
+    fn feed_through<K: Socket>(&mut self, sock: &mut K, chunk: &mut [u8]) -> Result<(), NoMemory>
+        requires most { length chunk.old ≤ 2048 }
+        requires there { length chunk.old ≤ length (K.unread sock.old) }
+        requires room { self.old.made ≤ longest_stream - 2 ^ 20 }
+        ensures state { OnOk result (self.new ≡ run_on S.after self.old (take (length chunk.old) (K.unread sock.old))) }
+        ensures socket { sock.new ≡ K.after_read sock.old (length chunk.old) }
+    {
+        read_whole(sock, chunk);
+        self.feed(chunk)
     }
 
     fn take(&mut self, chunk: &[u8]) -> Result<(), NoMemory>

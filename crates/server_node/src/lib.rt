@@ -15,4 +15,5 @@ mod marked_reviving;
 mod node;
 mod restarting;
 mod reviving;
+mod serving_turn;
 mod stage;

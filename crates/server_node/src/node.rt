@@ -4,12 +4,12 @@ ghost use Rattle.std.specs.Prelude.{◌≤◌};
 ghost use Rattle.server_node.specs.Stages.{IsSoundStage, IsSoundStage-prop};
 
 use crate::input::{Input, TurnEnd};
-use crate::stage::{Stage, conn_in, go, send_hello};
+use crate::serving_turn::go_in_place;
+use crate::stage::{Stage, conn_in, send_hello};
 use ft_io::{Addr, Key, NoMemory};
 use node_serving::{Identity, OutPacket, Turn};
 use server_trait::{Saved, Service};
 use std::alloc::Global;
-use std::mem;
 use tcp_rules::Profile;
 use wrapped_conn::Conn;
 
@@ -155,9 +155,13 @@ impl<S: Saved> Node<S> {
     {
         self.turn.alloc = alloc;
         self.turn.sent.clear();
-        let stage = mem::replace(&mut self.stage, Stage::Lost);
-        self.stage = go(self.who, stage, input, &mut self.turn)?;
-        Ok(())
+        match go_in_place(self.who, &mut self.stage, input, &mut self.turn) {
+            Ok(()) => Ok(()),
+            Err(end) => {
+                self.stage = Stage::Lost;
+                Err(end)
+            }
+        }
     }
 
     /// Takes one turn, and returns the packets that it sends. Without marks: whatever the input is, keys that it isn't about stay unchanged; the turn of each

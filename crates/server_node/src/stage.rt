@@ -185,7 +185,7 @@ pub(crate) fn newer_than(boot: u64, body: &Body<'_>) -> Option<u64>
 }
 
 /// The larger boot number by which a message fences the node, if it does.
-fn newer_in(who: Identity, m: &Msg<'_>) -> Option<u64>
+pub(crate) fn newer_in(who: Identity, m: &Msg<'_>) -> Option<u64>
     ensures { (standing : Standing) → result ≡ fence (node_of who standing) (Message_comes (message_of m.now)) }
 {
     if m.boot != who.boot {

@@ -216,13 +216,12 @@ impl<S: Service> Conn<S> {
             → OnOk result (CompletesTurn S.after before repeats copied self.old self.new out.new.segments out.new.messages) }
         ensures sound { OnOk result (IsSound self.new) }
     {
-        let mut news = ReadRecords::new();
-        self.serve(alloc, &mut news)?;
+        self.serve(alloc, &mut out.reads)?;
         self.delay_ack(before);
         self.flush(&mut out.segments);
         self.send_syn_ack(repeats, &mut out.segments);
         self.send_bare(self.is_ack_pending(before), &mut out.segments);
-        self.send_reads(&news, &mut out.messages);
+        self.send_reads(&out.reads, &mut out.messages);
         Ok(())
     }
 

@@ -3,6 +3,7 @@
 ghost use Rattle.std.specs.Prelude.{◌≡◌, ◌<◌, [], Some, length, slice_get, IfOk};
 
 use ft_io::NoMemory;
+use north_wrap::ReadRecords;
 use std::alloc::Global;
 use tcp_endpoint::Outbox;
 
@@ -14,6 +15,8 @@ pub struct TurnOut {
     pub(crate) segments: Outbox,
     /// To the logger, in order.
     pub(crate) messages: Outbox,
+    /// Room for the reads that a turn makes. What it holds between turns has no meaning.
+    pub(crate) reads: ReadRecords,
 }
 
 impl TurnOut {
@@ -25,6 +28,7 @@ impl TurnOut {
         Ok(TurnOut {
             segments: Outbox::new(alloc)?,
             messages: Outbox::new(alloc)?,
+            reads: ReadRecords::new(),
         })
     }
 
