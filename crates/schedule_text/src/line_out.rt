@@ -1,6 +1,6 @@
 //! A line that is being appended to a text. It is written to the text at once, and cut off again where an allocation fails.
 
-ghost use Rattle.std.specs.Prelude.{◌≡◌, ◌∷◌, [], ◌++◌, length, OnOk, OnErr};
+ghost use Rattle.std.specs.Prelude.{◌≡◌, ◌∷◌, [], ◌++◌, ◌≤◌, length, take, OnOk, OnErr};
 
 use ft_io::NoMemory;
 use std::alloc::Global;
@@ -84,6 +84,21 @@ impl LineOut {
         self.bytes.extend_from_slice(bytes)?;
         Ok(())
     }
+
+    /// Appends the first `count` of four bytes. All four are written, and the others cut off again: that takes less time than to copy so few.
+    #[inline]
+    #[tactic(auto, using(crate::proofs::LineLemmas::line_grows, crate::proofs::Digits::first_appended))]
+    pub(crate) fn append_first(&mut self, bytes: &[u8; 4], count: usize) -> Result<(), NoMemory>
+        requires { count ≤ 4 }
+        ensures ok { OnOk result (self.new.words ≡ self.old.words ++ take count bytes.now) }
+        ensures before { self.new.before ≡ self.old.before }
+    {
+        let end = self.bytes.len() + count;
+        self.bytes.extend_from_slice(bytes)?;
+        self.bytes.truncate(end);
+        Ok(())
+    }
+
     /// Appends a text to the line.
     #[inline]
     pub(crate) fn append_text(&mut self, text: &str) -> Result<(), NoMemory>

@@ -1,6 +1,6 @@
 //! The words of a report's line, appended one by one: each value in its one spelling. After `NoMemory` the line may be incomplete; `close` cuts it off.
 
-ghost use Rattle.std.specs.Prelude.{◌≡◌, ◌<◌, ◌≤◌, ◌∷◌, [], ◌++◌, codes, decimal, length, take, drop, OnOk};
+ghost use Rattle.std.specs.Prelude.{◌≡◌, ◌<◌, ◌≤◌, ◌∷◌, [], ◌++◌, ◌+◌, ◌/◌, ◌%◌, codes, decimal, length, take, drop, OnOk};
 ghost use Rattle.hex.specs.Hex.{encode_lower};
 ghost use Rattle.ft_model.specs.Texts.{or_dash, behind_commas, hex_text, list_text, address_text, letter_if, flag_letters, flags_text, mss_text, bit_text};
 ghost use Rattle.ft_model.specs.Texts.{way_text};
@@ -15,17 +15,68 @@ const HEX_BYTES: usize = 64;
 
 /// Appends a number in decimal, with nothing before it.
 #[inline]
-#[tactic(auto, using(std::proofs::lemmas::Fmt::decimal_digit))]
+#[tactic(auto, using(crate::proofs::Digits::by_fours, std::proofs::Common::append_assoc))]
 pub(crate) fn put_digits(n: u64, line: &mut LineOut) -> Result<(), NoMemory>
     ensures ok { OnOk result (line.new.words ≡ line.old.words ++ decimal n) }
     ensures before { line.new.before ≡ line.old.before }
 {
-    // Many numbers have one digit.
-    if n < 10 {
-        return line.push(b'0' + n as u8);
+    // Most numbers have at most eight digits.
+    if n < 10_000 {
+        return put_short(n as u16, line);
+    }
+    if n < 100_000_000 {
+        put_short((n / 10_000) as u16, line)?;
+        return line.append_first(&four_digits((n % 10_000) as u16), 4);
     }
     let mut buffer = Buffer::new();
     line.append(buffer.format(n).as_bytes())
+}
+
+/// Appends a number of at most four digits in decimal.
+#[inline]
+fn put_short(n: u16, line: &mut LineOut) -> Result<(), NoMemory>
+    requires { n < 10000 }
+    ensures ok { OnOk result (line.new.words ≡ line.old.words ++ decimal n) }
+    ensures before { line.new.before ≡ line.old.before }
+{
+    let (digits, count) = short_digits(n);
+    line.append_first(&digits, count)
+}
+
+/// Returns the digits of a number of at most four, from the first on, and how many there are.
+#[inline]
+#[tactic(auto, using(crate::proofs::Digits::one, crate::proofs::Digits::two, crate::proofs::Digits::three, crate::proofs::Digits::four))]
+fn short_digits(n: u16) -> ([u8; 4], usize)
+    requires { n < 10000 }
+    ensures digits { take result.1 result.0 ≡ decimal n }
+    ensures count { result.1 ≤ 4 }
+{
+    if n < 10 {
+        return ([b'0' + n as u8, 0, 0, 0], 1);
+    }
+    if n < 100 {
+        return ([digit(n / 10), digit(n), 0, 0], 2);
+    }
+    if n < 1_000 {
+        return ([digit(n / 100), digit(n / 10), digit(n), 0], 3);
+    }
+    (four_digits(n), 4)
+}
+
+/// Returns the last four digits of a number, with zeros in front.
+#[inline]
+fn four_digits(n: u16) -> [u8; 4]
+    ensures { result ≡ (48 + n / 1000 % 10) ∷ (48 + n / 100 % 10) ∷ (48 + n / 10 % 10) ∷ (48 + n % 10) ∷ [] }
+{
+    [digit(n / 1_000), digit(n / 100), digit(n / 10), digit(n)]
+}
+
+/// Returns a number's last digit.
+#[inline]
+fn digit(n: u16) -> u8
+    ensures { result ≡ 48 + n % 10 }
+{
+    b'0' + (n % 10) as u8
 }
 
 /// Appends a space and a word.
