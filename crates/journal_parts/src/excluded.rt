@@ -1,7 +1,7 @@
 //! Wrong results that the contracts of this crate exclude. Each function calls another one of the crate, and promises of its result what a wrong body would
 //! make false. It is proved from the other's contract alone, so it is no longer proved once that contract lets the wrong body pass.
 
-ghost use Rattle.std.specs.Prelude.{List, ◌≡◌, ◌≤◌, ◌*◌, [], ◌++◌, OnOk, ◌∷◌, true, None, OnErr, vec_capacity};
+ghost use Rattle.std.specs.Prelude.{List, ◌≡◌, ◌≤◌, ◌<◌, ◌*◌, [], ◌++◌, OnOk, ◌∷◌, true, None, OnErr, vec_capacity};
 ghost use Rattle.disk.specs.CallRecord.{on_disk, on_link};
 ghost use Rattle.disk.specs.declared.calls.DiskCall.{DiskCall};
 ghost use Rattle.ft_io.specs.Told.{Tells};
@@ -87,7 +87,8 @@ fn a_short_file_is_replaced<K: Desk>(
     compact_if_due(alloc, desk, kept, compaction)
 }
 
-/// .. and so does one that has at most twice the length after the last time: the clause `done` of `compact_if_due`.
+/// .. and so does one that has at most twice the length after the last time, which is its own length once it was to be replaced: the clause `done` of
+/// `compact_if_due`.
 fn a_file_is_replaced_again_and_again<K: Desk>(
     alloc: Global,
     desk: &mut K,
@@ -95,8 +96,9 @@ fn a_file_is_replaced_again_and_again<K: Desk>(
     compaction: &mut Compaction,
 ) -> Result<(), ProcessEnd>
     requires idle { kept.old.round ≡ [] }
-    requires short { kept.old.tip.end ≤ 2 * compaction.old.last }
-    ensures { OnOk result (Tells (K.told desk.old) (K.told desk.new) []) }
+    ensures short { OnOk result (kept.old.tip.end ≤ 2 * compaction.old.last → Tells (K.told desk.old) (K.told desk.new) []) }
+    ensures measured { OnOk result (compaction.old.least < kept.old.tip.end → 2 * compaction.old.last < kept.old.tip.end
+        → compaction.new.last ≡ kept.new.tip.end) }
 {
     compact_if_due(alloc, desk, kept, compaction)
 }

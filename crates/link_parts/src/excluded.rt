@@ -66,7 +66,7 @@ fn a_plain_logger_takes_a_wide_message(
         alloc,
         Grammar::Plain,
         store,
-        &[70, 84, 2, 1, 0, 16, 0, 0, 0, 0, 0, 0, 0, 0, 0, 1],
+        &[70, 84, 2, 1, 0, 16, 183, 153, 0, 0, 0, 0, 0, 0, 0, 1],
     )
 }
 

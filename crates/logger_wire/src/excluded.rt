@@ -63,7 +63,7 @@ fn part_past_the_stream() -> Result<u32, BadMsg>
 fn takes_a_wide_message() -> bool
     ensures { result ≡ false }
 {
-    match read_msg(&[70, 84, 2, 1, 0, 16, 0, 0, 0, 0, 0, 0, 0, 0, 0, 1]) {
+    match read_msg(&[70, 84, 2, 1, 0, 16, 183, 153, 0, 0, 0, 0, 0, 0, 0, 1]) {
         Ok(_) => true,
         Err(_) => false,
     }

@@ -33,7 +33,7 @@ noise_passes kept = by kept.alone
 
 -- bytes of the version of wide messages
 abbrev wide_hello : List ℕ
-wide_hello = 70 ∷ 84 ∷ 2 ∷ 1 ∷ 0 ∷ 16 ∷ 0 ∷ 0 ∷ 0 ∷ 0 ∷ 0 ∷ 0 ∷ 0 ∷ 0 ∷ 0 ∷ 1 ∷ []
+wide_hello = 70 ∷ 84 ∷ 2 ∷ 1 ∷ 0 ∷ 16 ∷ 183 ∷ 153 ∷ 0 ∷ 0 ∷ 0 ∷ 0 ∷ 0 ∷ 0 ∷ 0 ∷ 1 ∷ []
 
 pub wide_is_noise : (kept : Kept) → kept.grammar ≡ grammars.Plain → kept_does sides.Server wide_hello kept ≡ sends_nothing kept
 unfolding kept_does messages.reading_by word_at

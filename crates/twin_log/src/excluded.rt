@@ -81,7 +81,7 @@ fn a_plain_pair_takes_a_wide_message(
     ensures next { OnOk result (log.new ≡ log.old) }
     ensures sent { OnOk result (out.new ≡ []) }
 {
-    let hello = [70, 84, 2, 1, 0, 16, 0, 0, 0, 0, 0, 0, 0, 0, 0, 1];
+    let hello = [70, 84, 2, 1, 0, 16, 183, 153, 0, 0, 0, 0, 0, 0, 0, 1];
     log.on_server(alloc, &hello, out)
 }
 
