@@ -50,6 +50,7 @@ ELSEWHERE = [
     ('schedule_text', 'src/spelling.rt', 'first + 65_536', 'the digits of an address'),
     ('replay_seed', 'src/dice.rt', '64', 'how often a generated schedule goes back'),
     ('test_data', '', '', 'drawn numbers, and bytes for cases'),
+    ('north_wrap', 'src/service_run.rt', 'SHORT_READ', 'the bytes of a short read'),
     ('schedule_text', 'src/event_line.rt', 'number_in(word, 0, 65_535)', 'a window, as the field holds it'),
     ('schedule_text', 'src/spelling.rt', 'read_short(port', 'a port'),
     ('schedule_text', 'src/line_text.rt', 'put_', 'control bits and the digits of an address'),

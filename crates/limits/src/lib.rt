@@ -29,6 +29,9 @@ pub const MESSAGE: usize = 1_491;
 /// The most entries of a log.
 pub const ENTRIES: u16 = 64;
 
+/// The last index of an entry.
+pub const LAST_INDEX: u16 = ENTRIES - 1;
+
 /// The most openings that a server has pending: as many as a log has entries.
 pub const PENDING: usize = 64;
 

@@ -9,7 +9,7 @@ ghost use Rattle.line_check.specs.Words.Column.{KeyColumn, NumberColumn};
 
 use crate::values::{is_address, number_word};
 use crate::words::{Words, named};
-use limits::{ENTRIES, SEGMENT, SHORTEST_SEGMENT};
+use limits::{ENTRIES, LAST_INDEX, SEGMENT, SHORTEST_SEGMENT};
 use seq_arith::{Field, Grammar};
 
 /// The largest size of a stream, in bytes.
@@ -61,7 +61,7 @@ pub(crate) fn in_range(limits: Limits, field: Field, n: u64) -> bool
 {
     match field {
         Field::Count => n <= u64::from(ENTRIES),
-        Field::Place => n <= 63,
+        Field::Place => n <= u64::from(LAST_INDEX),
         Field::Mss => u64::from(SHORTEST_SEGMENT) <= n && n <= u64::from(SEGMENT),
         Field::Length => n <= STREAM_LIMIT,
         Field::Offset => is_offset(limits, n),
