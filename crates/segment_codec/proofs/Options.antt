@@ -2,8 +2,8 @@
 use Rattle.std.proofs.Common.{◌≡◌, ◌≢◌, ℕ, zero, suc, ◌<◌, ◌≤◌, ◌-◌, true, false, List, [], ◌∷◌, length, drop, ap, refl, sym, arith, ◌∙◌, get_or}
 use Rattle.std.specs.Prelude.{Some, nat_eq, ◌&&◌}
 use Rattle.std.proofs.lemmas.Bool.{ne_eqb, lt-ltb, le-ltb, cond_both}
-use Rattle.seq_arith.specs.Bytes.{word_at}
-use Rattle.seq_arith.specs.PacketGrammar.{has_bad_option, mss_in}
+use Rattle.seq_arith.specs.Bytes.{word_at, long_at}
+use Rattle.seq_arith.specs.PacketGrammar.{has_bad_option, mss_in, timestamps_in}
 use Rattle.segment_codec.specs.Options.{option_rest}
 
 bad_skip : (before : ℕ) (bytes : List ℕ) → before ≤ length bytes → has_bad_option before bytes ≡ has_bad_option 0 (drop before bytes)
@@ -47,4 +47,25 @@ mss_passed kind behind n goes is within other =
     cond_both (nat_eq kind 1) 0 (get_or behind 0 0 - 1) (λ k. n ≡ k → mss_in 0 (kind ∷ behind) ≡ mss_in 0 (drop n behind))
     (λ e same. rw (ne_eqb kind 0 goes, e, same) refl)
     (λ e same. rw (ne_eqb kind 0 goes, e, not_mss kind behind n same other) (mss_skip (get_or behind 0 0 - 1) behind (omega arith) ∙ ap (λ k. mss_in 0 (drop k behind)) (sym same)))
+    is
+
+timestamps_skip : (before : ℕ) (bytes : List ℕ) → before ≤ length bytes → timestamps_in before bytes ≡ timestamps_in 0 (drop before bytes)
+timestamps_skip zero bytes h = refl
+timestamps_skip (suc before) [] h = absurd (omega arith)
+timestamps_skip (suc before) (byte ∷ bytes) h = timestamps_skip before bytes (omega arith)
+
+pub timestamps_found : (behind : List ℕ) → get_or behind 0 0 ≡ 10 → timestamps_in 0 (8 ∷ behind) ≡ Some (record { value = long_at behind 1; echo = long_at behind 5 })
+timestamps_found behind e = rw e refl
+
+not_timestamps : (kind : ℕ) (behind : List ℕ) (n : ℕ) → n ≡ get_or behind 0 0 - 1 → ((kind ≡ 8) → n ≡ 9 → ⊥)
+    → (nat_eq kind 8 && nat_eq (get_or behind 0 0) 10) ≡ false
+not_timestamps kind behind n same other = grind (arith, other)
+
+pub timestamps_passed : (kind : ℕ) (behind : List ℕ) (n : ℕ) → kind ≢ 0 → n ≡ option_rest kind behind → n ≤ length behind → ((kind ≡ 8) → n ≡ 9 → ⊥)
+    → timestamps_in 0 (kind ∷ behind) ≡ timestamps_in 0 (drop n behind)
+timestamps_passed kind behind n goes is within other =
+    cond_both (nat_eq kind 1) 0 (get_or behind 0 0 - 1) (λ k. n ≡ k → timestamps_in 0 (kind ∷ behind) ≡ timestamps_in 0 (drop n behind))
+    (λ e same. rw (ne_eqb kind 0 goes, e, same) refl)
+    (λ e same. rw (ne_eqb kind 0 goes, e, not_timestamps kind behind n same other)
+    (timestamps_skip (get_or behind 0 0 - 1) behind (omega arith) ∙ ap (λ k. timestamps_in 0 (drop k behind)) (sym same)))
     is

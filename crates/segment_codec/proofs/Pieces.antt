@@ -6,7 +6,8 @@ use Rattle.std.specs.Prelude.{Some}
 use Rattle.seq_arith.proofs.Spelling.{size}
 use Rattle.seq_arith.specs.Bytes.{two, four}
 use Rattle.seq_arith.specs.Packet.{Head, Segment}
-use Rattle.seq_arith.specs.PacketGrammar.{mss_option, packet_length, spelled, spelling, tcp_text}
+use Rattle.seq_arith.specs.declared.options.Timestamps.{Timestamps}
+use Rattle.seq_arith.specs.PacketGrammar.{mss_option, timestamps_option, options_of, packet_length, spelled, spelling, tcp_text}
 use Rattle.segment_codec.specs.Change.{put, sealed}
 use Rattle.segment_codec.specs.Spelling.{ip_start, places, numbers, with_checksums}
 use Rattle.segment_codec.proofs.Cells.{front, front_is}
@@ -35,20 +36,20 @@ unfolding put
 nothing_put at out = rw (append-nil (take at out), add-zero at) (take-append-drop at out)
 
 -- the byte of the header's length and the byte of flags
-pub control_word : (words flags : ℕ) → words ≤ 6 → flags < 256 → two (words * 4096 + flags) ≡ 16 * words ∷ flags ∷ []
+pub control_word : (words flags : ℕ) → words ≤ 9 → flags < 256 → two (words * 4096 + flags) ≡ 16 * words ∷ flags ∷ []
 unfolding two
 control_word words flags few small =
     let high : (words * 4096 + flags) / 256 % 256 ≡ 16 * words = omega arith
     in let low : (words * 4096 + flags) % 256 ≡ flags = omega arith
     in cc (high, low)
 
-pub numbers_put : (out : List ℕ) (head : Head) (words : ℕ) → 40 ≤ length out → words ≡ 5 + length (mss_option head.mss) / 4 → words ≤ 6 → head.flags < 256
+pub numbers_put : (out : List ℕ) (head : Head) (words : ℕ) → 40 ≤ length out → words ≡ 5 + length (options_of head) / 4 → words ≤ 9 → head.flags < 256
     → put 36 (four 0) (put 34 (two head.window) (put 32 (two (words * 4096 + head.flags)) (put 28 (four head.ack) (put 24 (four head.seq) out)))) ≡ put 24 (numbers head) out
 unfolding put two four numbers
 numbers_put out head words long is few small =
     ap (λ control. put 36 (four 0) (put 34 (two head.window) (put 32 control (put 28 (four head.ack) (put 24 (four head.seq) out))))) (control_word words head.flags few small)
     ∙ ap (λ n. put 36 (four 0) (put 34 (two head.window) (put 32 (16 * n ∷ head.flags ∷ []) (put 28 (four head.ack) (put 24 (four head.seq) out))))) is
-    ∙ by_cells 40 (λ b. put 36 (four 0) (put 34 (two head.window) (put 32 (16 * (5 + length (mss_option head.mss) / 4) ∷ head.flags ∷ []) (put 28 (four head.ack) (put 24 (four head.seq) b))))
+    ∙ by_cells 40 (λ b. put 36 (four 0) (put 34 (two head.window) (put 32 (16 * (5 + length (options_of head) / 4) ∷ head.flags ∷ []) (put 28 (four head.ack) (put 24 (four head.seq) b))))
     ≡ put 24 (numbers head) b) out long refl
 
 -- two strings put one after the other are one
@@ -67,14 +68,32 @@ put_put at next a b out is within =
     in ap (λ xs. xs ++ b ++ drop (next + length b) (put at a out)) front ∙ ap (λ xs. take at out ++ a ++ b ++ xs) rest
     ∙ ap (λ xs. xs ++ drop (at + length (a ++ b)) out) (append_assoc (take at out) a b)
 
+-- the three words of the timestamps
+pub timestamps_put : (at : ℕ) (out : List ℕ) (t : Timestamps) → at + 12 ≤ length out
+    → put (at + 8) (four t.echo) (put (at + 4) (four t.value) (put at (four 16844810) out)) ≡ put at (timestamps_option (Some t)) out
+unfolding four
+timestamps_put at out t long =
+    let first : put (at + 4) (four t.value) (put at (four 16844810) out) ≡ put at (four 16844810 ++ four t.value) out =
+    put_put at (at + 4) (four 16844810) (four t.value) out refl (omega arith)
+    in ap (put (at + 8) (four t.echo)) first
+    ∙ put_put at (at + 8) (four 16844810 ++ four t.value) (four t.echo) out refl (omega arith)
+
+-- both options, one after the other
+pub both_put : (head : Head) (at : ℕ) (out once twice : List ℕ) → at ≡ 40 + length (mss_option head.mss) → 40 + length (options_of head) ≤ length out
+    → once ≡ put 40 (mss_option head.mss) out → twice ≡ put at (timestamps_option head.timestamps) once → twice ≡ put 40 (options_of head) out
+both_put head at out once twice is long first second =
+    second ∙ ap (put at (timestamps_option head.timestamps)) first
+    ∙ put_put 40 at (mss_option head.mss) (timestamps_option head.timestamps) out is
+    (omega (arith, is, long, length-append (mss_option head.mss) (timestamps_option head.timestamps)))
+
 -- the headers in front of a payload make a packet with zero for its checksums
-pub header_put : (segment : Segment) (out : List ℕ) → segment.payload ≡ drop (40 + length (mss_option segment.head.mss)) out → packet_length segment ≡ length out
-    → put 40 (mss_option segment.head.mss) (put 24 (numbers segment.head) (put 12 (places segment.head) (put 0 (ip_start (packet_length segment)) out)))
+pub header_put : (segment : Segment) (out : List ℕ) → segment.payload ≡ drop (40 + length (options_of segment.head)) out → packet_length segment ≡ length out
+    → put 40 (options_of segment.head) (put 24 (numbers segment.head) (put 12 (places segment.head) (put 0 (ip_start (packet_length segment)) out)))
     ≡ spelled segment 0 0
 unfolding put spelled ip_start places numbers two four
 header_put segment out stands size =
     let head : Head = segment.head
-    in let opt : List ℕ = mss_option head.mss
+    in let opt : List ℕ = options_of head
     in let start : List ℕ = ip_start (packet_length segment)
     in let one : put 12 (places head) (put 0 start out) ≡ put 0 (start ++ places head) out = put_put 0 12 start (places head) out refl (omega arith)
     in let two' : put 24 (numbers head) (put 0 (start ++ places head) out) ≡ put 0 (start ++ places head ++ numbers head) out =

@@ -4,7 +4,7 @@ use Rattle.seq_arith.specs.Bytes.{two, four}
 use Rattle.seq_arith.specs.Checksum.{checksum}
 use Rattle.seq_arith.specs.Packet as packet
 use Rattle.seq_arith.specs.Packet.{Segment}
-use Rattle.seq_arith.specs.PacketGrammar.{mss_option}
+use Rattle.seq_arith.specs.PacketGrammar.{options_of}
 use Rattle.seq_arith.specs.declared.head.Head.{Head}
 use Rattle.segment_codec.specs.Change.{put, sealed}
 use Rattle.segment_codec.specs.Value.{said}
@@ -23,7 +23,7 @@ places head = four head.src ++ four head.dst ++ two head.sport ++ two head.dport
 -- bytes 24 to 39: the sequence and acknowledgement numbers, the header's length, the flags and the window, and zero for the rest
 unfoldable pub numbers : packet.Head → List ℕ
 numbers head =
-    four head.seq ++ four head.ack ++ (16 * (5 + length (mss_option head.mss) / 4) ∷ head.flags ∷ two head.window) ++ (0 ∷ 0 ∷ 0 ∷ 0 ∷ [])
+    four head.seq ++ four head.ack ++ (16 * (5 + length (options_of head) / 4) ∷ head.flags ∷ two head.window) ++ (0 ∷ 0 ∷ 0 ∷ 0 ∷ [])
 
 -- a packet with both checksums computed
 unfoldable pub with_checksums : List ℕ → List ℕ

@@ -2,11 +2,11 @@
 
 ghost use Rattle.limits.specs.Limits.{largest_segment, longest_packet};
 ghost use Rattle.std.specs.Prelude.{◌≡◌, ◌≤◌, ◌-◌, Ok, IsOk, length, drop};
-ghost use Rattle.seq_arith.specs.PacketGrammar.{reading, payload_at, options_in, mss_in};
+ghost use Rattle.seq_arith.specs.PacketGrammar.{reading, payload_at, options_in, mss_in, timestamps_in};
 ghost use Rattle.segment_codec.specs.Value.{segment_of};
 
 use crate::PacketRef;
-use crate::reading::{offered_mss, payload_start, read_head};
+use crate::reading::{Options, payload_start, read_head, read_options};
 
 /// Reads a packet that `read_packet` accepts. It looks only at the headers.
 #[tactic(auto, using(crate::proofs::Accepting::header_is_long, crate::proofs::Accepting::packet_is_short, crate::proofs::Accepting::is_read), unfolding(seq_arith::specs::PacketGrammar::segment_in))]
@@ -21,7 +21,7 @@ pub fn read_accepted(bytes: &[u8]) -> PacketRef<'_>
 {
     let start = accepted_start(bytes);
     PacketRef {
-        head: read_head(bytes, accepted_mss(bytes, start)),
+        head: read_head(bytes, accepted_options(bytes, start)),
         payload: &bytes[start..],
     }
 }
@@ -37,14 +37,18 @@ fn accepted_start(bytes: &[u8]) -> usize
     payload_start(bytes)
 }
 
-/// The segment size that the options offer.
+/// What the options say.
 #[tactic(auto, using(crate::proofs::Accepting::options_are_good), unfolding(seq_arith::specs::PacketGrammar::options_in))]
-fn accepted_mss(bytes: &[u8], start: usize) -> Option<u16>
+fn accepted_options(bytes: &[u8], start: usize) -> Options
     requires accepted { IsOk (reading bytes.now) }
     requires start { start ≡ payload_at bytes.now }
     requires behind { 40 ≤ start }
     requires within { start ≤ length bytes.now }
-    ensures { result ≡ mss_in 0 (options_in bytes.now) }
+    ensures mss { result.mss ≡ mss_in 0 (options_in bytes.now) }
+    ensures timestamps { result.timestamps ≡ timestamps_in 0 (options_in bytes.now) }
 {
-    offered_mss(&bytes[40..start]).unwrap_or(None)
+    read_options(&bytes[40..start]).unwrap_or(Options {
+        mss: None,
+        timestamps: None,
+    })
 }

@@ -3,14 +3,23 @@
 ghost use Rattle.std.specs.Prelude.{◌≡◌, ◌≤◌, ◌<◌, ◌+◌, ◌-◌, ◌*◌, ◌^◌, ◌≢◌, true, false, length, drop, slice_index, ◌∷◌, IfNone, IfSome};
 ghost use Rattle.std.specs.Option.{option_or};
 ghost use Rattle.seq_arith.specs.PacketGrammar.{ip_tests, tcp_tests, first_that_holds, segment_in, head_in, unless, reading, payload_at, options_in};
-ghost use Rattle.seq_arith.specs.PacketGrammar.{has_bad_option, mss_in};
+ghost use Rattle.seq_arith.specs.PacketGrammar.{has_bad_option, mss_in, timestamps_in};
 ghost use Rattle.segment_codec.specs.Options.{option_rest};
 ghost use Rattle.segment_codec.specs.Value.{said, seen};
 
 use crate::fields::{ip_checksum, read_long, read_word, tcp_checksum};
 use crate::{Head, PacketRef};
 use limits::PACKET;
-use seq_arith::{BadPacket, Seq};
+use seq_arith::{BadPacket, Seq, Timestamps};
+
+/// The options of a header that this project uses.
+#[derive(Clone, Copy)]
+pub(crate) struct Options {
+    /// The segment size that is offered.
+    pub mss: Option<u16>,
+    /// The timestamps.
+    pub timestamps: Option<Timestamps>,
+}
 
 /// Reads a packet, or returns the first test of the grammar that refuses it. It reads the payload once and copies none of it.
 #[tactic(auto, using(crate::proofs::Refusals::by_parts))]
@@ -65,7 +74,7 @@ pub(crate) fn read_tcp(bytes: &[u8]) -> Result<PacketRef<'_>, BadPacket>
     if start < 40 || bytes.len() < start {
         return Err(BadPacket::DataOffset);
     }
-    let Some(mss) = offered_mss(&bytes[40..start]) else {
+    let Some(options) = read_options(&bytes[40..start]) else {
         return Err(BadPacket::OptionLength);
     };
     if tcp_checksum(bytes) != 0 {
@@ -75,7 +84,7 @@ pub(crate) fn read_tcp(bytes: &[u8]) -> Result<PacketRef<'_>, BadPacket>
         return Err(BadPacket::TooLong);
     }
     Ok(PacketRef {
-        head: read_head(bytes, mss),
+        head: read_head(bytes, options),
         payload: &bytes[start..],
     })
 }
@@ -89,9 +98,10 @@ pub(crate) fn payload_start(bytes: &[u8]) -> usize
 }
 
 #[tactic(auto, unfolding(seq_arith::specs::PacketGrammar::head_in))]
-pub(crate) fn read_head(bytes: &[u8], mss: Option<u16>) -> Head
+pub(crate) fn read_head(bytes: &[u8], options: Options) -> Head
     requires long { 40 ≤ length bytes.now }
-    requires offered { mss ≡ mss_in 0 (options_in bytes.now) }
+    requires mss { options.mss ≡ mss_in 0 (options_in bytes.now) }
+    requires timestamps { options.timestamps ≡ timestamps_in 0 (options_in bytes.now) }
     ensures { said result ≡ head_in bytes.now }
 {
     Head {
@@ -103,27 +113,31 @@ pub(crate) fn read_head(bytes: &[u8], mss: Option<u16>) -> Head
         ack: Seq(read_long(bytes, 28)),
         flags: bytes[33],
         window: read_word(bytes, 34),
-        mss,
+        mss: options.mss,
+        timestamps: options.timestamps,
     }
 }
 
-/// The segment size that the options offer, if they do. `None` where an option's length is wrong.
-pub(crate) fn offered_mss(options: &[u8]) -> Option<Option<u16>>
+/// What the options say: of each kind the first. `None` where an option's length is wrong.
+pub(crate) fn read_options(options: &[u8]) -> Option<Options>
     ensures good { IfSome result (λ _. has_bad_option 0 options.now ≡ false) }
-    ensures offered { IfSome result (λ mss. mss ≡ mss_in 0 options.now) }
+    ensures mss { IfSome result (λ o. o.mss ≡ mss_in 0 options.now) }
+    ensures timestamps { IfSome result (λ o. o.timestamps ≡ timestamps_in 0 options.now) }
     ensures bad { IfNone result (has_bad_option 0 options.now ≡ true) }
 {
     let mut rest = options;
     let mut mss = None;
+    let mut timestamps = None;
     while let Some((kind, behind)) = rest.split_first() {
         if *kind == 0 {
-            return Some(mss);
+            return Some(Options { mss, timestamps });
         }
         let passed = bytes_behind(*kind, behind)?;
         mss = mss_after(mss, *kind, behind, passed);
+        timestamps = timestamps_after(timestamps, *kind, behind, passed);
         rest = &behind[passed..];
     }
-    Some(mss)
+    Some(Options { mss, timestamps })
 }
 
 /// How many bytes of an option follow its kind, which isn't 0. `None` where its length is wrong.
@@ -168,6 +182,28 @@ fn mss_after(found: Option<u16>, kind: u8, behind: &[u8], passed: usize) -> Opti
 {
     if found.is_none() && kind == 2 && passed == 3 {
         return Some(read_word(behind, 1));
+    }
+    found
+}
+
+/// The timestamps found so far, or those that this option gives.
+#[tactic(auto, using(crate::proofs::Options::timestamps_found, crate::proofs::Options::timestamps_passed))]
+fn timestamps_after(
+    found: Option<Timestamps>,
+    kind: u8,
+    behind: &[u8],
+    passed: usize,
+) -> Option<Timestamps>
+    requires goes_on { kind ≢ 0 }
+    requires within { passed ≤ length behind.now }
+    requires counted { passed ≡ option_rest kind behind.now }
+    ensures { option_or result (timestamps_in 0 (drop passed behind.now)) ≡ option_or found (timestamps_in 0 (kind ∷ behind.now)) }
+{
+    if found.is_none() && kind == 8 && passed == 9 {
+        return Some(Timestamps {
+            value: read_long(behind, 1),
+            echo: read_long(behind, 5),
+        });
     }
     found
 }

@@ -15,10 +15,11 @@ pub fn write_packet(head: &Head, payload: &[u8], out: &mut [u8]) -> usize
     requires fits { packet_length (segment_with head.now payload.now) ≤ longest_packet }
     ensures length { result ≡ packet_length (segment_with head.now payload.now) }
     ensures bytes { out.new ≡ spelling (segment_with head.now payload.now) ++ drop result out.old }
+    ensures front { take result out.new ≡ spelling (segment_with head.now payload.now) }
     // What was written is read back.
     ensures read { reading (take result out.new) ≡ Ok (segment_with head.now payload.now) }
 {
-    let start = payload_start(head.mss);
+    let start = payload_start(head);
     let len = start + payload.len();
     put_bytes(out, start, payload);
     write_header(head, &mut out[..len]);

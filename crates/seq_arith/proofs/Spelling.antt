@@ -4,8 +4,9 @@ use Rattle.std.specs.Prelude.{Option, None, Some, Ok, IfSome, slice_index, nat_e
 use Rattle.std.proofs.lemmas.Bool.{le-ltb, or_from}
 use Rattle.seq_arith.specs.Bytes.{two, four, word_at, long_at}
 use Rattle.seq_arith.specs.Checksum.{checksum}
+use Rattle.seq_arith.specs.declared.options.Timestamps.{Timestamps}
 use Rattle.seq_arith.specs.Packet.{Segment}
-use Rattle.seq_arith.specs.PacketGrammar.{payload_at, options_in, has_bad_option, mss_in, tcp_text, ip_tests, tcp_tests, head_in, segment_in, reading, mss_option, packet_length, spelled, spelling, IsSpellable}
+use Rattle.seq_arith.specs.PacketGrammar.{payload_at, options_in, has_bad_option, mss_in, timestamps_in, tcp_text, ip_tests, tcp_tests, head_in, segment_in, reading, mss_option, timestamps_option, options_of, packet_length, spelled, spelling, IsSpellable}
 use Rattle.seq_arith.proofs.Sums.{checked_in_place}
 use Rattle.seq_arith.proofs.Passing.{AllFail, passes, no_difference}
 
@@ -16,40 +17,66 @@ word_back n h = omega arith
 pub long_back : (n : ℕ) → n < 2 ^ 32 → 16777216 * (n / 16777216 % 256) + 65536 * (n / 65536 % 256) + 256 * (n / 256 % 256) + n % 256 ≡ n
 long_back n h = omega arith
 
--- a segment with this offered segment size, to go by cases on it
-abbrev with_mss : Option ℕ → Segment → Segment
-with_mss mss segment = record segment { head = record segment.head { mss = mss } }
+-- a segment with these options, to go by cases on them
+abbrev with_options : Option ℕ → Option Timestamps → Segment → Segment
+with_options mss timestamps segment = record segment { head = record segment.head { mss = mss; timestamps = timestamps } }
 
 pub size_of : (segment : Segment) (ip tcp : ℕ) → length (spelled segment ip tcp) ≡ packet_length segment
 unfolding spelled two four
-size_of segment ip tcp = omega (arith, length-append (mss_option segment.head.mss) segment.payload)
+size_of segment ip tcp = omega (arith, length-append (options_of segment.head) segment.payload)
 
-payload_at_of : (mss : Option ℕ) (segment : Segment) (ip tcp : ℕ)
-    → payload_at (spelled (with_mss mss segment) ip tcp) ≡ 40 + length (mss_option mss)
+payload_at_of : (mss : Option ℕ) (timestamps : Option Timestamps) (segment : Segment) (ip tcp : ℕ)
+    → payload_at (spelled (with_options mss timestamps segment) ip tcp) ≡ 40 + length (mss_option mss ++ timestamps_option timestamps)
 unfolding spelled two four payload_at
-payload_at_of None segment ip tcp = refl
-payload_at_of (Some mss) segment ip tcp = refl
+payload_at_of None None segment ip tcp = refl
+payload_at_of (Some mss) None segment ip tcp = refl
+payload_at_of None (Some timestamps) segment ip tcp = refl
+payload_at_of (Some mss) (Some timestamps) segment ip tcp = refl
 
-payload_of : (mss : Option ℕ) (segment : Segment) (ip tcp : ℕ)
-    → drop (payload_at (spelled (with_mss mss segment) ip tcp)) (spelled (with_mss mss segment) ip tcp) ≡ segment.payload
+payload_of : (mss : Option ℕ) (timestamps : Option Timestamps) (segment : Segment) (ip tcp : ℕ)
+    → drop (payload_at (spelled (with_options mss timestamps segment) ip tcp)) (spelled (with_options mss timestamps segment) ip tcp) ≡ segment.payload
 unfolding spelled two four payload_at
-payload_of None segment ip tcp = refl
-payload_of (Some mss) segment ip tcp = refl
+payload_of None None segment ip tcp = refl
+payload_of (Some mss) None segment ip tcp = refl
+payload_of None (Some timestamps) segment ip tcp = refl
+payload_of (Some mss) (Some timestamps) segment ip tcp = refl
 
-options_of : (mss : Option ℕ) (segment : Segment) (ip tcp : ℕ) → options_in (spelled (with_mss mss segment) ip tcp) ≡ mss_option mss
+options_spelled : (mss : Option ℕ) (timestamps : Option Timestamps) (segment : Segment) (ip tcp : ℕ)
+    → options_in (spelled (with_options mss timestamps segment) ip tcp) ≡ mss_option mss ++ timestamps_option timestamps
 unfolding spelled two four payload_at options_in
-options_of None segment ip tcp = refl
-options_of (Some mss) segment ip tcp = refl
+options_spelled None None segment ip tcp = refl
+options_spelled (Some mss) None segment ip tcp = refl
+options_spelled None (Some timestamps) segment ip tcp = refl
+options_spelled (Some mss) (Some timestamps) segment ip tcp = refl
 
-mss_option_good : (mss : Option ℕ) → has_bad_option 0 (mss_option mss) ≡ false
-unfolding two
-mss_option_good None = refl
-mss_option_good (Some mss) = refl
+options_good : (mss : Option ℕ) (timestamps : Option Timestamps) → has_bad_option 0 (mss_option mss ++ timestamps_option timestamps) ≡ false
+unfolding two four
+options_good None None = refl
+options_good (Some mss) None = refl
+options_good None (Some timestamps) = refl
+options_good (Some mss) (Some timestamps) = refl
 
-mss_option_read : (mss : Option ℕ) → IfSome mss (λ n. n < 2 ^ 16) → mss_in 0 (mss_option mss) ≡ mss
-unfolding two word_at
-mss_option_read None h = refl
-mss_option_read (Some mss) h = ap Some (word_back mss h)
+mss_read : (mss : Option ℕ) (timestamps : Option Timestamps) → IfSome mss (λ n. n < 2 ^ 16) → mss_in 0 (mss_option mss ++ timestamps_option timestamps) ≡ mss
+unfolding two four word_at
+mss_read None None h = refl
+mss_read (Some mss) None h = ap Some (word_back mss h)
+mss_read None (Some timestamps) h = refl
+mss_read (Some mss) (Some timestamps) h = ap Some (word_back mss h)
+
+both_back : (t : Timestamps) → t.value < 2 ^ 32 → t.echo < 2 ^ 32 → timestamps_in 0 (timestamps_option (Some t)) ≡ Some t
+unfolding four long_at
+both_back t value echo =
+    let first : 16777216 * (t.value / 16777216 % 256) + 65536 * (t.value / 65536 % 256) + 256 * (t.value / 256 % 256) + t.value % 256 ≡ t.value = long_back t.value value
+    in let second : 16777216 * (t.echo / 16777216 % 256) + 65536 * (t.echo / 65536 % 256) + 256 * (t.echo / 256 % 256) + t.echo % 256 ≡ t.echo = long_back t.echo echo
+    in λ j. Some (record { value = first j; echo = second j })
+
+timestamps_read : (mss : Option ℕ) (timestamps : Option Timestamps) → IfSome timestamps (λ t. (t.value < 2 ^ 32) × (t.echo < 2 ^ 32))
+    → timestamps_in 0 (mss_option mss ++ timestamps_option timestamps) ≡ timestamps
+unfolding two four long_at
+timestamps_read None None h = refl
+timestamps_read (Some mss) None h = refl
+timestamps_read None (Some timestamps) h = both_back timestamps h.0 h.1
+timestamps_read (Some mss) (Some timestamps) h = both_back timestamps h.0 h.1
 
 ip_sums : (segment : Segment) (ip tcp : ℕ) → ip ≡ checksum (take 20 (spelled segment 0 0)) → checksum (take 20 (spelled segment ip tcp)) ≡ 0
 unfolding spelled two four
@@ -63,17 +90,17 @@ pub size : (segment : Segment) → length (spelling segment) ≡ packet_length s
 unfolding spelling
 size segment = size_of segment (checksum (take 20 (spelled segment 0 0))) (checksum (tcp_text (spelled segment 0 0)))
 
-payload_place : (segment : Segment) → payload_at (spelling segment) ≡ 40 + length (mss_option segment.head.mss)
+payload_place : (segment : Segment) → payload_at (spelling segment) ≡ 40 + length (options_of segment.head)
 unfolding spelling
-payload_place segment = payload_at_of segment.head.mss segment (checksum (take 20 (spelled segment 0 0))) (checksum (tcp_text (spelled segment 0 0)))
+payload_place segment = payload_at_of segment.head.mss segment.head.timestamps segment (checksum (take 20 (spelled segment 0 0))) (checksum (tcp_text (spelled segment 0 0)))
 
-options : (segment : Segment) → options_in (spelling segment) ≡ mss_option segment.head.mss
+options : (segment : Segment) → options_in (spelling segment) ≡ options_of segment.head
 unfolding spelling
-options segment = options_of segment.head.mss segment (checksum (take 20 (spelled segment 0 0))) (checksum (tcp_text (spelled segment 0 0)))
+options segment = options_spelled segment.head.mss segment.head.timestamps segment (checksum (take 20 (spelled segment 0 0))) (checksum (tcp_text (spelled segment 0 0)))
 
 payload : (segment : Segment) → drop (payload_at (spelling segment)) (spelling segment) ≡ segment.payload
 unfolding spelling
-payload segment = payload_of segment.head.mss segment (checksum (take 20 (spelled segment 0 0))) (checksum (tcp_text (spelled segment 0 0)))
+payload segment = payload_of segment.head.mss segment.head.timestamps segment (checksum (take 20 (spelled segment 0 0))) (checksum (tcp_text (spelled segment 0 0)))
 
 version : (segment : Segment) → not (nat_eq (slice_index (spelling segment) 0 / 16) 4) ≡ false
 unfolding spelling spelled two
@@ -123,7 +150,7 @@ no_test_holds segment fits = (
                 or_from _ _ (le-ltb (payload_at (spelling segment)) 40 (omega (arith, payload_place segment)))
                     (le-ltb (length (spelling segment)) (payload_at (spelling segment)) (omega (arith, size segment, payload_place segment))),
                 (
-                  ap (has_bad_option 0) (options segment) ∙ mss_option_good segment.head.mss,
+                  ap (has_bad_option 0) (options segment) ∙ options_good segment.head.mss segment.head.timestamps,
                   (
                     no_difference _ _ (tcp_sum segment),
                     (
@@ -141,19 +168,19 @@ no_test_holds segment fits = (
   ),
 )
 
-abbrev record_of : (src dst sport dport seq ack flags window : ℕ) (mss : Option ℕ) (payload : List ℕ) → Segment
-record_of src dst sport dport seq ack flags window mss payload = record {
-  head = record { src = src; dst = dst; sport = sport; dport = dport; seq = seq; ack = ack; flags = flags; window = window; mss = mss };
+abbrev record_of : (src dst sport dport seq ack flags window : ℕ) (mss : Option ℕ) (timestamps : Option Timestamps) (payload : List ℕ) → Segment
+record_of src dst sport dport seq ack flags window mss timestamps payload = record {
+  head = record { src = src; dst = dst; sport = sport; dport = dport; seq = seq; ack = ack; flags = flags; window = window; mss = mss; timestamps = timestamps };
   payload = payload;
 }
 
 -- equal field by field
-joined : {src dst sport dport seq ack window : ℕ} {mss : Option ℕ} {payload : List ℕ} {segment : Segment}
+joined : {src dst sport dport seq ack window : ℕ} {mss : Option ℕ} {timestamps : Option Timestamps} {payload : List ℕ} {segment : Segment}
     → src ≡ segment.head.src → dst ≡ segment.head.dst → sport ≡ segment.head.sport → dport ≡ segment.head.dport → seq ≡ segment.head.seq
-    → ack ≡ segment.head.ack → window ≡ segment.head.window → mss ≡ segment.head.mss → payload ≡ segment.payload
-    → record_of src dst sport dport seq ack segment.head.flags window mss payload
-    ≡ record_of segment.head.src segment.head.dst segment.head.sport segment.head.dport segment.head.seq segment.head.ack segment.head.flags segment.head.window segment.head.mss segment.payload
-joined a b c d e f g h i = cc
+    → ack ≡ segment.head.ack → window ≡ segment.head.window → mss ≡ segment.head.mss → timestamps ≡ segment.head.timestamps → payload ≡ segment.payload
+    → record_of src dst sport dport seq ack segment.head.flags window mss timestamps payload
+    ≡ record_of segment.head.src segment.head.dst segment.head.sport segment.head.dport segment.head.seq segment.head.ack segment.head.flags segment.head.window segment.head.mss segment.head.timestamps segment.payload
+joined a b c d e f g h i j = cc
 
 segment_of_spelling : (segment : Segment) → IsSpellable segment → segment_in (spelling segment) ≡ segment
 unfolding segment_in head_in spelling spelled two four word_at long_at
@@ -165,8 +192,9 @@ segment_of_spelling segment fits =
     in let seq : long_at (spelling segment) 24 ≡ segment.head.seq = long_back segment.head.seq fits.seq
     in let ack : long_at (spelling segment) 28 ≡ segment.head.ack = long_back segment.head.ack fits.ack
     in let window : word_at (spelling segment) 34 ≡ segment.head.window = word_back segment.head.window fits.window
-    in let mss : mss_in 0 (options_in (spelling segment)) ≡ segment.head.mss = ap (mss_in 0) (options segment) ∙ mss_option_read segment.head.mss fits.mss
-    in joined src dst sport dport seq ack window mss (payload segment)
+    in let mss : mss_in 0 (options_in (spelling segment)) ≡ segment.head.mss = ap (mss_in 0) (options segment) ∙ mss_read segment.head.mss segment.head.timestamps fits.mss
+    in let timestamps : timestamps_in 0 (options_in (spelling segment)) ≡ segment.head.timestamps = ap (timestamps_in 0) (options segment) ∙ timestamps_read segment.head.mss segment.head.timestamps fits.timestamps
+    in joined src dst sport dport seq ack window mss timestamps (payload segment)
 
 pub spelling_is_read : (segment : Segment) → IsSpellable segment → reading (spelling segment) ≡ Ok segment
 spelling_is_read segment fits = passes (spelling segment) (no_test_holds segment fits) ∙ ap Ok (segment_of_spelling segment fits)

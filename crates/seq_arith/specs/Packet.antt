@@ -1,7 +1,8 @@
 -- What a TCP packet says: the value that its bytes spell (RFC 791, 3.1; RFC 9293, 3.1).
 use Rattle.limits.specs.Limits.{largest_segment, least_segment}
-use Rattle.std.specs.Prelude.{ℕ, Bool, Option, None, Some, List, ◌/◌, ◌%◌, ◌==◌, max, min}
+use Rattle.std.specs.Prelude.{ℕ, Bool, Option, None, Some, List, ◌/◌, ◌%◌, ◌-◌, ◌==◌, max, min}
 use Rattle.seq_arith.specs.declared.flags.TheConstants.{FIN, SYN, RST, ACK}
+use Rattle.seq_arith.specs.declared.options.Timestamps.{Timestamps}
 
 -- the fields of the two headers that this project uses. Numbers are modulo 2^32
 pub record Head : Type 0 where
@@ -14,6 +15,7 @@ pub record Head : Type 0 where
   pub flags : ℕ
   pub window : ℕ
   pub mss : Option ℕ
+  pub timestamps : Option Timestamps
 
 -- a segment with its addresses
 pub record Segment : Type 0 where
@@ -41,6 +43,15 @@ abbrev pub segment_size : Option ℕ → ℕ
 segment_size (Some mss) = max least_segment (min largest_segment mss)
 segment_size None = 536
 
+-- RFC 7323, 3.2 and appendix A: two NOPs and the timestamps option
+abbrev pub timestamps_length : ℕ
+timestamps_length = 12
+
+-- RFC 9293, 3.7.1: the size of a segment's text, which leaves room for the timestamps that each segment carries (RFC 7323, 3.2). It is at least 64
+abbrev pub text_size : Option ℕ → Option Timestamps → ℕ
+text_size mss None = segment_size mss
+text_size mss (Some timestamps) = max least_segment (segment_size mss - timestamps_length)
+
 -- the segment with one field changed
 abbrev pub with_seq : ℕ → Segment → Segment
 with_seq seq segment = record segment { head = record segment.head { seq = seq } }
@@ -50,3 +61,6 @@ with_ack ack segment = record segment { head = record segment.head { ack = ack }
 
 abbrev pub with_window : ℕ → Segment → Segment
 with_window window segment = record segment { head = record segment.head { window = window } }
+
+abbrev pub with_timestamps : Option Timestamps → Segment → Segment
+with_timestamps timestamps segment = record segment { head = record segment.head { timestamps = timestamps } }

@@ -8,6 +8,7 @@ use Rattle.seq_arith.specs.declared.BadPacket.TheVariants.{Short, Version, Heade
 use Rattle.seq_arith.specs.declared.BadPacket.TheVariants.{OptionLength, TcpChecksum, TooLong}
 use Rattle.seq_arith.specs.Bytes.{two, four, word_at, long_at}
 use Rattle.seq_arith.specs.Checksum.{checksum}
+use Rattle.seq_arith.specs.declared.options.Timestamps.{Timestamps}
 use Rattle.seq_arith.specs.Packet.{Head, Segment}
 
 -- where the payload begins, by the data offset
@@ -36,6 +37,16 @@ mss_in zero (kind ∷ bytes) =
     if kind == 0 then None
     else (if kind == 1 then mss_in 0 bytes
     else (if (kind == 2) && (slice_index bytes 0 == 4) then Some (word_at bytes 1) else mss_in (slice_index bytes 0 - 1) bytes))
+
+-- the timestamps that the first option of kind 8 and length 10 gives: TSval and TSecr (RFC 7323, 3.2)
+abbrev pub timestamps_in : ℕ → List ℕ → Option Timestamps
+timestamps_in before [] = None
+timestamps_in (suc before) (byte ∷ bytes) = timestamps_in before bytes
+timestamps_in zero (kind ∷ bytes) =
+    if kind == 0 then None
+    else (if kind == 1 then timestamps_in 0 bytes
+    else (if (kind == 8) && (slice_index bytes 0 == 10) then Some (record { value = long_at bytes 1; echo = long_at bytes 5 })
+    else timestamps_in (slice_index bytes 0 - 1) bytes))
 
 -- what the TCP checksum sums: the addresses, a zero, the protocol and the length of what follows, then the TCP header and the payload
 unfoldable pub tcp_text : List ℕ → List ℕ
@@ -82,6 +93,7 @@ head_in bytes = record {
   flags = slice_index bytes 33;
   window = word_at bytes 34;
   mss = mss_in 0 (options_in bytes);
+  timestamps = timestamps_in 0 (options_in bytes);
 }
 
 unfoldable pub segment_in : List ℕ → Segment
@@ -99,8 +111,17 @@ abbrev pub mss_option : Option ℕ → List ℕ
 mss_option None = []
 mss_option (Some mss) = 2 ∷ 4 ∷ mss / 256 % 256 ∷ mss % 256 ∷ []
 
+-- RFC 7323, appendix A: two NOPs in front of the option align both numbers
+abbrev pub timestamps_option : Option Timestamps → List ℕ
+timestamps_option None = []
+timestamps_option (Some timestamps) = 1 ∷ 1 ∷ 8 ∷ 10 ∷ (four timestamps.value ++ four timestamps.echo)
+
+-- the options of a head: the segment size, then the timestamps
+abbrev pub options_of : Head → List ℕ
+options_of head = mss_option head.mss ++ timestamps_option head.timestamps
+
 abbrev pub packet_length : Segment → ℕ
-packet_length segment = 40 + length (mss_option segment.head.mss) + length segment.payload
+packet_length segment = 40 + length (options_of segment.head) + length segment.payload
 
 -- the spelling with these two checksums: the flag "don't fragment", a time to live of 64, and zero in all fields that a head doesn't have
 unfoldable pub spelled : Segment → ℕ → ℕ → List ℕ
@@ -108,8 +129,8 @@ spelled segment ip_check tcp_check =
     (69 ∷ 0 ∷ two (packet_length segment)) ++ (0 ∷ 0 ∷ 64 ∷ 0 ∷ []) ++ (64 ∷ 6 ∷ two ip_check)
     ++ four segment.head.src ++ four segment.head.dst
     ++ two segment.head.sport ++ two segment.head.dport ++ four segment.head.seq ++ four segment.head.ack
-    ++ (16 * (5 + length (mss_option segment.head.mss) / 4) ∷ segment.head.flags ∷ two segment.head.window)
-    ++ two tcp_check ++ (0 ∷ 0 ∷ []) ++ mss_option segment.head.mss ++ segment.payload
+    ++ (16 * (5 + length (options_of segment.head) / 4) ∷ segment.head.flags ∷ two segment.head.window)
+    ++ two tcp_check ++ (0 ∷ 0 ∷ []) ++ options_of segment.head ++ segment.payload
 
 -- the one spelling of a segment
 unfoldable pub spelling : Segment → List ℕ
@@ -127,4 +148,5 @@ pub record IsSpellable (segment : Segment) : Type 0 where
   pub flags : segment.head.flags < 2 ^ 8
   pub window : segment.head.window < 2 ^ 16
   pub mss : IfSome segment.head.mss (λ mss. mss < 2 ^ 16)
+  pub timestamps : IfSome segment.head.timestamps (λ t. (t.value < 2 ^ 32) × (t.echo < 2 ^ 32))
   pub size : packet_length segment ≤ longest_packet

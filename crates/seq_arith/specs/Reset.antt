@@ -16,6 +16,7 @@ reset local peer seq ack flags = record {
   flags = flags;
   window = 0;
   mss = None;
+  timestamps = None;
 }
 
 -- <SEQ=SEG.ACK><CTL=RST>

@@ -13,4 +13,5 @@ said head = record {
   flags = head.flags;
   window = head.window;
   mss = head.mss;
+  timestamps = head.timestamps;
 }

@@ -4,11 +4,12 @@ ghost use Rattle.std.specs.Prelude.{◌≡◌};
 ghost use Rattle.seq_arith.specs.Value.{said};
 ghost use Rattle.seq_arith.specs.Reset.{reset, reset_at_ack, reset_behind};
 
-use crate::Seq;
 use crate::flags::{ACK, RST};
+use crate::{Seq, Timestamps};
 use ft_io::{Addr, Key};
 
-/// The fields of the two headers that this project uses (RFC 791, 3.1; RFC 9293, 3.1). A packet is written with no option but `mss`, if there is one.
+/// The fields of the two headers that this project uses (RFC 791, 3.1; RFC 9293, 3.1). A packet is written with
+/// no options but `mss` and `timestamps`, as far as they are there.
 #[derive(Clone, Copy)]
 pub struct Head {
     /// The source address, the first octet the highest.
@@ -29,6 +30,8 @@ pub struct Head {
     pub window: u16,
     /// The maximum segment size option, in bytes, if there is one.
     pub mss: Option<u16>,
+    /// The timestamps option, if there is one.
+    pub timestamps: Option<Timestamps>,
 }
 
 impl Head {
@@ -46,6 +49,7 @@ impl Head {
             flags,
             window: 0,
             mss: None,
+            timestamps: None,
         }
     }
 

@@ -10,7 +10,7 @@ pub use flags::{ACK, CWR, ECE, FIN, PSH, RST, SYN, URG, has};
 pub use head::Head;
 pub use kinds::{BadMsg, Field, Grammar, Kind};
 pub use mark::{BadMark, MarkKind};
-pub use options::segment_size;
+pub use options::{Timestamps, segment_size, text_size};
 pub use twin::{BadTwin, TwinKind};
 
 mod checksum;

@@ -5,3 +5,4 @@ pub mod Congestion
 pub mod Timing
 pub mod Profile
 pub mod Profiles
+pub mod Timestamping

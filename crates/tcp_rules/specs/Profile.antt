@@ -10,14 +10,16 @@ pub record Profile : Type 0 where
   pub delays : Bool
   -- the Data that one turn sends of a connection are a batch, of which the log answers only the last
   pub batches : Bool
+  -- the segments to a client whose own segments carry timestamps carry them too (RFC 7323)
+  pub timestamps : Bool
 
--- a timer that starts with one tick, ACKs at once, and an answer to each Data
+-- a timer that starts with one tick, ACKs at once, an answer to each Data, and no timestamps
 abbrev pub plain : Profile
-plain = record { measures = false; delays = false; batches = false }
+plain = record { measures = false; delays = false; batches = false; timestamps = false }
 
 -- for clients beyond a wide-area network
 abbrev pub wan : Profile
-wan = record { measures = true; delays = true; batches = true }
+wan = record { measures = true; delays = true; batches = true; timestamps = true }
 
 -- how server and log write their messages: to send batches takes the wide grammar
 abbrev pub grammar_of : Profile → Grammar

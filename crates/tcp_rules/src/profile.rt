@@ -12,7 +12,8 @@ pub enum Profile {
     /// Every retransmission timer starts with one tick, and every ACK is sent at once: for clients that are a few milliseconds away.
     Plain,
     /// The retransmission timer follows measured round trips, the losses of one flight are recovered one after another, the ACK of what isn't logged yet waits
-    /// for the log, and of the Data that one turn sends of a connection only the last is answered: for clients beyond a wide-area network.
+    /// for the log, and of the Data that one turn sends of a connection only the last is answered. Clients whose segments carry timestamps get them: for
+    /// clients beyond a wide-area network.
     Wan,
 }
 
@@ -46,5 +47,12 @@ impl Profile {
             Profile::Plain => Grammar::Plain,
             Profile::Wan => Grammar::Wide,
         }
+    }
+
+    /// Whether segments to a client whose own segments carry timestamps carry them too.
+    pub fn timestamps(self) -> bool
+        ensures { result ≡ (profile_of self).timestamps }
+    {
+        matches!(self, Profile::Wan)
     }
 }
