@@ -1,10 +1,10 @@
 -- A new connection's TCP stands at the point inside from its SYN on, and its SYN-ACK is the law's.
-use Rattle.std.proofs.Common.{◌≡◌, ℕ, ◌<◌, ◌+◌, ◌-◌, ◌%◌, ◌^◌, not, List, [], ◌∷◌, ◌++◌, length, min, max, Some, refl, sym, ap, subst, arith, ◌∙◌}
+use Rattle.tcp_rules.specs.declared.timestamping.Timestamping.{Timestamping}
+use Rattle.std.proofs.Common.{◌≡◌, ℕ, ◌+◌, ◌-◌, ◌^◌, not, List, [], ◌∷◌, ◌++◌, length, min, max, refl, sym, ap, subst, arith, ◌∙◌}
 use Rattle.std.specs.Prelude.{◌&&◌, ◌||◌, nat_lt, nat_le, if◌then◌else◌}
 use Rattle.ft_io.specs.declared.Addr.{Addr}
 use Rattle.tcp_rules.specs.Congestion.{initial_congestion, initial_window}
 use Rattle.seq_arith.specs.Message.{Numbers}
-use Rattle.seq_arith.specs.Number.{number_at}
 use Rattle.seq_arith.specs.Packet.{Segment}
 use Rattle.server_trait.specs.Service.{Machine}
 use Rattle.tcp_rules.specs.Profile.{Profile}
@@ -15,7 +15,7 @@ use Rattle.ft_model.specs.ResetAndEnd.{end_ticks_after}
 use Rattle.ft_model.specs.Network.{Packet}
 use Rattle.ft_model.specs.News.News.{Comes, Begins}
 use Rattle.ft_model.specs.Opening.{point_opened}
-use Rattle.ft_model.specs.Point.{Point, acknowledgement, released, target, window}
+use Rattle.ft_model.specs.Point.{Point, released, target}
 use Rattle.ft_model.specs.Segments.{syn_ack, segments_of, full_segments, resent, new_texts, new_fin, new_length, texts, fin_if_closed}
 use Rattle.ft_model.specs.Sending.{syn_acked_after, acknowledged_after, edge_after, wl1_after, wl2_after, is_third_duplicate, congestion_after, sent_after, sent_at_once, timing_after, is_partial_ack}
 use Rattle.ft_model.specs.Taken.{taken_after, early_after, fin_after}
@@ -28,24 +28,23 @@ use Rattle.endpoint_laws.proofs.FirstPoint.{begins_law}
 use Rattle.endpoint_laws.proofs.EndingLaw.{begun_named_law}
 use Rattle.endpoint_laws.proofs.Listening.{listens_at_listen_measuring}
 use Rattle.endpoint_laws.proofs.Timings.{initial_keeps}
-use Rattle.south_wrap.specs.Translation.{outward}
-use Rattle.south_wrap.specs.SouthPoint.{south_at}
 use Rattle.connection_laws.specs.Inside.{inside, GoesOn}
 use Rattle.connection_laws.specs.Traffic.{passed}
 use Rattle.connection_laws.specs.FirstSyn.{MayOpen, opened_syn, listens_with, BeginsInside}
 use Rattle.connection_laws.proofs.Sent.{same_lengths, nothing_at_once, never, nothing_long}
 use Rattle.connection_laws.proofs.Spliced.{size_stays}
+use Rattle.connection_laws.proofs.Leaving.{opening_is}
 use Rattle.connection_laws.proofs.Again.{none_sent}
 
 -- the point after the turn in which it becomes live
-abbrev begun : Profile → Numbers → Point
-begun profile numbers = record (point_opened profile numbers) { rest = first_base profile.measures }
+abbrev begun : Profile → Timestamping → Numbers → Point
+begun profile timestamping numbers = record (point_opened profile timestamping numbers) { rest = first_base profile.measures }
 
-begun_is : {State : Type 0} (service : Machine State) (profile : Profile) (server : Addr) (boot : ℕ) (numbers : Numbers) (q : Point) (sent : List Packet)
-    → LiveTurn service server boot Begins (point_opened profile numbers) q sent → q ≡ begun profile numbers
+begun_is : {State : Type 0} (service : Machine State) (profile : Profile) (timestamping : Timestamping) (server : Addr) (boot : ℕ) (numbers : Numbers) (q : Point) (sent : List Packet)
+    → LiveTurn service server boot Begins (point_opened profile timestamping numbers) q sent → q ≡ begun profile timestamping numbers
 unfolding taken_after early_after fin_after answered_after reads_answered_after syn_acked_after acknowledged_after edge_after wl1_after wl2_after congestion_after sent_after sent_at_once timing_after timing_noted interval_after rest_after must_run end_ticks_after
-begun_is service profile server boot numbers q sent l =
-    let lengths : q.lengths ≡ [] = same_lengths service (point_opened profile numbers) q l.reads (ap length l.taken) l.same.fetched l.fin in
+begun_is service profile timestamping server boot numbers q sent l =
+    let lengths : q.lengths ≡ [] = same_lengths service (point_opened profile timestamping numbers) q l.reads (ap length l.taken) l.same.fetched l.fin in
     let sent_is : q.sent ≡ 0 = l.sent_units ∙ (λ j. max 0 (min (target service q) (min (l.edge j) (q.una + q.congestion.cwnd))) + 0) ∙ none_sent (target service q) (q.una + q.congestion.cwnd) in
     let once : max 0 (min (target service q) (min q.edge (q.una + q.congestion.cwnd))) ≡ 0 =
     (λ j. max 0 (min (target service q) (min (l.edge j) (q.una + q.congestion.cwnd)))) ∙ nothing_at_once (target service q) (q.una + q.congestion.cwnd) in
@@ -73,6 +72,7 @@ begun_is service profile server boot numbers q sent l =
       congestion = l.congestion j;
       syn_acked = l.syn_acked j;
       timing = timing_is j;
+      timestamping = l.timestamping j;
       delays = l.same.delays j;
       batches = l.same.batches j;
       interval = (l.interval ∙ ap (λ t. t.base) timing_is) j;
@@ -82,16 +82,16 @@ begun_is service profile server boot numbers q sent l =
     }
 
 -- it is the one to which the SYN leads
-led_to : (profile : Profile) (local : Addr) (numbers : Numbers) → MayOpen numbers
-    → inside 0 numbers.sisn (begun profile numbers) ≡ point_begun profile.measures [] (numbers_with numbers.cisn numbers.sisn (opened_syn local numbers))
-led_to profile local numbers o =
-    λ j. record (inside 0 numbers.sisn (begun profile numbers)) {
+led_to : (profile : Profile) (timestamping : Timestamping) (local : Addr) (numbers : Numbers) → MayOpen numbers
+    → inside 0 numbers.sisn (begun profile timestamping numbers) ≡ point_begun profile.measures [] (numbers_with numbers.cisn numbers.sisn (opened_syn local numbers))
+led_to profile timestamping local numbers o =
+    λ j. record (inside 0 numbers.sisn (begun profile timestamping numbers)) {
       mss = size_stays numbers.mss o.least o.most j;
       congestion = initial_congestion profile.measures (size_stays numbers.mss o.least o.most j);
     }
 
-goes_on : (profile : Profile) (numbers : Numbers) → MayOpen numbers → GoesOn 0 numbers.sisn 0 (begun profile numbers)
-goes_on profile numbers o = record {
+goes_on : (profile : Profile) (timestamping : Timestamping) (numbers : Numbers) → MayOpen numbers → GoesOn 0 numbers.sisn 0 (begun profile timestamping numbers)
+goes_on profile timestamping numbers o = record {
   shift = refl;
   small = omega arith;
   sisn = o.sisn;
@@ -107,59 +107,41 @@ goes_on profile numbers o = record {
 }
 
 -- what leaves
-syn_ack_is : (local : Addr) (numbers : Numbers) (p : Point) → numbers.sisn < 2 ^ 32 → p.sisn ≡ numbers.sisn → outward (south_at 0 p) (syn_ack local p) ≡ syn_ack local p
-syn_ack_is local numbers p fits same =
-    let seq : (p.sisn + 0) % 2 ^ 32 ≡ p.sisn = omega (arith, fits, same) in
-    λ j. record {
-      head = record {
-        src = local.ip;
-        dst = p.key.ip;
-        sport = local.port;
-        dport = p.key.port;
-        seq = seq j;
-        ack = number_at p.cisn (acknowledgement p);
-        flags = 18;
-        window = window p;
-        mss = Some 1460;
-      };
-      payload = [];
-    }
-
-syn_ack_alone : {State : Type 0} (service : Machine State) (profile : Profile) (local : Addr) (numbers : Numbers)
-    → segments_of service local Begins (point_opened profile numbers) (begun profile numbers) ≡ syn_ack local (begun profile numbers) ∷ []
+syn_ack_alone : {State : Type 0} (service : Machine State) (profile : Profile) (timestamping : Timestamping) (local : Addr) (numbers : Numbers)
+    → segments_of service local Begins (point_opened profile timestamping numbers) (begun profile timestamping numbers) ≡ syn_ack local (begun profile timestamping numbers) ∷ []
 unfolding segments_of full_segments resent new_texts new_fin is_third_duplicate is_partial_ack sent_at_once
-syn_ack_alone service profile local numbers =
-    let p : Point = point_opened profile numbers in
-    let q : Point = begun profile numbers in
+syn_ack_alone service profile timestamping local numbers =
+    let p : Point = point_opened profile timestamping numbers in
+    let q : Point = begun profile timestamping numbers in
     let once : sent_at_once service p q ≡ 0 = nothing_at_once (target service q) (0 + initial_window numbers.mss) in
     let long : new_length service p q ≡ 0 = (λ j. min (once j) (released service q) - 0) ∙ nothing_long (released service q) in
     (λ j. syn_ack local q ∷ (texts service local q (long j) 0 (long j) ++ (if nat_lt (released service q) (once j) && nat_le 0 (released service q) then fin_if_closed service local q else [])))
     ∙ (λ j. syn_ack local q ∷ (if never (released service q) j && nat_le 0 (released service q) then fin_if_closed service local q else []))
 
-pub begins_inside : {State : Type 0} (service : Machine State) (profile : Profile) (boot : ℕ) (local : Addr) (numbers : Numbers) (q : Point) (calls : List Call) (sent : List Packet) → MayOpen numbers
-    → MayUse calls (received (listens_with profile.measures local numbers) (opened_syn local numbers)) → LiveTurn service local boot Begins (point_opened profile numbers) q sent
-    → BeginsInside service profile local numbers q calls
+pub begins_inside : {State : Type 0} (service : Machine State) (profile : Profile) (timestamping : Timestamping) (boot : ℕ) (local : Addr) (numbers : Numbers) (q : Point) (calls : List Call) (sent : List Packet) → MayOpen numbers
+    → MayUse calls (received (listens_with profile.measures local numbers) (opened_syn local numbers)) → LiveTurn service local boot Begins (point_opened profile timestamping numbers) q sent
+    → BeginsInside service profile timestamping local numbers q calls
 unfolding listening_measuring listening
-begins_inside service profile boot local numbers q calls sent o may l =
+begins_inside service profile timestamping boot local numbers q calls sent o may l =
     let e : Tcb = listens_with profile.measures local numbers in
     let syn : Segment = opened_syn local numbers in
     let t : Tcb = turned (Comes syn) calls e in
     let p : Point = point_begun profile.measures [] (numbers_with numbers.cisn numbers.sisn syn) in
     let listens = listens_at_listen_measuring profile.measures local numbers.sisn (2 ^ 24) in
     let b : BeginsAt p e syn calls = begins_law e numbers.sisn (2 ^ 24) numbers.cisn [] syn calls listens refl refl refl may in
-    let q_is : q ≡ begun profile numbers = begun_is service profile local boot numbers q sent l in
-    let at : StandsAt (inside 0 numbers.sisn (begun profile numbers)) t = subst (λ r. StandsAt r t) (sym (led_to profile local numbers o)) b.stands in
-    let segments : sent_in (Comes syn) calls e ≡ syn_ack local (begun profile numbers) ∷ [] =
-    b.segments ∙ ap (λ r. syn_ack local r ∷ []) (sym (led_to profile local numbers o)) in
+    let q_is : q ≡ begun profile timestamping numbers = begun_is service profile timestamping local boot numbers q sent l in
+    let at : StandsAt (inside 0 numbers.sisn (begun profile timestamping numbers)) t = subst (λ r. StandsAt r t) (sym (led_to profile timestamping local numbers o)) b.stands in
+    let segments : sent_in (Comes syn) calls e ≡ syn_ack local (inside 0 numbers.sisn (begun profile timestamping numbers)) ∷ [] =
+    b.segments ∙ ap (λ r. syn_ack local r ∷ []) (sym (led_to profile timestamping local numbers o)) in
     record {
       stands = record {
         begun = b.begun;
         between = b.between;
         stands = subst (λ r. StandsAt (inside 0 numbers.sisn r) t) (sym q_is) at;
-        goes_on = subst (GoesOn 0 numbers.sisn 0) (sym q_is) (goes_on profile numbers o);
+        goes_on = subst (GoesOn 0 numbers.sisn 0) (sym q_is) (goes_on profile timestamping numbers o);
       };
       named = begun_named_law e numbers.sisn (2 ^ 24) syn calls listens refl;
-      segments = subst (λ r. passed 0 r (sent_in (Comes syn) calls e) ≡ segments_of service local Begins (point_opened profile numbers) r) (sym q_is)
-          (ap (passed 0 (begun profile numbers)) segments ∙ ap (λ s. s ∷ []) (syn_ack_is local numbers (begun profile numbers) o.sisn refl) ∙ sym (syn_ack_alone service profile local numbers));
-      alone = subst (λ r. segments_of service local Begins (point_opened profile numbers) r ≡ syn_ack local r ∷ []) (sym q_is) (syn_ack_alone service profile local numbers);
+      segments = subst (λ r. passed 0 r (sent_in (Comes syn) calls e) ≡ segments_of service local Begins (point_opened profile timestamping numbers) r) (sym q_is)
+          (ap (passed 0 (begun profile timestamping numbers)) segments ∙ ap (λ s. s ∷ []) (opening_is local 0 numbers.sisn 0 (begun profile timestamping numbers) refl refl o.sisn) ∙ sym (syn_ack_alone service profile timestamping local numbers));
+      alone = subst (λ r. segments_of service local Begins (point_opened profile timestamping numbers) r ≡ syn_ack local r ∷ []) (sym q_is) (syn_ack_alone service profile timestamping local numbers);
     }

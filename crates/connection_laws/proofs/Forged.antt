@@ -1,4 +1,5 @@
 -- A forged segment at the next number, without text and with window 0, changes what it is to change, and nothing else.
+use Rattle.tcp_rules.specs.declared.timestamping.Timestamping.TheVariants.{Off}
 use Rattle.std.proofs.Common.{◌≡◌, ℕ, zero, suc, ◌<◌, ◌+◌, ◌-◌, ◌^◌, Bool, true, false, not, [], ◌++◌, length, take, drop, sum, min, max, refl, sym, ap, subst, arith, append-nil, ◌∙◌}
 use Rattle.std.specs.Prelude.{ℤ, pos, ◌+ℤ◌, ◌==◌, ◌&&◌, ◌||◌, nat_abs, nat_lt, int_lt, int_le, nat_le, if◌then◌else◌}
 use Rattle.std.proofs.lemmas.Int.{ints}
@@ -22,6 +23,7 @@ use Rattle.ft_io.proofs.Choices.{if_false}
 use Rattle.ft_io.proofs.Numbers.{plus_none}
 use Rattle.ft_model.proofs.StreamAgreement.{drop_nothing}
 use Rattle.endpoint_laws.proofs.FirstPoint.{none_more}
+use Rattle.ft_model.proofs.Stamped.{stays_off}
 
 -- a service that writes nothing
 abbrev pub silent : Machine ℕ
@@ -49,6 +51,7 @@ pub record IsFresh (p : Point) : Type 0 where
   pub fetched : p.fetched ≡ length p.taken
   pub wl1 : p.syn_acked ≡ true → p.wl1 ≡ pos (length p.taken)
   pub timed : p.timing.timed ≡ false
+  pub timestamping : p.timestamping ≡ Off
   pub rest : p.syn_acked ≡ true → p.rest ≡ 0
 
 take_none : (n : ℕ) → take {A = ℕ} n [] ≡ []
@@ -224,6 +227,7 @@ forged_laws p segment fin f s few =
       sent = f.sent ∙ at_once_none (target silent (after_forged fin p)) p.congestion.cwnd
           ∙ sym (λ j. max (f.sent j) (min (target silent (after_forged fin p)) (min (f.edge j) (f.una j + p.congestion.cwnd))) + 0);
       timing = sym (timing_stays p (after_forged fin p) segment f.timed again none);
+      timestamping = f.timestamping ∙ sym (stays_off (Comes segment) p f.timestamping);
       interval = λ j. if anew j then p.timing.base else p.interval;
       rest = sym (λ j. if nat_lt (f.una j) (max (f.sent j) (length (run_is p f.lengths j).output + (if (run_is p f.lengths j).closed then 1 else 0)))
           then (if (p.rest == 0 || (nat_lt p.una p.una || (true && not p.syn_acked))) || false then interval_after (Comes segment) p (after_forged fin p) else p.rest) else 0);

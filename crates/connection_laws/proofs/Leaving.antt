@@ -1,7 +1,10 @@
 -- What the inner TCP sends is, mapped outward, what the laws ask of the connection.
 use Rattle.std.proofs.Common.{◌≡◌, ℕ, zero, suc, ◌<◌, ◌≤◌, ◌+◌, ◌-◌, ◌%◌, ◌^◌, Bool, true, false, not, List, [], ◌∷◌, ◌++◌, take, drop, map, min, max, refl, ap, arith, drop-drop, ◌∙◌}
-use Rattle.std.specs.Prelude.{◌==◌, ◌&&◌, ◌||◌, nat_lt, nat_le, Some, None, if◌then◌else◌}
+use Rattle.std.specs.Prelude.{◌==◌, ◌&&◌, ◌||◌, nat_lt, nat_le, Option, Some, None, if◌then◌else◌}
 use Rattle.std.specs.List.{list_any}
+use Rattle.std.specs.Option.{option_or}
+use Rattle.seq_arith.specs.declared.options.Timestamps.{Timestamps}
+use Rattle.tcp_rules.specs.Timestamping.{timestamps_sent}
 use Rattle.std.proofs.lemmas.List.{map-append}
 use Rattle.ft_io.specs.declared.Addr.{Addr}
 use Rattle.seq_arith.specs.Number.{number_at}
@@ -20,6 +23,11 @@ use Rattle.connection_laws.proofs.Meets.{lt_less, once_less}
 use Rattle.connection_laws.proofs.Swallowed.{inside_runs, inside_target, inside_released}
 use Rattle.ft_io.proofs.Booleans.{not_true, left_false, right_false}
 
+-- TCP's segments have no timestamps of their own
+carries : (timestamps : Option Timestamps) → option_or timestamps None ≡ timestamps
+carries None = refl
+carries (Some timestamps) = refl
+
 number_is : (i delta sisn u k : ℕ) → (i + delta) % 2 ^ 32 ≡ (sisn + u) % 2 ^ 32 → (number_at i k + delta) % 2 ^ 32 ≡ number_at sisn (k + u)
 number_is i delta sisn u k shift = omega (arith, shift)
 
@@ -37,6 +45,7 @@ segment_is server u i delta q k flags payload shift = λ j. record {
     flags = flags;
     window = window q;
     mss = None;
+    timestamps = carries (timestamps_sent q.timestamping) j;
   };
   payload = payload;
 }
@@ -119,7 +128,7 @@ fin_if_is service server u i delta q shift given =
     ap (λ r. map (outward (south_at delta q)) (if r.closed then fin_segment (swallowing u service) server (inside u i q) ∷ [] else [])) (inside_runs service u i q)
     ∙ outs_if (outward (south_at delta q)) (answered_run service q).closed _ _ [] [] (fin_is service server u i delta q shift given) refl
 
-opening_is : (server : Addr) (u i delta : ℕ) (q : Point) → u ≡ 0 → (i + delta) % 2 ^ 32 ≡ (q.sisn + u) % 2 ^ 32 → q.sisn < 2 ^ 32
+pub opening_is : (server : Addr) (u i delta : ℕ) (q : Point) → u ≡ 0 → (i + delta) % 2 ^ 32 ≡ (q.sisn + u) % 2 ^ 32 → q.sisn < 2 ^ 32
     → outward (south_at delta q) (syn_ack server (inside u i q)) ≡ syn_ack server q
 opening_is server u i delta q none shift fits =
     let seq_is : (i + delta) % 2 ^ 32 ≡ q.sisn = omega (arith, none, shift, fits) in
@@ -134,6 +143,7 @@ opening_is server u i delta q none shift fits =
         flags = 18;
         window = window q;
         mss = Some 1460;
+        timestamps = carries (timestamps_sent q.timestamping) j;
       };
       payload = [];
     }

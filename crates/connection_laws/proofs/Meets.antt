@@ -19,6 +19,7 @@ use Rattle.ft_model.specs.Sending.{syn_acked_after, acknowledged_after, edge_aft
 use Rattle.ft_model.specs.Timer.{timing_noted, must_run, interval_after, rest_after, is_tick, expires, probes, is_set_anew}
 use Rattle.ft_model.specs.Segments.{repeats_syn}
 use Rattle.ft_model.specs.Connection.{LiveTurn}
+use Rattle.ft_model.proofs.Stamped.{stays_off}
 use Rattle.connection_laws.specs.Inside.{swallowing, inside, GoesOn}
 use Rattle.connection_laws.specs.Traffic.{news_inside}
 use Rattle.south_wrap.specs.Translation.{inward}
@@ -355,6 +356,7 @@ laws_inside service server boot u i delta news p q sent g f above given l =
           ∙ sym ((λ j. max (p.sent - u) (min (target_is j) (min (q.edge - u) (q.una - u + q.congestion.cwnd))) + (if probe j then 1 else 0))
           ∙ sent_less u p.sent (target service q) q.edge q.una q.congestion.cwnd (probes news p) (omega (arith, g.una, g.order)) above);
       timing = l.timing ∙ sym timing;
+      timestamping = sym (stays_off inner (inside u i p) refl);
       interval = l.interval ∙ sym ticks;
       rest = l.rest ∙ sym (λ j. if runs j
           then (if anew j || m.expires j then ticks j else (if m.ticks j then p.rest - 1 else p.rest))

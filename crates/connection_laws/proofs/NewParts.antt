@@ -1,4 +1,5 @@
 -- The start of a new connection: its parts stand at the point to which the SYN leads.
+use Rattle.tcp_rules.specs.declared.timestamping.Timestamping.{Timestamping}
 use Rattle.std.proofs.Common.{◌≡◌, ℕ, ◌≤◌, ◌+◌, ◌-◌, ◌^◌, inl, Bool, false, List, [], ◌∷◌, ◌++◌, length, drop, take, max, refl, sym, ap, subst, arith, ◌∙◌}
 use Rattle.std.specs.Prelude.{◌&&◌, ◌||◌, if◌then◌else◌}
 use Rattle.std.proofs.lemmas.Bool.{false≢true}
@@ -81,14 +82,14 @@ alone_or ack_pending bare x xs ys a b = (λ j. or_bare ack_pending bare ((a ∙ 
 at_none : (n : ℕ) → n ≡ 0 → max 0 0 ≡ n + 0
 at_none n h = omega (arith, h)
 
-pub starts_together : {S : Type 0} (service : Machine S) (profile : Profile) (boot : ℕ) (local : Addr) (numbers : Numbers) (old new : NorthState S) (reads : List ReadRecord) (t : Tcb) → MayOpen numbers
-    → NorthStands service (point_opened profile numbers) 0 old → old.shut ≡ false
+pub starts_together : {S : Type 0} (service : Machine S) (profile : Profile) (timestamping : Timestamping) (boot : ℕ) (local : Addr) (numbers : Numbers) (old new : NorthState S) (reads : List ReadRecord) (t : Tcb) → MayOpen numbers
+    → NorthStands service (point_opened profile timestamping numbers) 0 old → old.shut ≡ false
     → NorthTurns service.after tcp_reader tcp_writer 0 old (received (listens_with profile.measures local numbers) (opened_syn local numbers)) reads new t → new.run.made ≤ 2 ^ 24
-    → PartsTurn service local boot 0 numbers.sisn 0 Begins (point_opened profile numbers) (lengths_of reads) new t
+    → PartsTurn service local boot 0 numbers.sisn 0 Begins (point_opened profile timestamping numbers) (lengths_of reads) new t
 unfolding taken_after fin_after acknowledged_after
-starts_together service profile boot local numbers old new reads t o st open_still turns few =
+starts_together service profile timestamping boot local numbers old new reads t o st open_still turns few =
     let ks : List ℕ = lengths_of reads in
-    let p : Point = point_opened profile numbers in
+    let p : Point = point_opened profile timestamping numbers in
     let q : Point = settled service Begins p ks in
     let b : Point = reading [] q in
     let m : Tcb = received (listens_with profile.measures local numbers) (opened_syn local numbers) in
@@ -115,7 +116,7 @@ starts_together service profile boot local numbers old new reads t o st open_sti
     let at_once : tcp_out Begins p q t1 ≡ leaving t1 =
     λ j. if waits_segment (is_delayed Begins p q) Begins p q refl refl j then full_out t1 else leaving t1 in
     let l = goes service local boot Begins p ks turn.makes in
-    let begins : BeginsInside service profile local numbers q calls = begins_inside service profile boot local numbers q calls _ o by.1.may l in
+    let begins : BeginsInside service profile timestamping local numbers q calls = begins_inside service profile timestamping boot local numbers q calls _ o by.1.may l in
     subst (λ x. PartsTurn service local boot 0 numbers.sisn 0 Begins p ks new x) (sym by.0)
     (record {
       after = q;

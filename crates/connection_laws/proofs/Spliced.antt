@@ -164,6 +164,7 @@ begun_fresh measures local e i = record {
   fetched = refl;
   wl1 = λ h. absurd (false≢true h);
   timed = refl;
+  timestamping = refl;
   rest = λ h. absurd (false≢true h);
 }
 
@@ -179,6 +180,7 @@ acked_fresh measures local e i = record {
   fetched = refl;
   wl1 = λ h. refl;
   timed = refl;
+  timestamping = refl;
   rest = λ h. refl;
 }
 
@@ -262,6 +264,7 @@ at_entry service profile local e i t g st =
       rest = st.rest;
       timing = st.timing;
       delays = st.delays;
+      timestamping = refl;
     }
 
 -- nothing is written yet

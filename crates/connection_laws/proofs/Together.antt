@@ -83,6 +83,7 @@ goes service server boot news p ks makes = record {
   congestion = refl;
   sent_units = refl;
   timing = refl;
+  timestamping = refl;
   interval = refl;
   rest = refl;
   end_ticks = refl;

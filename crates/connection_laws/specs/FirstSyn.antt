@@ -1,4 +1,5 @@
 -- How a new connection begins: its TCP receives the SYN with the logged numbers, and sends the SYN-ACK (RFC 9293, 3.10.7.2).
+use Rattle.tcp_rules.specs.declared.timestamping.Timestamping.{Timestamping}
 use Rattle.limits.specs.Limits.{largest_segment, least_segment, longest_stream}
 use Rattle.std.specs.Prelude.{Bool, ◌≡◌, ◌≤◌, ◌<◌, ◌^◌, List, [], ◌∷◌}
 use Rattle.ft_io.specs.declared.Addr.{Addr}
@@ -33,10 +34,10 @@ listens_with measures local numbers = listening_measuring measures local numbers
 
 -- output begins at its start, with the initial sequence number that the client knows. What is sent, as the client receives it, is what the law says, and the
 -- connection adds nothing
-pub record BeginsInside {State : Type 0} (service : Machine State) (profile : Profile) (local : Addr) (numbers : Numbers) (q : Point)
-    (calls : List Call) : Type 0 where
+pub record BeginsInside {State : Type 0} (service : Machine State) (profile : Profile) (timestamping : Timestamping) (local : Addr) (numbers : Numbers)
+    (q : Point) (calls : List Call) : Type 0 where
   pub stands : StandsInside 0 numbers.sisn 0 q (turned (Comes (opened_syn local numbers)) calls (listens_with profile.measures local numbers))
   pub named : IsNamedRightly (turned (Comes (opened_syn local numbers)) calls (listens_with profile.measures local numbers))
   pub segments : passed 0 q (sent_in (Comes (opened_syn local numbers)) calls (listens_with profile.measures local numbers))
-      ≡ segments_of service local Begins (point_opened profile numbers) q
-  pub alone : segments_of service local Begins (point_opened profile numbers) q ≡ syn_ack local q ∷ []
+      ≡ segments_of service local Begins (point_opened profile timestamping numbers) q
+  pub alone : segments_of service local Begins (point_opened profile timestamping numbers) q ≡ syn_ack local q ∷ []

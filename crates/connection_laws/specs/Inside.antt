@@ -1,6 +1,7 @@
 -- What the inner TCP of a wrapped connection sees: the same connection with an initial sequence number of its own. Its output continues where the restart
 -- continued, its user writes all output except what was acknowledged before, and all that is taken may be acknowledged (FT-TCP, INFOCOM 2001: the restarted TCP
 -- counts from a number of its own, and the wrappers hide the difference).
+use Rattle.tcp_rules.specs.declared.timestamping.Timestamping.TheVariants.{Off}
 use Rattle.limits.specs.Limits.{longest_stream}
 use Rattle.std.specs.Prelude.{◌≡◌, ℕ, false, ◌+◌, ◌-◌, ◌%◌, ◌^◌, ◌<◌, ◌≤◌, [], drop, length}
 use Rattle.server_trait.specs.Service.{Machine, Served, Run}
@@ -25,7 +26,7 @@ abbrev pub swallowed_run : {State : Type 0} → ℕ → Run State → Run (State
 swallowed_run u run = record { state = (run.state, u - length run.output); output = drop u run.output; closed = run.closed }
 
 -- the point inside: the server's initial sequence number is i, output counts from u on, and TCP, which knows of no log, may acknowledge all that it took, and
--- delays no ACK. It knows of no earlier incarnation either
+-- delays no ACK and sends no timestamps. It knows of no earlier incarnation either
 abbrev pub inside : (u i : ℕ) → Point → Point
 inside u i p =
     record p {
@@ -38,6 +39,7 @@ inside u i p =
       wl2 = p.wl2 - u;
       delays = false;
       batches = false;
+      timestamping = Off;
     }
 
 -- The output of a connection continues inside at u, with the initial sequence number i: delta is the difference of one unit's sequence numbers, and u isn't

@@ -19,7 +19,18 @@ use Rattle.endpoint_laws.specs.Turn.{turned}
 -- a segment of the client with these numbers, no text and window 0
 abbrev pub forged : Key → Addr → (seq ack flags : ℕ) → (mss : Option ℕ) → Segment
 forged key local seq ack flags mss = record {
-  head = record { src = key.ip; dst = local.ip; sport = key.port; dport = local.port; seq = seq; ack = ack; flags = flags; window = 0; mss = mss };
+  head = record {
+    src = key.ip;
+    dst = local.ip;
+    sport = key.port;
+    dport = local.port;
+    seq = seq;
+    ack = ack;
+    flags = flags;
+    window = 0;
+    mss = mss;
+    timestamps = None;
+  };
   payload = [];
 }
 

@@ -5,6 +5,7 @@ ghost use Rattle.std.specs.Prelude.{◌≡◌, ◌≤◌, ◌<◌, ◌^◌, ◌+
 ghost use Rattle.ft_io.specs.declared.Addr.{Addr};
 ghost use Rattle.server_trait.specs.Service.{machine};
 ghost use Rattle.tcp_rules.specs.Profile.{Profile};
+ghost use Rattle.tcp_rules.specs.declared.timestamping.Timestamping.{Timestamping};
 ghost use Rattle.ft_model.specs.Log.{Entry};
 ghost use Rattle.ft_model.specs.Restart.{point_of, resumed_at};
 ghost use Rattle.ft_model.specs.Network.{Packet};
@@ -61,11 +62,11 @@ pub fn splices_stand_at_the_entry<S: Service>()
 
 /// A new connection begins with its SYN: its TCP is at the point inside, with delta 0, and sends only the law's SYN-ACK.
 pub fn new_connections_begin_by_their_syn<S: Service>()
-    ensures { (fresh : S) (profile : Profile) (boot : ℕ) (local : Addr) (numbers : Numbers) (after : Point) (calls : List Call) (sent : List Packet)
-        → MayOpen numbers
+    ensures { (fresh : S) (profile : Profile) (timestamping : Timestamping) (boot : ℕ) (local : Addr) (numbers : Numbers) (after : Point)
+        (calls : List Call) (sent : List Packet) → MayOpen numbers
         → MayUse calls (received (listens_with profile.measures local numbers) (opened_syn local numbers))
-        → LiveTurn (machine fresh S.after S.greeting) local boot Begins (point_opened profile numbers) after sent
-        → BeginsInside (machine fresh S.after S.greeting) profile local numbers after calls }
+        → LiveTurn (machine fresh S.after S.greeting) local boot Begins (point_opened profile timestamping numbers) after sent
+        → BeginsInside (machine fresh S.after S.greeting) profile timestamping local numbers after calls }
 {}
 
 /// In the turn in which TCP becomes CLOSED, since it has taken the client's FIN and its own is acknowledged, TCP sends nothing, and the connection is over. A
@@ -107,12 +108,12 @@ pub fn connections_turn_by_their_parts<S: Service>()
 
 /// A new connection starts in the same way, from the SYN that its TCP has received: only its SYN-ACK is sent.
 pub fn new_connections_start_with_their_parts<S: Service>()
-    ensures { (fresh : S) (profile : Profile) (boot : ℕ) (local : Addr) (numbers : Numbers) (old new : NorthState S) (reads : List ReadRecord) (t : Tcb)
-        → MayOpen numbers
-        → NorthStands (machine fresh S.after S.greeting) (point_opened profile numbers) 0 old → old.shut ≡ false
+    ensures { (fresh : S) (profile : Profile) (timestamping : Timestamping) (boot : ℕ) (local : Addr) (numbers : Numbers) (old new : NorthState S)
+        (reads : List ReadRecord) (t : Tcb) → MayOpen numbers
+        → NorthStands (machine fresh S.after S.greeting) (point_opened profile timestamping numbers) 0 old → old.shut ≡ false
         → NorthTurns S.after tcp_reader tcp_writer 0 old (received (listens_with profile.measures local numbers) (opened_syn local numbers)) reads new t
         → new.run.made ≤ longest_stream
-        → PartsTurn (machine fresh S.after S.greeting) local boot 0 numbers.sisn 0 Begins (point_opened profile numbers) (lengths_of reads) new t }
+        → PartsTurn (machine fresh S.after S.greeting) local boot 0 numbers.sisn 0 Begins (point_opened profile timestamping numbers) (lengths_of reads) new t }
 {}
 
 /// At a tick the north wrapper needs no turn, since nothing is due between two turns, and the connection adds nothing.

@@ -78,6 +78,7 @@ stands_somewhere e fits between =
       rest = refl;
       timing = refl;
       delays = refl;
+      timestamping = refl;
     }
 
 pub kept_law : (news : News) (calls : List Call) (e : Tcb) → e.receiving.irs < 2 ^ 32 → has_begun e.name ≡ true → IsBetweenTurns e → IsUsualNews news e

@@ -1,4 +1,5 @@
 -- What a turn's news make of an endpoint that stands at a point: they lead it to where the laws lead the point, and say what is due.
+use Rattle.ft_model.specs.Timestamps.{timestamping_after}
 use Rattle.std.proofs.Common.{◌≡◌, ℕ, ◌≤◌, ◌+◌, ◌-◌, Bool, true, false, not, Option, Some, None, List, [], ◌∷◌, length, max, min, ◌*◌, refl, sym, ap, subst, arith, ◌∙◌}
 use Rattle.std.specs.Prelude.{pos, ◌+ℤ◌, ◌==◌, ◌&&◌, ◌||◌, nat_abs, nat_lt, int_lt, if◌then◌else◌}
 use Rattle.std.proofs.lemmas.Bool.{false≢true, or_left}
@@ -52,6 +53,7 @@ moved news p = record p {
   wl1 = wl1_after news p;
   wl2 = wl2_after news p;
   congestion = congestion_after news p;
+  timestamping = timestamping_after news p;
 }
 
 -- an endpoint after a turn's news

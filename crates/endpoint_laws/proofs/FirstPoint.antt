@@ -190,6 +190,7 @@ opened_turn measures local iss limit cisn fetched syn m u o a bounds whole numbe
       sisn = sends.sisn;
       receives = receives;
       answered = omega arith;
+      timestamping = refl;
     } in (
       between_again u begun bounds probes last (omega (arith, interval, (initial_keeps measures).base)),
       record {
@@ -205,6 +206,7 @@ opened_turn measures local iss limit cisn fetched syn m u o a bounds whole numbe
         timing = sym timing ∙ sym (timing_law u begun bounds probes
             ∙ if_false _ _ _ (none_timed u.sending.sent (target u.sending) u.sending.edge (u.sending.una + u.sending.congestion.cwnd) shut));
         delays = refl;
+        timestamping = refl;
       },
       syn_ack_leaves p u tells begun (a.retransmission_due ∙ o.retransmission_due) probe (a.reset_reply ∙ o.reset_reply) syn_acked (omega (arith, a.sends.edge, o.edge))
           ∙ ap (λ l. syn_ack l p ∷ []) (a.local ∙ o.local_is),

@@ -1,4 +1,5 @@
 -- An endpoint before the flush of a turn that leads from one point of `ft_model` to another.
+use Rattle.tcp_rules.specs.declared.timestamping.Timestamping.TheVariants.{Off}
 use Rattle.std.specs.Prelude.{◌≡◌, ◌-◌, ◌≤◌, Bool, true, ◌&&◌, ◌||◌, not, nat_lt, length}
 use Rattle.server_trait.specs.Service.{Machine}
 use Rattle.ft_model.specs.Point.{Point}
@@ -26,6 +27,7 @@ pub record Flushes {State : Type 0} (service : Machine State) (news : News) (bef
   pub sends : SendsAt after u
   pub used : IsUsedAt service after u
   pub sent : before.sent ≡ u.sending.sent
+  pub timestamping : after.timestamping ≡ Off
   pub retransmission_due : u.retransmission_due ≡ ((expires news before || resends news before) && waits_for_ack before after)
   pub probe : u.probe ≡ (expires news before && not (waits_for_ack before after))
   pub resends : resends news before ≡ true → waits_for_ack before after ≡ true

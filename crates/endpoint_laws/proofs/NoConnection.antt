@@ -340,6 +340,7 @@ syn_is local remote iss limit = λ i. record {
     flags = 2;
     window = first_window limit i;
     mss = Some 1460;
+    timestamps = None;
   };
   payload = [];
 }

@@ -56,6 +56,7 @@ after_meets_laws service news before n = record {
   congestion = refl;
   sent = refl;
   timing = refl;
+  timestamping = refl;
   interval = refl;
   rest = refl;
 }

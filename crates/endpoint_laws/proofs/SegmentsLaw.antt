@@ -1,4 +1,6 @@
 -- What leaves at the end of a turn, but for a bare segment, is what the laws of `ft_model` want of the points before and after it.
+use Rattle.tcp_rules.specs.Timestamping.{timestamps_sent}
+use Rattle.tcp_rules.specs.declared.timestamping.Timestamping.TheVariants.{Off}
 use Rattle.std.proofs.Common.{◌≡◌, ℕ, zero, suc, ◌<◌, ◌≤◌, ◌+◌, ◌-◌, ◌%◌, ◌^◌, Bool, true, false, not, List, [], ◌∷◌, ◌++◌, length, take, drop, max, min, Some, None, refl, sym, ap, arith, append_assoc, append-nil, drop-drop, ⊎_elim, inl, inr, ◌∙◌}
 use Rattle.std.specs.Prelude.{◌==◌, ◌&&◌, ◌||◌, ◌⊎◌, nat_lt, nat_le, if◌then◌else◌}
 use Rattle.std.proofs.lemmas.List.{drop-take, take-take}
@@ -253,9 +255,10 @@ pub record Tells (p : Point) (u : Tcb) : Type 0 where
   pub sisn : p.sisn ≡ u.sending.iss
   pub receives : ReceivesAt p u
   pub answered : taken_units p ≤ p.answered
+  pub timestamping : p.timestamping ≡ Off
 
 tells : {State : Type 0} {service : Machine State} {news : News} {before after : Point} {u : Tcb} → Flushes service news before after u → Tells after u
-tells f = record { ip = f.ip; port = f.port; sisn = f.sends.sisn; receives = f.receives; answered = f.used.answered }
+tells f = record { ip = f.ip; port = f.port; sisn = f.sends.sisn; receives = f.receives; answered = f.used.answered; timestamping = f.timestamping }
 
 head_at_is : (p : Point) (u : Tcb) → Tells p u → (seq flags : ℕ) → head_at u seq flags ≡ model.head_to u.local p seq flags None
 unfolding head_at
@@ -276,6 +279,7 @@ head_at_is p u t seq flags =
       flags = flags;
       window = open_to i;
       mss = None;
+      timestamps = ap timestamps_sent (sym t.timestamping) i;
     }
 
 head_is : {State : Type 0} {service : Machine State} {news : News} {before after : Point} {u : Tcb} → Flushes service news before after u

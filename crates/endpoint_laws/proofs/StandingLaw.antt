@@ -18,6 +18,7 @@ use Rattle.ft_model.specs.Point as point
 use Rattle.ft_model.specs.News.News.{Comes}
 use Rattle.ft_model.specs.Taken as model
 use Rattle.ft_model.specs.Sending as sender
+use Rattle.ft_model.specs.Timestamps.{timestamping_after}
 use Rattle.tcp_buffers.specs.Near.{IsNearFirst}
 use Rattle.tcp_endpoint.specs.States.{has_begun}
 use Rattle.tcp_endpoint.specs.ReceiveHalf.{Receiving, taken, next, receive_edge, advertised_edge, came, with_came}
@@ -425,6 +426,7 @@ point_after segment p = record p {
   wl1 = sender.wl1_after (Comes segment) p;
   wl2 = sender.wl2_after (Comes segment) p;
   congestion = sender.congestion_after (Comes segment) p;
+  timestamping = timestamping_after (Comes segment) p;
 }
 
 receives_after : (p : Point) (e after : Tcb) (segment : Segment) → Meets p e segment → after.receiving ≡ taken_by e segment → ReceivesAt (point_after segment p) after

@@ -30,6 +30,7 @@ use Rattle.tcp_endpoint.specs.Output as left
 use Rattle.endpoint_laws.specs.Laws.{IsBounded, ProbesRightly, asks, last_advertised}
 use Rattle.endpoint_laws.specs.Turn.{Call, MayUse, IsUsualNews, IsBetweenTurns, arrived, used, before_flush}
 use Rattle.endpoint_laws.specs.Refinement.{ReceivesAt, SendsAt, StandsAt, MeetsLaws, IsUsedAt, news_needs_ack, is_ack_pending, refusals, full_by_laws, segments_by_laws, LeadsTo}
+use Rattle.ft_model.proofs.Stamped.{stays_off}
 use Rattle.endpoint_laws.proofs.Bounding.{bounded_by_flush}
 use Rattle.endpoint_laws.proofs.TurnLaw.{sent_law}
 use Rattle.endpoint_laws.proofs.ToldLaw.{leaving_by, told_by_flush, shut_by_flush}
@@ -154,6 +155,7 @@ flushes service news before after e m u stands few came a bounds begun laws user
   sends = sends_of service news before after m u came.sends a laws;
   used = user;
   sent = stands.sent ∙ sym (a.sends.sent ∙ came.sent);
+  timestamping = laws.timestamping ∙ stays_off news before stands.timestamping;
   retransmission_due = a.retransmission_due ∙ came.retransmission_due ∙ ap (λ b. b || resends news before) (waits_is service news before after e stands laws (λ w. w))
       ∙ either_waits (timer.expires news before) (resends news before) (waits_for_ack before after) (resends_wait service news before after laws few);
   probe = a.probe ∙ came.probe ∙ waits_is service news before after e stands laws not;
@@ -317,6 +319,7 @@ turn_leads service news before after e m u begun between stands usual news_are c
         rest = timed.1;
         timing = timing_is service news before after e m u came a laws f;
         delays = laws.same.delays ∙ stands.delays;
+        timestamping = f.timestamping;
       },
       segments_are service news before after e m u f sent_full (a.local ∙ came.local)
           (λ none. asks_is service news before after e m u between stands came a laws f.receives

@@ -1,6 +1,8 @@
 -- An endpoint at a point of `ft_model`, and what its turns are by the laws there. Those laws have only one limit, 2^24 bytes. If an endpoint's limit is
 -- smaller, the peer's stream at its point begins as many bytes later, as if they had been fetched. So its limit takes the place of 2^24, and if it is 2^24,
 -- nothing is fetched. The point has the bytes that the user has read; the endpoint doesn't store them any more.
+use Rattle.ft_model.specs.Timestamps.{timestamping_after}
+use Rattle.tcp_rules.specs.declared.timestamping.Timestamping.TheVariants.{Off}
 use Rattle.limits.specs.Limits.{buffer_size, longest_stream}
 use Rattle.std.specs.Prelude.{◌≡◌, ℕ, Bool, true, false, pos, ◌+◌, ◌≤◌, ◌%◌, ◌^◌, ◌+ℤ◌, ◌==◌, ◌&&◌, ◌||◌, not, max, List, [], ◌∷◌, ◌++◌, length, drop}
 use Rattle.std.specs.Prelude.{sum, if◌then◌else◌, take, ◌⊎◌}
@@ -65,6 +67,7 @@ pub record StandsAt (p : Point) (e : Tcb) : Type 0 where
   pub rest : p.rest ≡ e.sending.rest
   pub timing : p.timing ≡ e.sending.timing
   pub delays : p.delays ≡ false
+  pub timestamping : p.timestamping ≡ Off  -- TCP sends no timestamps
 
 -- all output of a service is written, and the user has closed exactly if the service has
 pub record HasWrittenAll {State : Type 0} (service : Machine State) (p : Point) (s : Sending) : Type 0 where
@@ -99,6 +102,7 @@ pub record MeetsLaws {State : Type 0} (service : Machine State) (news : News) (b
   pub congestion : after.congestion ≡ congestion_after news before
   pub sent : after.sent ≡ sent_after service news before after
   pub timing : after.timing ≡ timing_after service news before after
+  pub timestamping : after.timestamping ≡ timestamping_after news before
   pub interval : after.interval ≡ interval_after news before after
   pub rest : after.rest ≡ rest_after service news before after
 
@@ -132,10 +136,10 @@ segments_by_laws service server news before after =
     or_bare (is_ack_pending news before after) (bare_segment server after) (full_by_laws service server news before after)
 
 -- the point of an endpoint that a SYN has opened, after these fetched bytes: the model's new connection of a server that measures round trips or doesn't, and
--- that delays no ACK. Its timer runs
+-- that delays no ACK and sends no timestamps. Its timer runs
 abbrev pub point_begun : (measures : Bool) → (fetched : List ℕ) → Numbers → Point
 point_begun measures fetched numbers =
-    record (point_opened (record { measures = measures; delays = false; batches = false }) numbers) {
+    record (point_opened (record { measures = measures; delays = false; batches = false; timestamps = false }) Off numbers) {
       fetched = length fetched;
       taken = fetched;
       answered = length fetched;

@@ -1,6 +1,6 @@
 -- What an endpoint sends that has no connection: in CLOSED, LISTEN and SYN-SENT (RFC 9293, 3.10.7.1 to 3.10.7.3). The RSTs, field by field, are the model's.
 use Rattle.limits.specs.Limits.{largest_segment}
-use Rattle.std.specs.Prelude.{ℕ, Bool, true, false, pos, ◌==◌, ◌&&◌, not, min, Some, List, [], ◌∷◌, if◌then◌else◌}
+use Rattle.std.specs.Prelude.{ℕ, Bool, true, false, pos, ◌==◌, ◌&&◌, not, min, Some, List, [], ◌∷◌, if◌then◌else◌, None}
 use Rattle.ft_io.specs.declared.Addr.{Addr}
 use Rattle.tcp_rules.specs.Arrival.{int_eq}
 use Rattle.seq_arith.specs.Offset.{ack_of}
@@ -60,6 +60,7 @@ syn_of local remote iss limit = record {
     flags = 2;
     window = min 65535 limit;
     mss = Some largest_segment;
+    timestamps = None;
   };
   payload = [];
 }

@@ -59,7 +59,7 @@ revive_runs : {State : Type 0} (service : Machine State) (script old author : Ke
     → AllByRecursion (After service script isn old log) now × (AllByRecursion (IsAuthor author) now → AllByRecursion (Follows service script author log) sent)
 revive_runs service script old author isn log node small short entries front (Lives p) now sent b t =
     connection_after service script old author isn log node Begins p t.0 now sent small front tt (revives_fit service script isn log node short entries (Lives p) now sent b.0 t).0 b.1 t.1 t.2
-revive_runs service script old author isn log node small short entries front (Opens n) now sent b t =
+revive_runs service script old author isn log node small short entries front (Opens n timestamping) now sent b t =
     (subst (AllByRecursion (After service script isn old log)) (sym t.0) ((b.0, b.1), tt), λ is. subst (AllByRecursion (Follows service script author log)) (sym t.1) tt)
 revive_runs service script old author isn log node small short entries front (Ended k) now sent b t =
     (subst (AllByRecursion (After service script isn old log)) (sym t.0) ((tt, tt), tt), λ is. subst (AllByRecursion (Follows service script author log)) (sym t.1) tt)
@@ -69,18 +69,18 @@ revive_settled : {State : Type 0} (service : Machine State) (node : Node) (key :
 revive_settled service node key (Lives p) now sent t e =
     let same : t.0.key ≡ p.key = either_turn service node.server node.boot Begins p t.0 sent (λ r. ap (λ x. x.key) r.point) (λ l. l.same.key) t.2 in
     ap (is_settled key) t.1 ∙ one_settled key (Lives t.0) (ap (λ k. key_eq k key) same ∙ e)
-revive_settled service node key (Opens n) now sent t e = absurd (true≢false (sym e))
+revive_settled service node key (Opens n timestamping) now sent t e = absurd (true≢false (sym e))
 revive_settled service node key (Ended k) now sent t e = ap (is_settled key) t.0 ∙ one_settled key (Ended k) e
 
 abbrev IsNoOpening : Place → Type 0
-IsNoOpening (Opens n) = ⊥
+IsNoOpening (Opens n timestamping) = ⊥
 IsNoOpening _ = Unit {0}
 
 settled_keys : (key : Key) (places : List Place) → AllByRecursion IsNoOpening places → is_settled key places ≡ has_key key (map key_of places)
 settled_keys key [] a = refl
 settled_keys key (Lives p ∷ places) a = ap (λ b. key_eq p.key key || b) (settled_keys key places a.1)
 settled_keys key (Ended k ∷ places) a = ap (λ b. key_eq k key || b) (settled_keys key places a.1)
-settled_keys key (Opens n ∷ places) a = absurd a.0
+settled_keys key (Opens n timestamping ∷ places) a = absurd a.0
 
 logged_settled : {State : Type 0} (service : Machine State) (profile : Profile) (log : Log) (fetched : List Fetched) (key : Key) (o : Option Entry) → entry_of key log ≡ o
     → AreFetched log.entries fetched → AllByRecursion IsWhole fetched → length log.entries ≤ length fetched

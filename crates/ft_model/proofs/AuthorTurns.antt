@@ -14,7 +14,7 @@ use Rattle.ft_model.specs.Network.Packet.{To_client}
 use Rattle.ft_model.specs.Point.{Point}
 use Rattle.ft_model.specs.News.{News}
 use Rattle.ft_model.specs.News.News.{Begins}
-use Rattle.ft_model.specs.Opening.{is_syn, numbers_for, point_opened}
+use Rattle.ft_model.specs.Opening.{is_syn, numbers_for, point_opened, timestamping_for}
 use Rattle.ft_model.specs.Refusal.{as_listen, as_closed, rst_at_ack, rst_behind, full_rst}
 use Rattle.ft_model.specs.Node.{Node, Place, Input, is_for, pending_count}
 use Rattle.ft_model.specs.Node.Place.{Opens, Lives, Ended}
@@ -68,7 +68,7 @@ all_go_then Goes Q R M P step (place ∷ places) after sent q (now, later, first
 abbrev pub settles : Key → Place → Bool
 settles key (Lives p) = key_eq p.key key
 settles key (Ended k) = key_eq k key
-settles key (Opens n) = false
+settles key (Opens n timestamping) = false
 
 abbrev pub is_settled : Key → List Place → Bool
 is_settled key places = list_any (settles key) places
@@ -98,8 +98,8 @@ place_settled service node input key place now sent (stayed n s) e = ap (is_sett
 place_settled service node input key place now sent (went_on news p after i w n t) e =
     let same : after.key ≡ p.key = either_turn service node.server node.boot news p after sent (λ r. ap (λ x. x.key) r.point) (λ l. l.same.key) t in
     ap (is_settled key) n ∙ one_settled key (Lives after) (ap (λ k. key_eq k key) same ∙ (sym (ap (settles key) i) ∙ e))
-place_settled service node input key place now sent (began asked kept after i h n t) e = absurd (true≢false (sym e ∙ ap (settles key) i))
-place_settled service node input key place now sent (dropped asked i d n s) e = absurd (true≢false (sym e ∙ ap (settles key) i))
+place_settled service node input key place now sent (began asked kept timestamping after i h n t) e = absurd (true≢false (sym e ∙ ap (settles key) i))
+place_settled service node input key place now sent (dropped asked timestamping i d n s) e = absurd (true≢false (sym e ∙ ap (settles key) i))
 place_settled service node input key place now sent (ended p i h n s) e = ap (is_settled key) n ∙ one_settled key (Ended p.key) (sym (ap (settles key) i) ∙ e)
 place_settled service node input key place now sent (refused k segment i c m n s) e = ap (is_settled key) n ∙ one_settled key (Ended k) (sym (ap (settles key) i) ∙ e)
 
@@ -120,7 +120,7 @@ After service script isn old log place = PlaceFits script isn log place × Place
 
 at_place : (places : List Place) (old : Key → List ℕ) (place : Place) → place_at (key_of place) places ≡ Some place → IsAuthor (new_author places old) place
 at_place places old (Lives p) e = ap (λ o. author_at o (old p.key)) e
-at_place places old (Opens n) e = tt
+at_place places old (Opens n timestamping) e = tt
 at_place places old (Ended k) e = tt
 
 pub authors : (places : List Place) (old : Key → List ℕ) → AreDistinct (map key_of places) → AllByRecursion (IsAuthor (new_author places old)) places
@@ -132,7 +132,7 @@ found_place key places place e = same_key (key_of place) key (found_passes (λ x
 front_by : {State : Type 0} (service : Machine State) (script : Key → List ℕ) (isn : Key → ℕ) (log : Log) (key : Key) (old : Key → List ℕ) (o : Option Place)
     → ((place : Place) → o ≡ Some place → (key_of place ≡ key) × After service script isn old log place) → IsPrefix (old key) (author_at o (old key))
 front_by service script isn log key old (Some (Lives p)) f = let x = f (Lives p) refl in subst (λ k. IsPrefix (old k) p.lengths) x.0 x.1.1.0
-front_by service script isn log key old (Some (Opens n)) f = ([], append-nil (old key))
+front_by service script isn log key old (Some (Opens n timestamping)) f = ([], append-nil (old key))
 front_by service script isn log key old (Some (Ended k)) f = ([], append-nil (old key))
 front_by service script isn log key old None f = ([], append-nil (old key))
 
@@ -143,7 +143,7 @@ short_by service script isn log key old (Some (Lives p)) f s =
     let x = f (Lives p) refl in
     let same : reference service (script p.key) p.lengths ≡ reference service p.taken p.lengths = more_bytes service p.taken (script p.key) p.lengths x.1.0.0.fronts.front x.1.1.1.enough in
     subst (λ k. length (reference service (script k) p.lengths).output ≤ 2 ^ 24) x.0 (subst (λ r. length r.output ≤ 2 ^ 24) (sym same) x.1.1.1.short)
-short_by service script isn log key old (Some (Opens n)) f s = s
+short_by service script isn log key old (Some (Opens n timestamping)) f s = s
 short_by service script isn log key old (Some (Ended k)) f s = s
 short_by service script isn log key old None f s = s
 
@@ -156,7 +156,7 @@ finds_after service script isn old log places key a place e =
 run_place : {State : Type 0} (service : Machine State) (places : List Place) (old : Key → List ℕ) (place : Place) → place_at (key_of place) places ≡ Some place → PlaceRan service old place
     → PlaceRuns service (new_author places old) place
 run_place service places old (Lives p) e r = (ap (λ o. author_at o (old p.key)) e, r.1)
-run_place service places old (Opens n) e r = ap (λ o. author_at o (old n.key)) e ∙ r
+run_place service places old (Opens n timestamping) e r = ap (λ o. author_at o (old n.key)) e ∙ r
 run_place service places old (Ended k) e r = tt
 
 settled_by : (key : Key) (places : List Place) (place : Place) → place_at key places ≡ Some place → settles key place ≡ true → is_settled key places ≡ true
@@ -168,7 +168,7 @@ settled_by key (x ∷ xs) place e s =
 
 ran_of : {State : Type 0} (service : Machine State) (old : Key → List ℕ) (place : Place) → PlaceRuns service old place → PlaceRan service old place
 ran_of service old (Lives p) r = (([], append-nil (old p.key) ∙ r.0), r.1)
-ran_of service old (Opens n) r = r
+ran_of service old (Opens n timestamping) r = r
 ran_of service old (Ended k) r = tt
 
 rst_follows : {State : Type 0} (service : Machine State) (script author : Key → List ℕ) (log : Log) (segment : Segment) → has_rst segment ≡ true → Follows service script author log (To_client segment)
@@ -194,8 +194,8 @@ listen_follows service script author log node Tick_comes places = tt
 opens_follow : {State : Type 0} (service : Machine State) (script author : Key → List ℕ) (log : Log) (node : Node) (input : Input) (places : List Place)
     → AllByRecursion (Follows service script author log) (flat_map (opens_at node input) places)
 opens_follow service script author log node input [] = tt
-opens_follow service script author log node input (Opens n ∷ places) =
-    all_append (Follows service script author log) (opens_at node input (Opens n)) _
+opens_follow service script author log node input (Opens n timestamping ∷ places) =
+    all_append (Follows service script author log) (opens_at node input (Opens n timestamping)) _
     (holds_if (AllByRecursion (Follows service script author log)) (is_asked node input n) (told_by node.boot (OpenMsg n) ∷ []) [] (λ t. (tt, tt)) (λ t. tt)) (opens_follow service script author log node input places)
 opens_follow service script author log node input (Lives p ∷ places) = opens_follow service script author log node input places
 opens_follow service script author log node input (Ended k ∷ places) = opens_follow service script author log node input places
@@ -226,11 +226,11 @@ place_runs service script old author isn log node input small short entries i fr
     let nf = news_fit script isn log node input news p i w in
     let fits = (place_fits service script isn log node input short entries i place now sent b.0 (went_on news p after e w n t)).0 in
     connection_after service script old author isn log node news p after now sent small front nf.0 fits (subst (PlaceRuns service old) e b.1) n t
-place_runs service script old author isn log node input small short entries i front place now sent b (began asked kept after e h n t) =
-    let fits = (place_fits service script isn log node input short entries i place now sent b.0 (began asked kept after e h n t)).0 in
+place_runs service script old author isn log node input small short entries i front place now sent b (began asked kept timestamping after e h n t) =
+    let fits = (place_fits service script isn log node input short entries i place now sent b.0 (began asked kept timestamping after e h n t)).0 in
     let none : old kept.key ≡ [] = ap old h.key ∙ subst (PlaceRuns service old) e b.1 in
-    connection_after service script old author isn log node Begins (point_opened node.profile kept) after now sent small front tt fits (opened_runs service node.profile old kept small.0 none) n t
-place_runs service script old author isn log node input small short entries i front place now sent b (dropped asked e d n s) = (
+    connection_after service script old author isn log node Begins (point_opened node.profile timestamping kept) after now sent small front tt fits (opened_runs service node.profile timestamping old kept small.0 none) n t
+place_runs service script old author isn log node input small short entries i front place now sent b (dropped asked timestamping e d n s) = (
   subst (AllByRecursion (After service script isn old log)) (sym n) tt,
   λ is. ⊎_elim (λ x. subst (AllByRecursion (Follows service script author log)) (sym x) tt)
       (λ x. subst (AllByRecursion (Follows service script author log)) (sym x) (rst_follows service script author log (full_rst node.server asked) refl, tt)) s,
@@ -244,7 +244,7 @@ place_runs service script old author isn log node input small short entries i fr
 
 not_settles : (key : Key) (place : Place) → key_eq (key_of place) key ≡ false → settles key place ≡ false
 not_settles key (Lives p) e = e
-not_settles key (Opens n) e = refl
+not_settles key (Opens n timestamping) e = refl
 not_settles key (Ended k) e = e
 
 found_settles : (key : Key) (places : List Place) (p : Point) → place_at key places ≡ Some (Lives p) → settles key (Lives p) ≡ true
@@ -264,7 +264,7 @@ new_after : {State : Type 0} (service : Machine State) (script old : Key → Lis
     → InputFits script isn log input → OnlySettled old places → AllByRecursion (After service script isn old log) (newcomers node input opened places)
 new_after service script old isn log node (Packet_comes segment) opened places i only =
     holds_if (λ l. AllByRecursion (PlaceFits script isn log) l → AllByRecursion (After service script isn old log) l)
-    (is_strange node segment places && is_syn segment && nat_lt (pending_count places) 64) (Opens (numbers_for node.isn opened segment) ∷ []) []
+    (is_strange node segment places && is_syn segment && nat_lt (pending_count places) 64) (Opens (numbers_for node.profile node.isn opened segment) (timestamping_for node.profile segment) ∷ []) []
     (λ t f. let one = and_parts (is_strange node segment places && is_syn segment) (nat_lt (pending_count places) 64) t in
     let two = and_parts (is_strange node segment places) (is_syn segment) one.0 in
     let three = and_parts (is_for node.server segment) (not (is_known (source_of segment) places)) two.0 in
@@ -288,7 +288,7 @@ settled_new : (old : Key → List ℕ) (before places : List Place) (key : Key) 
     → (is_settled key before ≡ true → is_settled key places ≡ true) → (author_at o (old key) ≡ []) ⊎ (is_settled key places ≡ true)
 settled_new old before places key (Some (Lives p)) e only more =
     inr (settled_by key places (Lives p) e (found_settles key places p e))
-settled_new old before places key (Some (Opens n)) e only more = ⊎_elim inl (λ x. inr (more x)) (only key)
+settled_new old before places key (Some (Opens n timestamping)) e only more = ⊎_elim inl (λ x. inr (more x)) (only key)
 settled_new old before places key (Some (Ended k)) e only more = ⊎_elim inl (λ x. inr (more x)) (only key)
 settled_new old before places key None e only more = ⊎_elim inl (λ x. inr (more x)) (only key)
 

@@ -1,4 +1,5 @@
 -- The reads that are logged are those of the incarnation whose boot the log has, and what leaves is a part of the output over logged reads.
+use Rattle.tcp_rules.specs.declared.timestamping.Timestamping.{Timestamping}
 use Rattle.std.proofs.Common.{◌≡◌, ℕ, zero, suc, ◌+◌, ◌<◌, ◌≤◌, ◌^◌, pos, Bool, true, false, nat_lt, sum, le_refl, le_trans, refl, sym, ap, ◌∙◌, subst, true≢false, inl, inr, ◌⊎◌, ⊎_elim, Some, List, [], ◌∷◌, ◌++◌, map, length, take, drop, slice_get, arith, ltb-true, ltb-false, append-nil}
 use Rattle.std.specs.List.{AllByRecursion}
 use Rattle.std.proofs.lemmas.List.{take-append-le}
@@ -71,13 +72,13 @@ Follows service script author log _ = Unit {0}
 -- what is known of a point before a turn, by the author of the reads so far ..
 abbrev pub PlaceRuns : {State : Type 0} → Machine State → (Key → List ℕ) → Place → Type 0
 PlaceRuns service author (Lives p) = (author p.key ≡ p.lengths) × ReadsWithin service p
-PlaceRuns service author (Opens n) = author n.key ≡ []
+PlaceRuns service author (Opens n timestamping) = author n.key ≡ []
 PlaceRuns service author (Ended key) = Unit {0}
 
 -- .. and after it
 abbrev pub PlaceRan : {State : Type 0} → Machine State → (Key → List ℕ) → Place → Type 0
 PlaceRan service author (Lives p) = IsPrefix (author p.key) p.lengths × ReadsWithin service p
-PlaceRan service author (Opens n) = author n.key ≡ []
+PlaceRan service author (Opens n timestamping) = author n.key ≡ []
 PlaceRan service author (Ended key) = Unit {0}
 
 -- a new author agrees with a place
@@ -260,6 +261,6 @@ entry_runs service profile script author e front enough small is =
     )
 
 -- a new point
-pub opened_runs : {State : Type 0} (service : Machine State) (profile : Profile) (author : Key → List ℕ) (n : Numbers) → length service.greeting ≤ 65535 → author n.key ≡ [] → PlaceRuns service author (Lives (point_opened profile n))
+pub opened_runs : {State : Type 0} (service : Machine State) (profile : Profile) (timestamping : Timestamping) (author : Key → List ℕ) (n : Numbers) → length service.greeting ≤ 65535 → author n.key ≡ [] → PlaceRuns service author (Lives (point_opened profile timestamping n))
 unfolding reference
-opened_runs service profile author n few is = (is, record { enough = le_refl 0; fetched = le_refl 0; short = omega (arith, few); counts = le_refl 0 })
+opened_runs service profile timestamping author n few is = (is, record { enough = le_refl 0; fetched = le_refl 0; short = omega (arith, few); counts = le_refl 0 })

@@ -104,7 +104,7 @@ packet_later service script before after g (From_logger message) f = tt
 
 pub place_later : {State : Type 0} (service : Machine State) (script : Key → List ℕ) (before after : Log) → LogGrows before after → (place : Place) → PlaceBacked service script before place → PlaceBacked service script after place
 place_later service script before after g (Lives p) f = le_trans f (output_later service script before after p.key g)
-place_later service script before after g (Opens numbers) f = tt
+place_later service script before after g (Opens numbers timestamping) f = tt
 place_later service script before after g (Ended key) f = tt
 
 -- the log

@@ -20,7 +20,7 @@ use Rattle.ft_model.specs.Point.{Point}
 use Rattle.ft_model.specs.News.{News}
 use Rattle.ft_model.specs.News.News.{Comes, Logged, Ticks, Begins}
 use Rattle.ft_model.specs.Connection.{ConnectionTurn}
-use Rattle.ft_model.specs.Opening.{is_syn, numbers_for, point_opened}
+use Rattle.ft_model.specs.Opening.{is_syn, numbers_for, point_opened, timestamping_for}
 use Rattle.ft_model.specs.Refusal.{as_closed}
 use Rattle.ft_model.specs.Restart.{Wanted, wanted, point_of}
 use Rattle.ft_model.specs.Restart.Wanted.{An_entry, Its_bytes, Its_lengths}
@@ -102,9 +102,9 @@ place_backed service script isn log node input i place now sent b (stayed n s) =
 place_backed service script isn log node input i place now sent b (went_on news p after e w n t) =
     let stands : StandsBacked service script isn log (Lives p) = subst (StandsBacked service script isn log) e b in
     lives_backed service script log node news p after now sent (news_of service script isn log node input news p i w stands.0) stands.1 n t
-place_backed service script isn log node input i place now sent b (began asked kept after e h n t) =
-    lives_backed service script log node Begins (point_opened node.profile kept) after now sent tt (omega arith) n t
-place_backed service script isn log node input i place now sent b (dropped asked e d n s) = (
+place_backed service script isn log node input i place now sent b (began asked kept timestamping after e h n t) =
+    lives_backed service script log node Begins (point_opened node.profile timestamping kept) after now sent tt (omega arith) n t
+place_backed service script isn log node input i place now sent b (dropped asked timestamping e d n s) = (
   subst (AllByRecursion (PlaceBacked service script log)) (sym n) tt,
   ⊎_elim (λ x. subst (AllByRecursion (PacketBacked service script log)) (sym x) tt) (λ x. subst (AllByRecursion (PacketBacked service script log)) (sym x) (tt, tt)) s,
 )
@@ -117,7 +117,7 @@ revive_backed : {State : Type 0} (service : Machine State) (script : Key → Lis
     → (place : Place) (now : List Place) (sent : List Packet) → PlaceBacked service script log place → Revives service node place now sent
     → AllByRecursion (PlaceBacked service script log) now × AllByRecursion (PacketBacked service script log) sent
 revive_backed service script log node (Lives p) now sent b t = lives_backed service script log node Begins p t.0 now sent tt b t.1 t.2
-revive_backed service script log node (Opens n) now sent b t =
+revive_backed service script log node (Opens n timestamping) now sent b t =
     (subst (AllByRecursion (PlaceBacked service script log)) (sym t.0) (tt, tt), subst (AllByRecursion (PacketBacked service script log)) (sym t.1) tt)
 revive_backed service script log node (Ended k) now sent b t =
     (subst (AllByRecursion (PlaceBacked service script log)) (sym t.0) (tt, tt), subst (AllByRecursion (PacketBacked service script log)) (sym t.1) tt)
@@ -125,7 +125,7 @@ revive_backed service script log node (Ended k) now sent b t =
 new_backed : {State : Type 0} (service : Machine State) (script : Key → List ℕ) (log : Log) (node : Node) (input : Input) (opened : ℕ) (places : List Place)
     → AllByRecursion (PlaceBacked service script log) (newcomers node input opened places)
 new_backed service script log node (Packet_comes segment) opened places =
-    holds_if (AllByRecursion (PlaceBacked service script log)) (is_strange node segment places && is_syn segment && nat_lt (pending_count places) 64) (Opens (numbers_for node.isn opened segment) ∷ []) []
+    holds_if (AllByRecursion (PlaceBacked service script log)) (is_strange node segment places && is_syn segment && nat_lt (pending_count places) 64) (Opens (numbers_for node.profile node.isn opened segment) (timestamping_for node.profile segment) ∷ []) []
     (λ t. (tt, tt)) (λ t. tt)
 new_backed service script log node (Message_comes message) opened places = tt
 new_backed service script log node Noise_comes opened places = tt
@@ -174,7 +174,7 @@ turn_backed service script isn w node input sent after a f b e brought (served o
     let backed : AllByRecursion (PlaceBacked service script w.log) places = subst (StageBacked service script w.log) was (b.stage node e) in
     let went = serving_goes_on service node input opened (StandsBacked service script isn w.log) (PlaceBacked service script w.log) (PacketBacked service script w.log) places later sent
     (place_backed service script isn w.log node input (input_backed service script w input b.packets brought)) (new_backed service script w.log node input opened places)
-    (refusals_so (PacketBacked service script w.log) node input places (λ x. tt)) (λ n c. tt) (both_hold (PlaceFits script isn w.log) (PlaceBacked service script w.log) places fits backed) t in
+    (refusals_so (PacketBacked service script w.log) node input places (λ x. tt)) (λ n s c. tt) (both_hold (PlaceFits script isn w.log) (PlaceBacked service script w.log) places fits backed) t in
     (subst (StageBacked service script w.log) (sym g) went.0, went.1)
 
 -- a client's move

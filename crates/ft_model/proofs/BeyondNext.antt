@@ -1,5 +1,6 @@
 -- Each turn is lawful: each equation computes.
 use Rattle.std.proofs.Common.{refl, [], ◌∷◌}
+use Rattle.tcp_rules.specs.declared.timestamping.Timestamping.TheVariants.{Off}
 use Rattle.tcp_rules.specs.Profile.{plain}
 use Rattle.ft_model.specs.News.News.{Comes, Begins}
 use Rattle.ft_model.specs.Opening.{point_opened}
@@ -20,7 +21,7 @@ turn_1 = record { server = refl; profile = refl; boot = refl; isn = refl; live =
 
 turn_2 : Happens run.turn_1.node run.turn_2
 unfolding laws
-turn_2 = record { server = refl; profile = refl; boot = refl; isn = refl; live = refl; stage = (Opens numbers ∷ [], refl, record { went = []; by_places = []; all_go = (refl, refl); places = refl; packets = refl }) }
+turn_2 = record { server = refl; profile = refl; boot = refl; isn = refl; live = refl; stage = (Opens numbers Off ∷ [], refl, record { went = []; by_places = []; all_go = (refl, refl); places = refl; packets = refl }) }
 
 turn_3 : Happens run.turn_2.node run.turn_3
 unfolding laws
@@ -36,8 +37,8 @@ turn_3 = record {
     record {
       went = Lives begun_point ∷ [];
       by_places = run.turn_3.sent;
-      all_go = alone (PlaceTurn echo run.turn_2.node run.turn_3.input) (Opens numbers) (Lives begun_point ∷ []) run.turn_3.sent
-          (begun_point, refl, goes echo server 1 Begins (point_opened plain numbers) begun_point run.turn_3.sent refl refl refl refl);
+      all_go = alone (PlaceTurn echo run.turn_2.node run.turn_3.input) (Opens numbers Off) (Lives begun_point ∷ []) run.turn_3.sent
+          (begun_point, refl, goes echo server 1 Begins (point_opened plain Off numbers) begun_point run.turn_3.sent refl refl refl refl);
       places = refl;
       packets = refl;
     },

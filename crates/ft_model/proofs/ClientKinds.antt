@@ -1,7 +1,7 @@
 -- A client's kind, and what it allows.
 use Rattle.std.proofs.Common.{◌≡◌, ℕ, true, refl, sym, ap, subst, true≢false, Some, None, [], arith, Bool, false}
 use Rattle.std.specs.Prelude.{◌||◌, if◌then◌else◌}
-use Rattle.seq_arith.specs.Packet.{Segment}
+use Rattle.seq_arith.specs.Packet.{Segment, with_timestamps}
 use Rattle.ft_model.specs.Client.{Client, ClientKind, Move, IsMove, move_of, may_move, suits_kind, segment_of, is_ended}
 use Rattle.ft_model.specs.Client.ClientKind.{Live}
 use Rattle.ft_model.specs.Client.Move.{Syn, Text, Fin, Acknowledge, Rst, Refuse}
@@ -43,10 +43,10 @@ not_scripted Rst window may e = let seq : 5 ≡ 1001 = ap (λ s. s.head.seq) e i
 not_scripted (Refuse number) window may e = true≢false (sym may)
 
 pub refuses_nothing : (later : Client) → IsMove opening refusal later → ⊥
-refuses_nothing later m = not_scripted m.move m.window m.may m.segment_is
+refuses_nothing later m = not_scripted m.move m.window m.may (ap (with_timestamps None) m.segment_is)
 
 pub live_refuses : IsMove live refusal live
-live_refuses = record { move = Refuse 5; window = 0; may = refl; fits = refl; segment_is = refl; after_is = refl }
+live_refuses = record { move = Refuse 5; window = 0; may = refl; fits = refl; timestamps = None; carries = refl; segment_is = refl; after_is = refl }
 
 -- A SYN that offers a size.
 abbrev pub offer : Segment
@@ -62,7 +62,7 @@ not_offered Rst window may e = true≢false (sym may)
 not_offered (Refuse number) window may e = true≢false (sym may)
 
 pub offers_nothing : (later : Client) → IsMove (client_with hello_text) offer later → ⊥
-offers_nothing later m = not_offered m.move m.window m.may m.segment_is
+offers_nothing later m = not_offered m.move m.window m.may (ap (with_timestamps None) m.segment_is)
 
 pub ends_by : (phase : Phase) (b : Bool) → (if is_ended phase || b then Ended else phase) ≡ (if b then Ended else phase)
 ends_by Ended true = refl

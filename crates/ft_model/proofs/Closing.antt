@@ -1,5 +1,6 @@
 -- Each turn of both incarnations is lawful: each equation computes.
 use Rattle.std.proofs.Common.{true, refl, [], ◌∷◌}
+use Rattle.tcp_rules.specs.declared.timestamping.Timestamping.TheVariants.{Off}
 use Rattle.tcp_rules.specs.Profile.{plain}
 use Rattle.ft_model.specs.News.News.{Comes, Logged, Ticks, Begins}
 use Rattle.ft_model.specs.Opening.{point_opened}
@@ -22,7 +23,7 @@ first_1 = record { server = refl; profile = refl; boot = refl; isn = refl; live 
 
 first_2 : Happens run.first_1.node run.first_2
 unfolding laws
-first_2 = record { server = refl; profile = refl; boot = refl; isn = refl; live = refl; stage = (Opens numbers ∷ [], refl, record { went = []; by_places = []; all_go = (refl, refl); places = refl; packets = refl }) }
+first_2 = record { server = refl; profile = refl; boot = refl; isn = refl; live = refl; stage = (Opens numbers Off ∷ [], refl, record { went = []; by_places = []; all_go = (refl, refl); places = refl; packets = refl }) }
 
 first_3 : Happens run.first_2.node run.first_3
 unfolding laws
@@ -38,8 +39,8 @@ first_3 = record {
     record {
       went = Lives run.begun ∷ [];
       by_places = run.first_3.sent;
-      all_go = alone (PlaceTurn echo run.first_2.node run.first_3.input) (Opens numbers) (Lives run.begun ∷ []) run.first_3.sent
-          (run.begun, refl, goes echo server 1 Begins (point_opened plain numbers) run.begun run.first_3.sent refl refl refl refl);
+      all_go = alone (PlaceTurn echo run.first_2.node run.first_3.input) (Opens numbers Off) (Lives run.begun ∷ []) run.first_3.sent
+          (run.begun, refl, goes echo server 1 Begins (point_opened plain Off numbers) run.begun run.first_3.sent refl refl refl refl);
       places = refl;
       packets = refl;
     },

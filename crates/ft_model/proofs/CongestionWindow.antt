@@ -1,6 +1,7 @@
 -- The run in which the congestion window says how much leaves, whole: each moment happens and is allowed.
 use Rattle.std.proofs.Common.{◌^◌, false, refl, None, [], ◌∷◌}
 use native.Mathlib.Bridge.{le_by_compare, IsLe}
+use Rattle.tcp_rules.specs.declared.timestamping.Timestamping.TheVariants.{Off}
 use Rattle.ft_model.specs.Client.Move.{Syn, Text, Acknowledge}
 use Rattle.ft_model.specs.News.News.{Comes, Logged}
 use Rattle.ft_model.specs.Node.Stage.{Serving}
@@ -100,11 +101,11 @@ happens_3 = (path.packet_2, refl, ((path.node_at (Serving 0 []), refl, turn_3 ru
 
 happens_4 : Follows run.moment_3 run.moment_4
 unfolding laws IsLe
-happens_4 = record { client = client_with run.requests; segment = segment_in path.packet_3; later = run.opening; is_there = refl; move = record { move = Syn None; window = 65535; may = refl; fits = refl; segment_is = refl; after_is = refl }; sent_is = refl; after_is = refl }
+happens_4 = record { client = client_with run.requests; segment = segment_in path.packet_3; later = run.opening; is_there = refl; move = record { move = Syn None; window = 65535; may = refl; fits = refl; timestamps = None; carries = refl; segment_is = refl; after_is = refl }; sent_is = refl; after_is = refl }
 
 happens_5 : Follows run.moment_4 run.moment_5
 unfolding laws IsLe
-happens_5 = (path.packet_3, refl, ((path.node_at (Serving 1 (Opens numbers ∷ [])), refl, turn_5 run.transfer), refl))
+happens_5 = (path.packet_3, refl, ((path.node_at (Serving 1 (Opens numbers Off ∷ [])), refl, turn_5 run.transfer), refl))
 
 happens_6 : Follows run.moment_5 run.moment_6
 unfolding laws IsLe
@@ -120,7 +121,7 @@ happens_8 = (path.packet_6, refl, (refl, refl))
 
 happens_9 : Follows run.moment_8 run.moment_9
 unfolding laws IsLe
-happens_9 = record { client = run.open_client; segment = segment_in path.packet_7; later = run.open_client; is_there = refl; move = record { move = Acknowledge; window = 65535; may = refl; fits = refl; segment_is = refl; after_is = refl }; sent_is = refl; after_is = refl }
+happens_9 = record { client = run.open_client; segment = segment_in path.packet_7; later = run.open_client; is_there = refl; move = record { move = Acknowledge; window = 65535; may = refl; fits = refl; timestamps = None; carries = refl; segment_is = refl; after_is = refl }; sent_is = refl; after_is = refl }
 
 happens_10 : Follows run.moment_9 run.moment_10
 unfolding laws IsLe
@@ -128,7 +129,7 @@ happens_10 = (path.packet_7, refl, ((path.node_live path.open_point, refl, turn_
 
 happens_11 : Follows run.moment_10 run.moment_11
 unfolding laws IsLe
-happens_11 = record { client = run.open_client; segment = segment_in run.asking; later = run.told_client; is_there = refl; move = record { move = Text 0 8; window = 65535; may = refl; fits = refl; segment_is = refl; after_is = refl }; sent_is = refl; after_is = refl }
+happens_11 = record { client = run.open_client; segment = segment_in run.asking; later = run.told_client; is_there = refl; move = record { move = Text 0 8; window = 65535; may = refl; fits = refl; timestamps = None; carries = refl; segment_is = refl; after_is = refl }; sent_is = refl; after_is = refl }
 
 happens_12 : Follows run.moment_11 run.moment_12
 unfolding laws IsLe
@@ -156,7 +157,7 @@ happens_17 = (run.text 0 536, refl, (refl, refl))
 
 happens_18 : Follows run.moment_17 run.moment_18
 unfolding laws IsLe pattern
-happens_18 = record { client = run.served_client; segment = segment_in run.acknowledgement; later = run.acknowledging_client; is_there = refl; move = record { move = Acknowledge; window = 65535; may = refl; fits = refl; segment_is = refl; after_is = refl }; sent_is = refl; after_is = refl }
+happens_18 = record { client = run.served_client; segment = segment_in run.acknowledgement; later = run.acknowledging_client; is_there = refl; move = record { move = Acknowledge; window = 65535; may = refl; fits = refl; timestamps = None; carries = refl; segment_is = refl; after_is = refl }; sent_is = refl; after_is = refl }
 
 happens_19 : Follows run.moment_18 run.moment_19
 unfolding laws IsLe
@@ -164,15 +165,15 @@ happens_19 = (run.acknowledgement, refl, ((path.node_live run.grown_point, refl,
 
 happens_20 : Follows run.moment_19 run.moment_20
 unfolding laws IsLe pattern
-happens_20 = record { client = run.acknowledging_client; segment = segment_in run.acknowledgement; later = run.acknowledging_client; is_there = refl; move = record { move = Acknowledge; window = 65535; may = refl; fits = refl; segment_is = refl; after_is = refl }; sent_is = refl; after_is = refl }
+happens_20 = record { client = run.acknowledging_client; segment = segment_in run.acknowledgement; later = run.acknowledging_client; is_there = refl; move = record { move = Acknowledge; window = 65535; may = refl; fits = refl; timestamps = None; carries = refl; segment_is = refl; after_is = refl }; sent_is = refl; after_is = refl }
 
 happens_21 : Follows run.moment_20 run.moment_21
 unfolding laws IsLe pattern
-happens_21 = record { client = run.acknowledging_client; segment = segment_in run.acknowledgement; later = run.acknowledging_client; is_there = refl; move = record { move = Acknowledge; window = 65535; may = refl; fits = refl; segment_is = refl; after_is = refl }; sent_is = refl; after_is = refl }
+happens_21 = record { client = run.acknowledging_client; segment = segment_in run.acknowledgement; later = run.acknowledging_client; is_there = refl; move = record { move = Acknowledge; window = 65535; may = refl; fits = refl; timestamps = None; carries = refl; segment_is = refl; after_is = refl }; sent_is = refl; after_is = refl }
 
 happens_22 : Follows run.moment_21 run.moment_22
 unfolding laws IsLe pattern
-happens_22 = record { client = run.acknowledging_client; segment = segment_in run.acknowledgement; later = run.acknowledging_client; is_there = refl; move = record { move = Acknowledge; window = 65535; may = refl; fits = refl; segment_is = refl; after_is = refl }; sent_is = refl; after_is = refl }
+happens_22 = record { client = run.acknowledging_client; segment = segment_in run.acknowledgement; later = run.acknowledging_client; is_there = refl; move = record { move = Acknowledge; window = 65535; may = refl; fits = refl; timestamps = None; carries = refl; segment_is = refl; after_is = refl }; sent_is = refl; after_is = refl }
 
 happens_23 : Follows run.moment_22 run.moment_23
 unfolding laws IsLe

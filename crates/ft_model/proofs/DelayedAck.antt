@@ -1,6 +1,7 @@
 -- The first path with the profile for wide-area networks, whole: each moment happens and is allowed.
 use Rattle.std.proofs.Common.{◌^◌, refl, None, [], ◌∷◌}
 use native.Mathlib.Bridge.{le_by_compare, IsLe}
+use Rattle.tcp_rules.specs.declared.timestamping.Timestamping.TheVariants.{Off}
 use Rattle.tcp_rules.specs.Profile.{wan}
 use Rattle.server_trait.specs.Service.{Machine}
 use Rattle.ft_model.specs.Client.Move.{Syn, Text, Acknowledge}
@@ -29,7 +30,7 @@ unfolding laws
 turn_3 service = record { server = refl; profile = refl; boot = refl; isn = refl; live = refl; stage = ([], refl, (refl, refl)) }
 
 pub turn_5 : {State : Type 0} (service : Machine State)
-    → LawfulTurn (quiet service) (run.node_at (Serving 0 [])) (Packet_comes (segment_in path.packet_3)) run.moment_5.sent (run.node_at (Serving 1 (Opens numbers ∷ [])))
+    → LawfulTurn (quiet service) (run.node_at (Serving 0 [])) (Packet_comes (segment_in path.packet_3)) run.moment_5.sent (run.node_at (Serving 1 (Opens numbers Off ∷ [])))
 unfolding laws
 turn_5 service = record {
   server = refl;
@@ -37,11 +38,11 @@ turn_5 service = record {
   boot = refl;
   isn = refl;
   live = refl;
-  stage = (Opens numbers ∷ [], refl, record { went = []; by_places = []; all_go = (refl, refl); places = refl; packets = refl });
+  stage = (Opens numbers Off ∷ [], refl, record { went = []; by_places = []; all_go = (refl, refl); places = refl; packets = refl });
 }
 
 pub turn_7 : {State : Type 0} (service : Machine State)
-    → LawfulTurn (quiet service) (run.node_at (Serving 1 (Opens numbers ∷ []))) (Message_comes (message_in path.packet_5)) run.moment_7.sent (run.node_live run.begun_point)
+    → LawfulTurn (quiet service) (run.node_at (Serving 1 (Opens numbers Off ∷ []))) (Message_comes (message_in path.packet_5)) run.moment_7.sent (run.node_live run.begun_point)
 unfolding laws
 turn_7 service = record {
   server = refl;
@@ -55,8 +56,8 @@ turn_7 service = record {
     record {
       went = Lives run.begun_point ∷ [];
       by_places = run.moment_7.sent;
-      all_go = alone (PlaceTurn (quiet service) (run.node_at (Serving 1 (Opens numbers ∷ []))) (Message_comes (message_in path.packet_5))) (Opens numbers) (Lives run.begun_point ∷ []) run.moment_7.sent
-          (run.begun_point, refl, goes (quiet service) server 1 Begins (point_opened wan numbers) run.begun_point run.moment_7.sent refl refl refl refl);
+      all_go = alone (PlaceTurn (quiet service) (run.node_at (Serving 1 (Opens numbers Off ∷ []))) (Message_comes (message_in path.packet_5))) (Opens numbers Off) (Lives run.begun_point ∷ []) run.moment_7.sent
+          (run.begun_point, refl, goes (quiet service) server 1 Begins (point_opened wan Off numbers) run.begun_point run.moment_7.sent refl refl refl refl);
       places = refl;
       packets = refl;
     },
@@ -108,11 +109,11 @@ happens_3 = (path.packet_2, refl, ((run.node_at (Serving 0 []), refl, turn_3 ech
 
 happens_4 : Follows run.moment_3 run.moment_4
 unfolding laws IsLe
-happens_4 = record { client = client_with hello_text; segment = segment_in path.packet_3; later = path.opening; is_there = refl; move = record { move = Syn None; window = 65535; may = refl; fits = refl; segment_is = refl; after_is = refl }; sent_is = refl; after_is = refl }
+happens_4 = record { client = client_with hello_text; segment = segment_in path.packet_3; later = path.opening; is_there = refl; move = record { move = Syn None; window = 65535; may = refl; fits = refl; timestamps = None; carries = refl; segment_is = refl; after_is = refl }; sent_is = refl; after_is = refl }
 
 happens_5 : Follows run.moment_4 run.moment_5
 unfolding laws IsLe
-happens_5 = (path.packet_3, refl, ((run.node_at (Serving 1 (Opens numbers ∷ [])), refl, turn_5 echo), refl))
+happens_5 = (path.packet_3, refl, ((run.node_at (Serving 1 (Opens numbers Off ∷ [])), refl, turn_5 echo), refl))
 
 happens_6 : Follows run.moment_5 run.moment_6
 unfolding laws IsLe
@@ -128,7 +129,7 @@ happens_8 = (path.packet_6, refl, (refl, refl))
 
 happens_9 : Follows run.moment_8 run.moment_9
 unfolding laws IsLe
-happens_9 = record { client = path.open_client; segment = segment_in path.packet_7; later = path.open_client; is_there = refl; move = record { move = Acknowledge; window = 65535; may = refl; fits = refl; segment_is = refl; after_is = refl }; sent_is = refl; after_is = refl }
+happens_9 = record { client = path.open_client; segment = segment_in path.packet_7; later = path.open_client; is_there = refl; move = record { move = Acknowledge; window = 65535; may = refl; fits = refl; timestamps = None; carries = refl; segment_is = refl; after_is = refl }; sent_is = refl; after_is = refl }
 
 happens_10 : Follows run.moment_9 run.moment_10
 unfolding laws IsLe
@@ -136,7 +137,7 @@ happens_10 = (path.packet_7, refl, ((run.node_live run.open_point, refl, turn_10
 
 happens_11 : Follows run.moment_10 run.moment_11
 unfolding laws IsLe
-happens_11 = record { client = path.open_client; segment = segment_in path.packet_8; later = path.told_client; is_there = refl; move = record { move = Text 0 5; window = 65535; may = refl; fits = refl; segment_is = refl; after_is = refl }; sent_is = refl; after_is = refl }
+happens_11 = record { client = path.open_client; segment = segment_in path.packet_8; later = path.told_client; is_there = refl; move = record { move = Text 0 5; window = 65535; may = refl; fits = refl; timestamps = None; carries = refl; segment_is = refl; after_is = refl }; sent_is = refl; after_is = refl }
 
 happens_12 : Follows run.moment_11 run.moment_12
 unfolding laws IsLe

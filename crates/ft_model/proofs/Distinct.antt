@@ -1,4 +1,5 @@
 -- No two places of a server have the same key, and a connection that is live or done stays known.
+use Rattle.tcp_rules.specs.declared.timestamping.Timestamping.{Timestamping}
 use Rattle.std.proofs.Common.{◌≡◌, ℕ, true, false, ◌&&◌, nat_lt, not, refl, sym, ap, ◌∙◌, subst, true≢false, inl, inr, ◌⊎◌, ⊎_elim, Some, List, [], ◌∷◌, ◌++◌, map, append-nil}
 use Rattle.std.proofs.lemmas.Bool.{and_parts, or_parts, or_from}
 use Rattle.ft_io.specs.declared.Key.{Key}
@@ -6,7 +7,7 @@ use Rattle.ft_io.specs.Key.{key_eq}
 use Rattle.seq_arith.specs.Message.{Numbers}
 use Rattle.server_trait.specs.Service.{Machine}
 use Rattle.ft_model.specs.Network.{Packet, source_of}
-use Rattle.ft_model.specs.Opening.{is_syn, numbers_for}
+use Rattle.ft_model.specs.Opening.{is_syn, numbers_for, timestamping_for}
 use Rattle.ft_model.specs.Node.{Node, Place, Stage, Input, key_of, is_known, is_for, pending_count, booted}
 use Rattle.ft_model.specs.Node.Place.{Opens, Lives, Ended}
 use Rattle.ft_model.specs.Node.Stage.{Asking, Fetching, Serving, Fenced}
@@ -37,19 +38,19 @@ KeepsKey place now = (now ≡ []) ⊎ ((after : Place) × (now ≡ after ∷ [])
 -- a place that isn't dropped stays one place of its key
 pub stays_or_drops : {State : Type 0} (service : Machine State) (node : Node) (input : Input) (place : Place) (now : List Place) (sent : List Packet)
     → PlaceWent service node input place now sent
-    → ((asked : Numbers) × (place ≡ Opens asked) × IsDropped node input asked × (now ≡ [])) ⊎ ((after : Place) × (now ≡ after ∷ []) × (key_of after ≡ key_of place))
+    → ((asked : Numbers) × (timestamping : Timestamping) × (place ≡ Opens asked timestamping) × IsDropped node input asked × (now ≡ [])) ⊎ ((after : Place) × (now ≡ after ∷ []) × (key_of after ≡ key_of place))
 stays_or_drops service node input place now sent (stayed n s) = inr (place, n, refl)
 stays_or_drops service node input place now sent (went_on news p after e i n t) =
     inr (Lives after, n, either_turn service node.server node.boot news p after sent (λ r. ap (λ x. x.key) r.point) (λ l. l.same.key) t ∙ sym (ap key_of e))
-stays_or_drops service node input place now sent (began asked kept after e h n t) =
+stays_or_drops service node input place now sent (began asked kept timestamping after e h n t) =
     inr (Lives after, n, (either_turn service node.server node.boot _ _ after sent (λ r. ap (λ x. x.key) r.point) (λ l. l.same.key) t ∙ h.key) ∙ sym (ap key_of e))
-stays_or_drops service node input place now sent (dropped asked e d n s) = inl (asked, e, d, n)
+stays_or_drops service node input place now sent (dropped asked timestamping e d n s) = inl (asked, timestamping, e, d, n)
 stays_or_drops service node input place now sent (ended p e h n s) = inr (Ended p.key, n, sym (ap key_of e))
 stays_or_drops service node input place now sent (refused key segment e c k n s) = inr (Ended key, n, sym (ap key_of e))
 
 pub keeps_key : {State : Type 0} (service : Machine State) (node : Node) (input : Input) (place : Place) (now : List Place) (sent : List Packet)
     → PlaceWent service node input place now sent → KeepsKey place now
-keeps_key service node input place now sent t = ⊎_elim (λ d. inl d.3) (λ k. inr k) (stays_or_drops service node input place now sent t)
+keeps_key service node input place now sent t = ⊎_elim (λ d. inl d.4) (λ k. inr k) (stays_or_drops service node input place now sent t)
 
 -- the keys of a list of places, through a turn
 pub no_key_after : (Goes : Place → List Place → List Packet → Type 0) → ((place : Place) (now : List Place) (sent : List Packet) → Goes place now sent → KeepsKey place now)
@@ -76,11 +77,11 @@ with_new : (node : Node) (input : Input) (opened : ℕ) (before went : List Plac
     → ((key : Key) → has_key key (map key_of before) ≡ false → has_key key (map key_of went) ≡ false) → AreDistinct (map key_of (went ++ newcomers node input opened before))
 with_new node (Packet_comes segment) opened before went d none =
     holds_if (λ l. AreDistinct (map key_of (went ++ l))) (is_strange node segment before && is_syn segment && nat_lt (pending_count before) 64)
-    (Opens (numbers_for node.isn opened segment) ∷ []) []
+    (Opens (numbers_for node.profile node.isn opened segment) (timestamping_for node.profile segment) ∷ []) []
     (λ t. let one = and_parts (is_strange node segment before && is_syn segment) (nat_lt (pending_count before) 64) t in
     let two = and_parts (is_strange node segment before) (is_syn segment) one.0 in
     let three = and_parts (is_for node.server segment) (not (is_known (source_of segment) before)) two.0 in
-    subst AreDistinct (sym (map_append key_of went (Opens (numbers_for node.isn opened segment) ∷ [])))
+    subst AreDistinct (sym (map_append key_of went (Opens (numbers_for node.profile node.isn opened segment) (timestamping_for node.profile segment) ∷ [])))
     (distinct_more (map key_of went) (source_of segment) d (none (source_of segment) (absent_key key_of (source_of segment) before (not_true _ three.1)))))
     (λ t. subst (λ l. AreDistinct (map key_of l)) (sym (append-nil went)) d)
 with_new node (Message_comes message) opened before went d none = subst (λ l. AreDistinct (map key_of l)) (sym (append-nil went)) d

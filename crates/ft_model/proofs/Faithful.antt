@@ -73,7 +73,7 @@ PacketFits script isn log (From_logger message) = AnswerFits log message.body
 
 abbrev pub PlaceFits : (Key → List ℕ) → (Key → ℕ) → Log → Place → Type 0
 PlaceFits script isn log (Lives p) = HasTaken (script p.key) (isn p.key) p × IsKnown log p
-PlaceFits script isn log (Opens n) = n.cisn ≡ isn n.key
+PlaceFits script isn log (Opens n timestamping) = n.cisn ≡ isn n.key
 PlaceFits script isn log (Ended key) = Unit {0}
 
 abbrev pub StageFits : (Key → List ℕ) → (Key → ℕ) → Log → Stage → Type 0
@@ -106,7 +106,7 @@ known_later before after p g k =
 pub place_later : (script : Key → List ℕ) (isn : Key → ℕ) (before after : Log) → LogGrows before after → (place : Place)
     → PlaceFits script isn before place → PlaceFits script isn after place
 place_later script isn before after g (Lives p) f = (f.0, known_later before after p g f.1)
-place_later script isn before after g (Opens n) f = f
+place_later script isn before after g (Opens n timestamping) f = f
 place_later script isn before after g (Ended key) f = tt
 
 pub prefix_length : {A : Type 0} (xs ys : List A) → IsPrefix xs ys → length xs ≤ length ys

@@ -1,4 +1,5 @@
 -- .. in every joint trace: so all that a client is told to be received is logged, and what is logged is its script's front.
+use Rattle.tcp_rules.specs.declared.timestamping.Timestamping.{Timestamping}
 use Rattle.std.proofs.Common.{◌≡◌, ℕ, ◌≤◌, ◌^◌, pos, int_lt, true, ◌==◌, ◌&&◌, ◌||◌, not, nat_lt, nat_le, refl, sym, ap, ◌∙◌, subst, true≢false, ⊎_elim, Option, Some, None, List, [], ◌∷◌, ◌++◌, map, length, arith, if◌then◌else◌}
 use Rattle.std.specs.List.{AllByRecursion, list_any}
 use Rattle.std.proofs.lemmas.Bool.{and_parts}
@@ -21,7 +22,7 @@ use Rattle.ft_model.specs.Network.Packet.{To_server, To_client, To_logger, From_
 use Rattle.ft_model.specs.Point.{Point}
 use Rattle.ft_model.specs.News.{News}
 use Rattle.ft_model.specs.News.News.{Comes, Logged, Ticks, Begins}
-use Rattle.ft_model.specs.Opening.{is_syn, numbers_for, point_opened}
+use Rattle.ft_model.specs.Opening.{is_syn, numbers_for, point_opened, timestamping_for}
 use Rattle.ft_model.specs.Refusal.{as_listen, as_closed, rst_at_ack, rst_behind, full_rst}
 use Rattle.ft_model.specs.Restart.{Wanted}
 use Rattle.ft_model.specs.Restart.Wanted.{An_entry, Its_bytes, Its_lengths}
@@ -213,10 +214,10 @@ news_fit script isn log node input (Logged kept) p f n =
 news_fit script isn log node input Ticks p f n = (tt, tt)
 news_fit script isn log node input Begins p f n = absurd n
 
-pub opened_point : (profile : Profile) (script : Key → List ℕ) (isn : Key → ℕ) (log : Log) (kept : Numbers) → EntriesFit script isn log.entries → HasEntry log kept → PlaceFits script isn log (Lives (point_opened profile kept))
-opened_point profile script isn log kept entries h =
+pub opened_point : (profile : Profile) (timestamping : Timestamping) (script : Key → List ℕ) (isn : Key → ℕ) (log : Log) (kept : Numbers) → EntriesFit script isn log.entries → HasEntry log kept → PlaceFits script isn log (Lives (point_opened profile timestamping kept))
+opened_point profile timestamping script isn log kept entries h =
     let within = units_within script isn log kept.key h.0 entries h.1 in (
-      nothing_held (script kept.key) (isn kept.key) (point_opened profile kept) (nothing_first (script kept.key)) (λ k. absurd (true≢false (sym k))) refl (omega arith) (sym h.2 ∙ within.0.cisn),
+      nothing_held (script kept.key) (isn kept.key) (point_opened profile timestamping kept) (nothing_first (script kept.key)) (λ k. absurd (true≢false (sym k))) refl (omega arith) (sym h.2 ∙ within.0.cisn),
       record { entry = h.0; found = h.1; sisn = h.3; answered = omega arith; reads = omega arith },
     )
 
@@ -230,12 +231,12 @@ place_fits service script isn log node input short entries i place now sent f (w
     let nf = news_fit script isn log node input news p i w in
     let c = connection_fits service node.server script isn log node.boot news p after sent short entries nf.0 nf.1 (subst (PlaceFits script isn log) e f) t in
     (subst (AllByRecursion (PlaceFits script isn log)) (sym n) (c.0, tt), c.1)
-place_fits service script isn log node input short entries i place now sent f (began asked kept after e h n t) =
+place_fits service script isn log node input short entries i place now sent f (began asked kept timestamping after e h n t) =
     let told : AnswerFits log h.message.body = subst (InputFits script isn log) h.comes i in
     let has : HasEntry log kept = subst (AnswerFits log) h.body told in
-    let c = connection_fits service node.server script isn log node.boot Begins (point_opened node.profile kept) after sent short entries tt tt (opened_point node.profile script isn log kept entries has) t in
+    let c = connection_fits service node.server script isn log node.boot Begins (point_opened node.profile timestamping kept) after sent short entries tt tt (opened_point node.profile timestamping script isn log kept entries has) t in
     (subst (AllByRecursion (PlaceFits script isn log)) (sym n) (c.0, tt), c.1)
-place_fits service script isn log node input short entries i place now sent f (dropped asked e d n s) = (
+place_fits service script isn log node input short entries i place now sent f (dropped asked timestamping e d n s) = (
   subst (AllByRecursion (PlaceFits script isn log)) (sym n) tt,
   ⊎_elim (λ x. subst (AllByRecursion (IsFit script isn log)) (sym x) tt)
       (λ x. subst (AllByRecursion (IsFit script isn log)) (sym x) (rst_fits script isn log (full_rst node.server asked) refl, tt)) s,
@@ -249,7 +250,7 @@ pub new_fits : (script : Key → List ℕ) (isn : Key → ℕ) (log : Log) (node
     → AllByRecursion (PlaceFits script isn log) (newcomers node input opened places)
 new_fits script isn log node (Packet_comes segment) opened places i =
     holds_if (AllByRecursion (PlaceFits script isn log)) (is_strange node segment places && is_syn segment && nat_lt (pending_count places) 64)
-    (Opens (numbers_for node.isn opened segment) ∷ []) []
+    (Opens (numbers_for node.profile node.isn opened segment) (timestamping_for node.profile segment) ∷ []) []
     (λ t. let one = and_parts (is_strange node segment places && is_syn segment) (nat_lt (pending_count places) 64) t in
     let two = and_parts (is_strange node segment places) (is_syn segment) one.0 in
     let three = and_parts (has_syn segment && not (has_ack segment)) (not (has_rst segment)) two.1 in

@@ -104,7 +104,7 @@ pub revives_fit : {State : Type 0} (service : Machine State) (script : Key → L
 revives_fit service script isn log node short entries (Lives p) now sent f t =
     let c = connection_fits service node.server script isn log node.boot Begins p t.0 sent short entries tt tt f t.2 in
     (subst (AllByRecursion (PlaceFits script isn log)) (sym t.1) (c.0, tt), c.1)
-revives_fit service script isn log node short entries (Opens n) now sent f t =
+revives_fit service script isn log node short entries (Opens n timestamping) now sent f t =
     (subst (AllByRecursion (PlaceFits script isn log)) (sym t.0) (f, tt), subst (AllByRecursion (IsFit script isn log)) (sym t.1) tt)
 revives_fit service script isn log node short entries (Ended k) now sent f t =
     (subst (AllByRecursion (PlaceFits script isn log)) (sym t.0) (tt, tt), subst (AllByRecursion (IsFit script isn log)) (sym t.1) tt)
@@ -144,7 +144,7 @@ turn_faithful service script isn w node input sent after short a f e brought (se
     let i : InputFits script isn w.log input = input_fits script isn w input f.packets brought in
     let went = serving_goes_on service node input opened (PlaceFits script isn w.log) (PlaceFits script isn w.log) (IsFit script isn w.log) places later sent
     (place_fits service script isn w.log node input short f.entries i) (new_fits script isn w.log node input opened places i) (listen_fits script isn w.log node input places)
-    (λ n c. (c, tt)) (subst (StageFits script isn w.log) b (f.stage node e)) t in
+    (λ n s c. (c, tt)) (subst (StageFits script isn w.log) b (f.stage node e)) t in
     (subst (StageFits script isn w.log) (sym g) went.0, went.1)
 
 turned_faithful : {State : Type 0} (service : Machine State) (script : Key → List ℕ) (isn : Key → ℕ) (w : World) (node later : Node) (input : Input) (sent : List Packet)

@@ -105,9 +105,9 @@ place_ours : {State : Type 0} (service : Machine State) (node : Node) (input : I
     → PlaceWent service node input place now sent → AllByRecursion (IsOurs node.boot) sent
 place_ours service node input place now sent (stayed n s) = subst (AllByRecursion (IsOurs node.boot)) (sym s) tt
 place_ours service node input place now sent (went_on news p after e i n t) = connection_ours service node.server node.boot news p after sent t
-place_ours service node input place now sent (began asked kept after e i n t) = connection_ours service node.server node.boot _ _ after sent t
-place_ours service node input place now sent (dropped asked e d n (inl s)) = subst (AllByRecursion (IsOurs node.boot)) (sym s) tt
-place_ours service node input place now sent (dropped asked e d n (inr s)) = subst (AllByRecursion (IsOurs node.boot)) (sym s) (tt, tt)
+place_ours service node input place now sent (began asked kept timestamping after e i n t) = connection_ours service node.server node.boot _ _ after sent t
+place_ours service node input place now sent (dropped asked timestamping e d n (inl s)) = subst (AllByRecursion (IsOurs node.boot)) (sym s) tt
+place_ours service node input place now sent (dropped asked timestamping e d n (inr s)) = subst (AllByRecursion (IsOurs node.boot)) (sym s) (tt, tt)
 place_ours service node input place now sent (ended p e h n s) = subst (AllByRecursion (IsOurs node.boot)) (sym s) tt
 place_ours service node input place now sent (refused key segment e i f n s) = subst (AllByRecursion (IsOurs node.boot)) (sym s) (segments_ours node.boot _)
 
@@ -117,7 +117,7 @@ Anywhere place = Unit {0}
 revived_ours : {State : Type 0} (service : Machine State) (node : Node) (place : Place) (now : List Place) (sent : List Packet)
     → Revives service node place now sent → AllByRecursion (IsOurs node.boot) sent
 revived_ours service node (Lives p) now sent t = connection_ours service node.server node.boot _ p t.0 sent t.2
-revived_ours service node (Opens n) now sent t = subst (AllByRecursion (IsOurs node.boot)) (sym t.1) tt
+revived_ours service node (Opens n timestamping) now sent t = subst (AllByRecursion (IsOurs node.boot)) (sym t.1) tt
 revived_ours service node (Ended k) now sent t = subst (AllByRecursion (IsOurs node.boot)) (sym t.1) tt
 
 asked_ours : (node : Node) (w : Option Wanted) → AllByRecursion (IsOurs node.boot) (asked node w)
@@ -157,7 +157,7 @@ turn_ours service node input sent after (resumed count fetched places p w a t) =
 turn_ours service node input sent after (served opened places later b a t) =
     (serving_goes_on service node input opened Anywhere Anywhere (IsOurs node.boot) places later sent
     (λ place now some h r. (all_of Anywhere now (λ x. tt), place_ours service node input place now some r)) (all_of Anywhere _ (λ x. tt))
-    (refusals_so (IsOurs node.boot) node input places (λ x. tt)) (λ numbers h. refl) (all_of Anywhere places (λ x. tt)) t).1
+    (refusals_so (IsOurs node.boot) node input places (λ x. tt)) (λ numbers s h. refl) (all_of Anywhere places (λ x. tt)) t).1
 
 pub asked_quiet : (node : Node) (w : Option Wanted) → AllByRecursion (IsNoChange node.boot) (asked node w)
 asked_quiet node (Some (An_entry index)) = (λ e. refl, tt)

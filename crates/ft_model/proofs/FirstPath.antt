@@ -1,6 +1,7 @@
 -- Every moment of the first path happens: each equation computes.
 use Rattle.std.proofs.Common.{◌^◌, refl, None, List, [], ◌∷◌}
 use native.Mathlib.Bridge.{le_by_compare, IsLe}
+use Rattle.tcp_rules.specs.declared.timestamping.Timestamping.TheVariants.{Off}
 use Rattle.tcp_rules.specs.Profile.{plain}
 use Rattle.server_trait.specs.Service.{Machine}
 use Rattle.ft_model.specs.News.{News}
@@ -31,9 +32,9 @@ abbrev pub quiet : {State : Type 0} → Machine State → Machine State
 quiet service = record service { greeting = [] }
 
 -- the SYN-ACK leaves
-begins : {State : Type 0} (service : Machine State) → Goes (quiet service) Begins (point_opened plain numbers) run.begun_point run.moment_7.sent
+begins : {State : Type 0} (service : Machine State) → Goes (quiet service) Begins (point_opened plain Off numbers) run.begun_point run.moment_7.sent
 unfolding laws
-begins service = goes (quiet service) server 1 Begins (point_opened plain numbers) run.begun_point run.moment_7.sent refl refl refl refl
+begins service = goes (quiet service) server 1 Begins (point_opened plain Off numbers) run.begun_point run.moment_7.sent refl refl refl refl
 
 -- the SYN is acknowledged
 opens : {State : Type 0} (service : Machine State) → Goes (quiet service) (Comes (segment_in run.packet_7)) run.begun_point run.open_point run.moment_10.sent
@@ -60,13 +61,13 @@ pub turn_3 : {State : Type 0} (service : Machine State) → LawfulTurn (quiet se
 unfolding laws
 turn_3 service = record { server = refl; profile = refl; boot = refl; isn = refl; live = refl; stage = ([], refl, (refl, refl)) }
 
-pub turn_5 : {State : Type 0} (service : Machine State) → LawfulTurn (quiet service) (run.node_at (Serving 0 [])) (Packet_comes (segment_in run.packet_3)) run.moment_5.sent (run.node_at (Serving 1 (Opens numbers ∷ [])))
+pub turn_5 : {State : Type 0} (service : Machine State) → LawfulTurn (quiet service) (run.node_at (Serving 0 [])) (Packet_comes (segment_in run.packet_3)) run.moment_5.sent (run.node_at (Serving 1 (Opens numbers Off ∷ [])))
 unfolding laws
-turn_5 service = record { server = refl; profile = refl; boot = refl; isn = refl; live = refl; stage = (Opens numbers ∷ [], refl, record { went = []; by_places = []; all_go = (refl, refl); places = refl; packets = refl }) }
+turn_5 service = record { server = refl; profile = refl; boot = refl; isn = refl; live = refl; stage = (Opens numbers Off ∷ [], refl, record { went = []; by_places = []; all_go = (refl, refl); places = refl; packets = refl }) }
 
-pub turn_7 : {State : Type 0} (service : Machine State) → LawfulTurn (quiet service) (run.node_at (Serving 1 (Opens numbers ∷ []))) (Message_comes (message_in run.packet_5)) run.moment_7.sent (run.node_live run.begun_point)
+pub turn_7 : {State : Type 0} (service : Machine State) → LawfulTurn (quiet service) (run.node_at (Serving 1 (Opens numbers Off ∷ []))) (Message_comes (message_in run.packet_5)) run.moment_7.sent (run.node_live run.begun_point)
 unfolding laws
-turn_7 service = record { server = refl; profile = refl; boot = refl; isn = refl; live = refl; stage = (Lives run.begun_point ∷ [], refl, record { went = Lives run.begun_point ∷ []; by_places = run.moment_7.sent; all_go = alone (PlaceTurn (quiet service) (run.node_at (Serving 1 (Opens numbers ∷ []))) (Message_comes (message_in run.packet_5))) (Opens numbers) (Lives run.begun_point ∷ []) run.moment_7.sent (run.begun_point, refl, begins service); places = refl; packets = refl }) }
+turn_7 service = record { server = refl; profile = refl; boot = refl; isn = refl; live = refl; stage = (Lives run.begun_point ∷ [], refl, record { went = Lives run.begun_point ∷ []; by_places = run.moment_7.sent; all_go = alone (PlaceTurn (quiet service) (run.node_at (Serving 1 (Opens numbers Off ∷ []))) (Message_comes (message_in run.packet_5))) (Opens numbers Off) (Lives run.begun_point ∷ []) run.moment_7.sent (run.begun_point, refl, begins service); places = refl; packets = refl }) }
 
 pub turn_10 : {State : Type 0} (service : Machine State) → LawfulTurn (quiet service) (run.node_live run.begun_point) (Packet_comes (segment_in run.packet_7)) run.moment_10.sent (run.node_live run.open_point)
 unfolding laws
@@ -99,11 +100,11 @@ happens_3 service = (run.packet_2, refl, ((run.node_at (Serving 0 []), refl, tur
 
 happens_4 : {State : Type 0} (service : Machine State) → Happens (quiet service) run.moment_3.world run.moment_4.event run.moment_4.sent run.moment_4.world
 unfolding laws IsLe
-happens_4 service = record { client = client_with hello_text; segment = segment_in run.packet_3; later = run.opening; is_there = refl; move = record { move = Syn None; window = 65535; may = refl; fits = refl; segment_is = refl; after_is = refl }; sent_is = refl; after_is = refl }
+happens_4 service = record { client = client_with hello_text; segment = segment_in run.packet_3; later = run.opening; is_there = refl; move = record { move = Syn None; window = 65535; may = refl; fits = refl; timestamps = None; carries = refl; segment_is = refl; after_is = refl }; sent_is = refl; after_is = refl }
 
 happens_5 : {State : Type 0} (service : Machine State) → Happens (quiet service) run.moment_4.world run.moment_5.event run.moment_5.sent run.moment_5.world
 unfolding laws IsLe
-happens_5 service = (run.packet_3, refl, ((run.node_at (Serving 1 (Opens numbers ∷ [])), refl, turn_5 service), refl))
+happens_5 service = (run.packet_3, refl, ((run.node_at (Serving 1 (Opens numbers Off ∷ [])), refl, turn_5 service), refl))
 
 happens_6 : {State : Type 0} (service : Machine State) → Happens (quiet service) run.moment_5.world run.moment_6.event run.moment_6.sent run.moment_6.world
 unfolding laws IsLe
@@ -119,7 +120,7 @@ happens_8 service = (run.packet_6, refl, (refl, refl))
 
 happens_9 : {State : Type 0} (service : Machine State) → Happens (quiet service) run.moment_8.world run.moment_9.event run.moment_9.sent run.moment_9.world
 unfolding laws IsLe
-happens_9 service = record { client = run.open_client; segment = segment_in run.packet_7; later = run.open_client; is_there = refl; move = record { move = Acknowledge; window = 65535; may = refl; fits = refl; segment_is = refl; after_is = refl }; sent_is = refl; after_is = refl }
+happens_9 service = record { client = run.open_client; segment = segment_in run.packet_7; later = run.open_client; is_there = refl; move = record { move = Acknowledge; window = 65535; may = refl; fits = refl; timestamps = None; carries = refl; segment_is = refl; after_is = refl }; sent_is = refl; after_is = refl }
 
 happens_10 : {State : Type 0} (service : Machine State) → Happens (quiet service) run.moment_9.world run.moment_10.event run.moment_10.sent run.moment_10.world
 unfolding laws IsLe
@@ -127,7 +128,7 @@ happens_10 service = (run.packet_7, refl, ((run.node_live run.open_point, refl, 
 
 pub happens_11 : Happens echo run.moment_10.world run.moment_11.event run.moment_11.sent run.moment_11.world
 unfolding laws IsLe
-happens_11 = record { client = run.open_client; segment = segment_in run.packet_8; later = run.told_client; is_there = refl; move = record { move = Text 0 5; window = 65535; may = refl; fits = refl; segment_is = refl; after_is = refl }; sent_is = refl; after_is = refl }
+happens_11 = record { client = run.open_client; segment = segment_in run.packet_8; later = run.told_client; is_there = refl; move = record { move = Text 0 5; window = 65535; may = refl; fits = refl; timestamps = None; carries = refl; segment_is = refl; after_is = refl }; sent_is = refl; after_is = refl }
 
 pub happens_12 : Happens echo run.moment_11.world run.moment_12.event run.moment_12.sent run.moment_12.world
 unfolding laws IsLe

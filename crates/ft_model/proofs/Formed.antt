@@ -5,6 +5,8 @@ use Rattle.hex.specs.Hex.{IsBytes}
 use Rattle.ft_io.specs.declared.Key.{Key}
 use Rattle.seq_arith.specs.Packet.{Segment}
 use Rattle.seq_arith.specs.PacketGrammar.{packet_length}
+use Rattle.tcp_rules.specs.declared.timestamping.Timestamping.{Timestamping}
+use Rattle.tcp_rules.specs.declared.timestamping.Timestamping.TheVariants.{Off, Awaited, Echoes}
 use Rattle.seq_arith.specs.Message.{Numbers, Kept, EntryHead, Part, Body, Message}
 use Rattle.seq_arith.specs.Message.Body.{HelloMsg, SummaryMsg, ListMsg, EntryMsg, BytesMsg, PartMsg, CutsMsg, LensMsg, OpenMsg, OpenedMsg, DataMsg, StableMsg, ReadMsg, ReadsMsg, DoneMsg, EndedMsg, StaleMsg, FullMsg}
 use Rattle.server_trait.specs.Service.{Machine, AreBytes, WritesBytes, cut, reference}
@@ -122,7 +124,7 @@ MessageFormed start m = IsBoot m.boot × BodyFormed start m.boot m.body
 abbrev pub SegmentFormed : Segment → Type 0
 SegmentFormed s =
     (s.head.seq < 2 ^ 32) × (s.head.ack < 2 ^ 32) × (s.head.flags < 2 ^ 8) × (s.head.window < 2 ^ 16) × IfSome s.head.mss (λ mss. mss < 2 ^ 16)
-    × AreBytes s.payload × (packet_length s ≤ 1500)
+    × AreBytes s.payload × (packet_length s ≤ 1500) × IfSome s.head.timestamps (λ t. (t.value < 2 ^ 32) × (t.echo < 2 ^ 32))
 
 abbrev pub PacketFormed : World → Packet → Type 0
 PacketFormed start (To_server s) = HasClient start (source_of s) × IsOf start.server (destination_of s) × SegmentFormed s
@@ -146,6 +148,18 @@ pub record EntryFormed (start : World) (e : Entry) : Type 0 where
   pub count : length e.lengths ≤ sum e.lengths + 1
   pub lengths : AreLengths e.lengths
 
+-- a value that is echoed has 32 bits, ..
+abbrev pub IsShortEcho : Timestamping → Type 0
+IsShortEcho Off = Unit {0}
+IsShortEcho Awaited = Unit {0}
+IsShortEcho (Echoes recent) = recent < 2 ^ 32
+
+-- .. and segments leave room for timestamps where they may carry them
+abbrev pub HasRoom : (mss : ℕ) → Timestamping → Type 0
+HasRoom mss Off = Unit {0}
+HasRoom mss Awaited = mss ≤ 1448
+HasRoom mss (Echoes recent) = (mss ≤ 1448) × (recent < 2 ^ 32)
+
 pub record PointFormed (start : World) (p : Point) : Type 0 where
   pub key : HasClient start p.key
   pub sisn : p.sisn < 2 ^ 32
@@ -155,9 +169,10 @@ pub record PointFormed (start : World) (p : Point) : Type 0 where
   pub count : length p.lengths ≤ sum p.lengths + 1
   pub lengths : AreLengths p.lengths
   pub batches : p.batches ≡ start.profile.batches
+  pub timestamping : HasRoom p.mss p.timestamping
 
 abbrev pub PlaceFormed : World → Place → Type 0
-PlaceFormed start (Opens n) = NumbersFormed start n
+PlaceFormed start (Opens n timestamping) = NumbersFormed start n × IsShortEcho timestamping
 PlaceFormed start (Lives p) = PointFormed start p
 PlaceFormed start (Ended key) = Unit {0}
 

@@ -1,21 +1,23 @@
 -- A client keeps the server's address, and the packet of its move is well formed.
-use Rattle.std.proofs.Common.{◌≡◌, ℕ, ◌+◌, ◌<◌, ◌≤◌, ◌^◌, ◌==◌, pos, int_lt, true, ◌&&◌, ◌||◌, not, nat_lt, nat_le, refl, sym, ap, ◌∙◌, subst, eqb-true, Option, Some, None, IfSome, length, drop, arith, leb-true, length-take, if◌then◌else◌}
+use Rattle.std.proofs.Common.{◌≡◌, ℕ, ◌+◌, ◌<◌, ◌≤◌, ◌^◌, ◌==◌, pos, int_lt, true, ◌&&◌, ◌||◌, not, nat_lt, nat_le, refl, sym, ap, ◌∙◌, subst, eqb-true, Option, Some, None, IfSome, length, drop, arith, leb-true, length-append, length-take, inl, inr, ◌⊎◌, ⊎_elim, if◌then◌else◌}
 use Rattle.std.proofs.lemmas.Bool.{ltb-true, and_parts}
 use Rattle.seq_arith.specs.Number.{number_at}
 use Rattle.tcp_rules.specs.Arrival.{int_eq}
-use Rattle.seq_arith.specs.Packet.{Segment, has_syn, has_rst, has_ack}
-use Rattle.seq_arith.specs.PacketGrammar.{packet_length}
+use Rattle.seq_arith.specs.declared.options.Timestamps.{Timestamps}
+use Rattle.seq_arith.specs.Packet.{Segment, has_syn, has_rst, has_ack, with_timestamps}
+use Rattle.seq_arith.specs.PacketGrammar.{mss_option, timestamps_option, packet_length}
 use Rattle.server_trait.specs.Service.{AreBytes}
 use Rattle.ft_model.specs.Offset.{first_of, ack_of}
 use Rattle.ft_model.specs.declared.phase.Phase.TheVariants as phases
-use Rattle.ft_model.specs.Client.{Client, ClientKind, Move, IsMove, seq_of, ack_number_of, flags_of, mss_of, payload_of, is_acknowledging, accepted_units, segment_of, may_advertise, is_live, may_offer, suits_kind, suits_phase, suits_range, received, opened_by, arrived, used, may_use, with_ack, with_added, came, is_opening, is_open, next_of}
+use Rattle.ft_model.specs.Client.{Client, ClientKind, Move, IsMove, seq_of, ack_number_of, flags_of, mss_of, payload_of, is_acknowledging, accepted_units, segment_of, may_advertise, is_live, may_offer, suits_kind, suits_phase, suits_range, text_length, may_carry, received, opened_by, arrived, used, may_use, with_ack, with_added, came, is_opening, is_open, next_of}
 use Rattle.ft_model.specs.Client.Move.{Syn, Text, Fin, Acknowledge, Rst, Refuse}
 use Rattle.ft_model.specs.Network.Packet.{To_server}
 use Rattle.ft_model.specs.World.{World}
 use Rattle.ft_model.proofs.FaithfulKept.{received_same}
 use Rattle.ft_model.proofs.Formed.{bytes_take, bytes_drop, HasClient, PacketFormed, ClientFormed}
+use Rattle.ft_model.proofs.Stamped.{AreShort}
 use Rattle.ft_io.proofs.Choices.{holds_if}
-use Rattle.seq_arith.proofs.Units.{mss_option_short}
+use Rattle.seq_arith.proofs.Units.{mss_option_short, timestamps_option_long}
 
 -- a client keeps the server's address
 used_server : (c : Client) (segment : Segment) → (used c segment).server ≡ c.server
@@ -99,16 +101,49 @@ mss_small kind Acknowledge e = tt
 mss_small kind Rst e = tt
 mss_small kind (Refuse number) e = tt
 
-packet_small : (c : Client) (m : Move) (window : ℕ) → suits_range c m ≡ true → packet_length (segment_of c m window) ≤ 1500
-packet_small c (Text from len) window r =
+-- timestamps that a client may send have 32 bits each, ..
+carried_short : (kind : ClientKind) (m : Move) (timestamps : Option Timestamps) → may_carry kind m timestamps ≡ true → AreShort timestamps
+carried_short kind m None may = tt
+carried_short kind m (Some t) may =
+    let room = and_parts (is_live kind && nat_lt t.value (2 ^ 32) && nat_lt t.echo (2 ^ 32)) (nat_le (text_length m + 12) 1460) may in
+    let echo = and_parts (is_live kind && nat_lt t.value (2 ^ 32)) (nat_lt t.echo (2 ^ 32)) room.0 in
+    let value = and_parts (is_live kind) (nat_lt t.value (2 ^ 32)) echo.0 in (ltb-true t.value (2 ^ 32) value.1, ltb-true t.echo (2 ^ 32) echo.1)
+
+-- .. and leave room for the text
+carried_fits : (kind : ClientKind) (m : Move) (timestamps : Option Timestamps) → may_carry kind m timestamps ≡ true
+    → (length (timestamps_option timestamps) ≡ 0) ⊎ ((length (timestamps_option timestamps) ≡ 12) × (text_length m + 12 ≤ 1460))
+carried_fits kind m None may = inl refl
+carried_fits kind m (Some t) may =
+    let room = and_parts (is_live kind && nat_lt t.value (2 ^ 32) && nat_lt t.echo (2 ^ 32)) (nat_le (text_length m + 12) 1460) may in
+    inr (timestamps_option_long t, leb-true (text_length m + 12) 1460 room.1)
+
+-- a move's packet without timestamps, and that it leaves room for them if its text does
+bare_small : (c : Client) (m : Move) (window : ℕ) → suits_range c m ≡ true
+    → (packet_length (segment_of c m window) ≤ 1500) × (text_length m + 12 ≤ 1460 → packet_length (segment_of c m window) + 12 ≤ 1500)
+bare_small c (Text from len) window r =
     let one = and_parts (nat_le c.acknowledged from && nat_le from c.sent && nat_le 1 len && nat_le len 1460) (nat_le (from + len) (length c.script)) r in
     let short : len ≤ 1460 = leb-true _ _ (and_parts (nat_le c.acknowledged from && nat_le from c.sent && nat_le 1 len) (nat_le len 1460) one.0).1 in
-    let size = length-take len (drop from c.script) in omega (arith, short, size)
-packet_small c (Syn mss) window r = let option = mss_option_short mss in omega (arith, option)
-packet_small c Fin window r = omega arith
-packet_small c Acknowledge window r = omega arith
-packet_small c Rst window r = omega arith
-packet_small c (Refuse number) window r = omega arith
+    let size = length-take len (drop from c.script) in (omega (arith, short, size), λ fits. omega (arith, fits, size))
+bare_small c (Syn mss) window r =
+    let option = mss_option_short mss in let whole = length-append (mss_option mss) (timestamps_option None) in (omega (arith, option, whole), λ fits. omega (arith, option, whole))
+bare_small c Fin window r = (omega arith, λ fits. omega arith)
+bare_small c Acknowledge window r = (omega arith, λ fits. omega arith)
+bare_small c Rst window r = (omega arith, λ fits. omega arith)
+bare_small c (Refuse number) window r = (omega arith, λ fits. omega arith)
+
+with_more : (segment : Segment) (timestamps : Option Timestamps) → segment.head.timestamps ≡ None
+    → packet_length (with_timestamps timestamps segment) ≡ packet_length segment + length (timestamps_option timestamps)
+with_more segment timestamps none =
+    let before = length-append (mss_option segment.head.mss) (timestamps_option segment.head.timestamps) in
+    let nothing : length (timestamps_option segment.head.timestamps) ≡ 0 = ap (λ (t : Option Timestamps). length (timestamps_option t)) none in
+    omega (arith, before, nothing, length-append (mss_option segment.head.mss) (timestamps_option timestamps))
+
+packet_small : (c : Client) (m : Move) (window : ℕ) (timestamps : Option Timestamps) → suits_range c m ≡ true → may_carry c.kind m timestamps ≡ true
+    → packet_length (with_timestamps timestamps (segment_of c m window)) ≤ 1500
+packet_small c m window timestamps r may =
+    let bare = bare_small c m window r in
+    let more = with_more (segment_of c m window) timestamps refl in
+    ⊎_elim (λ none. omega (arith, more, bare.0, none)) (λ some. omega (arith, more, bare.1 some.1, some.0)) (carried_fits c.kind m timestamps may)
 
 pub move_formed : (start : World) (c later : Client) (segment : Segment) → ClientFormed start c → c.isn < 2 ^ 32 → AreBytes c.script
     → IsMove c segment later → PacketFormed start (To_server segment)
@@ -128,6 +163,7 @@ move_formed start c later segment h isn script mv =
         advertised_small m mv.window mv.fits,
         mss_small c.kind m kind.0,
         payload_bytes c m script,
-        packet_small c m mv.window parts.1,
+        packet_small c m mv.window mv.timestamps parts.1 mv.carries,
+        carried_short c.kind m mv.timestamps mv.carries,
       ),
     )

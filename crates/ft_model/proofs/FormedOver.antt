@@ -33,6 +33,7 @@ use Rattle.ft_model.proofs.FaithfulKept.{InputFits, input_fits, new_fits}
 use Rattle.ft_model.proofs.FaithfulOver.{script_of, isn_of, points_fit, restored_all}
 use Rattle.ft_model.proofs.Acknowledged.{IsTrue}
 use Rattle.ft_model.proofs.Formed.{HasClient, IsBoot, PacketFormed, StartFormed, EntryFormed, PointFormed, PlaceFormed, StageFormed, WorldFormed}
+use Rattle.ft_model.proofs.Stamped.{resumed_has_room}
 use Rattle.ft_model.proofs.FormedLog.{EntryTells, AckedWithin, entries_tell}
 use Rattle.ft_model.proofs.FormedTurns.{InputFormed, PlaceSound, connection_formed, listen_formed, new_formed, place_formed}
 use Rattle.ft_io.proofs.Choices.{holds_if}
@@ -86,7 +87,7 @@ headed_by start entries (f ∷ earlier) e a = ((newest_formed start entries f ea
 one_held : (start : World) (node : Node) (o : Option Fetched) → node.server ≡ start.server → ((f : Fetched) → o ≡ Some f → HasClient start f.head.key)
     → AllByRecursion (PacketFormed start) (map (λ f. To_client (holding_segment node.server f.head)) (option_to_list o))
 one_held start node (Some f) at h =
-    ((h f refl, (ap (λ a. a.ip) at, ap (λ a. a.port) at), (omega arith, omega arith, omega arith, omega arith, tt, tt, omega arith)), tt)
+    ((h f refl, (ap (λ a. a.ip) at, ap (λ a. a.port) at), (omega arith, omega arith, omega arith, omega arith, tt, tt, omega arith, tt)), tt)
 one_held start node None at h = tt
 
 held_formed : (start : World) (node : Node) (fetched : List Fetched) (segment : Segment) → node.server ≡ start.server
@@ -100,7 +101,7 @@ held_formed start node fetched segment at heads =
 -- the places of a restart
 pub point_formed : {State : Type 0} (service : Machine State) (profile : Profile) (start : World) (e : Entry) → profile ≡ start.profile → EntryFormed start e → PointFormed start (point_of service profile e)
 point_formed service profile start e same h =
-    record { key = h.key; sisn = h.sisn; mss = h.mss; enough = h.enough; fetched = omega arith; count = h.count; lengths = h.lengths; batches = ap (λ x. x.batches) same }
+    record { key = h.key; sisn = h.sisn; mss = h.mss; enough = h.enough; fetched = omega arith; count = h.count; lengths = h.lengths; batches = ap (λ x. x.batches) same; timestamping = resumed_has_room profile.timestamps e.mss }
 
 pub revived_formed : {State : Type 0} (service : Machine State) (start : World) (log : Log) (node : Node) → WritesBytes service → StartFormed start
     → EntriesFit (script_of start) (isn_of start) log.entries → node.server ≡ start.server → IsBoot node.boot
@@ -109,7 +110,7 @@ pub revived_formed : {State : Type 0} (service : Machine State) (start : World) 
 revived_formed service start log node writes s entries at b (Lives p) now sent h t =
     let c = connection_formed service start log node Begins p t.0 sent writes s entries at b tt tt tt h t.2 in
     (subst (AllByRecursion (PlaceSound start log)) (sym t.1) (c.0, tt), c.1)
-revived_formed service start log node writes s entries at b (Opens n) now sent h t =
+revived_formed service start log node writes s entries at b (Opens n timestamping) now sent h t =
     (subst (AllByRecursion (PlaceSound start log)) (sym t.0) (h, tt), subst (AllByRecursion (PacketFormed start)) (sym t.1) tt)
 revived_formed service start log node writes s entries at b (Ended k) now sent h t =
     (subst (AllByRecursion (PlaceSound start log)) (sym t.0) (h, tt), subst (AllByRecursion (PacketFormed start)) (sym t.1) tt)
@@ -194,6 +195,6 @@ turn_formed service start w node input sent after writes s k e brought (served o
     (place_formed service start w.log node input writes s k.truth.1.entries n.server n.profile n.boot i h)
     (all_both (PlaceFits (script_of start) (isn_of start) w.log) (PlaceFormed start) _ (newcomers node input opened places) (λ p x y. (x, y))
     (new_fits (script_of start) (isn_of start) w.log node input opened places i) (new_formed start node input opened places h))
-    (listen_formed start node input places n.server h) (λ numbers c. (n.boot, c.1))
+    (listen_formed start node input places n.server h) (λ numbers s c. (n.boot, c.1.0))
     (all_both (PlaceFits (script_of start) (isn_of start) w.log) (PlaceFormed start) _ places (λ p x y. (x, y)) fits formed) t in
     (subst (StageFormed start) (sym g) (sound_places start w.log later went.0), went.1)

@@ -1,10 +1,12 @@
 -- A server that hears what is well formed sends nothing else.
-use Rattle.std.proofs.Common.{◌≡◌, ℕ, ◌+◌, ◌-◌, ◌<◌, ◌≤◌, ◌^◌, ◌==◌, ◌&&◌, ◌||◌, not, nat_lt, min, sym, ap, ◌∙◌, subst, inl, inr, ◌⊎◌, ⊎_elim, Option, Some, None, List, [], ◌∷◌, ◌++◌, map, length, take, drop, sum, arith, append-nil, append_assoc, length-append, length-drop, length-take, ltb-true}
+use Rattle.std.proofs.Common.{◌≡◌, ℕ, ◌+◌, ◌-◌, ◌<◌, ◌≤◌, ◌^◌, ◌==◌, ◌&&◌, ◌||◌, not, nat_lt, min, sym, ap, ◌∙◌, subst, subst₂, inl, inr, ◌⊎◌, ⊎_elim, Option, Some, None, List, [], ◌∷◌, ◌++◌, map, length, take, drop, sum, arith, append-nil, append_assoc, length-append, length-drop, length-take, ltb-true}
 use Rattle.std.specs.List.{AllByRecursion, list_any}
 use Rattle.std.proofs.lemmas.Bool.{and_parts}
 use Rattle.ft_io.specs.declared.Addr.{Addr}
 use Rattle.ft_io.specs.declared.Key.{Key}
 use Rattle.tcp_rules.specs.Profile.{Profile}
+use Rattle.tcp_rules.specs.Timestamping.{timestamps_sent}
+use Rattle.tcp_rules.specs.declared.timestamping.Timestamping.{Timestamping}
 use Rattle.seq_arith.specs.Packet.{Segment, has_syn, has_rst, has_ack}
 use Rattle.seq_arith.specs.PacketGrammar.{packet_length}
 use Rattle.seq_arith.specs.Message.{Numbers, Body}
@@ -21,7 +23,7 @@ use Rattle.ft_model.specs.Reads.{next_length, may_read, next_read, with_read, Ma
 use Rattle.ft_model.specs.Copy.{copies}
 use Rattle.ft_model.specs.ResetAndEnd.{dones, tells_done}
 use Rattle.ft_model.specs.Segments.{segments_of}
-use Rattle.ft_model.specs.Opening.{is_syn, numbers_for, segment_size, point_opened}
+use Rattle.ft_model.specs.Opening.{is_syn, numbers_for, timestamping_for, point_opened}
 use Rattle.ft_model.specs.Refusal.{rst_at_ack, rst_behind, as_listen, as_closed, full_rst}
 use Rattle.ft_model.specs.Connection.{ResetTurn, LiveTurn, ConnectionTurn, told_by}
 use Rattle.ft_model.specs.Node.{Node, Place, Input, pending_count}
@@ -41,8 +43,9 @@ use Rattle.ft_model.proofs.Scripts.{NewsFits}
 use Rattle.ft_model.proofs.Faithful.{AnswerFits, PlaceFits, EntriesFit, NewsKnown, connection_fits}
 use Rattle.ft_model.proofs.FaithfulKept.{InputFits, news_fit, opened_point}
 use Rattle.ft_model.proofs.FaithfulOver.{script_of, isn_of}
-use Rattle.ft_model.proofs.Formed.{bytes_take, bytes_drop, bytes_front, bytes_output, HasClient, IsSize, AreLengths, IsBoot, NumbersFormed, BodyFormed, SegmentFormed, PacketFormed, StartFormed, PointFormed, PlaceFormed}
+use Rattle.ft_model.proofs.Formed.{bytes_take, bytes_drop, bytes_front, bytes_output, HasClient, IsSize, AreLengths, IsBoot, NumbersFormed, BodyFormed, SegmentFormed, PacketFormed, StartFormed, PointFormed, PlaceFormed, IsShortEcho, HasRoom}
 use Rattle.ft_model.proofs.FormedLog.{no_zero, lengths_drop}
+use Rattle.ft_model.proofs.Stamped.{is_size, asked_short, fitting_has_room, NewsShort, turn_has_room, sent_short, sent_fits}
 use Rattle.ft_io.proofs.Booleans.{not_true}
 use Rattle.ft_model.proofs.Copied.{Grows, text_in, all_copies}
 use Rattle.ft_io.proofs.Choices.{holds_if}
@@ -110,7 +113,7 @@ segment_formed : {State : Type 0} (service : Machine State) (start : World) (ser
     → server ≡ start.server → PointFormed start q → AreBytes q.taken → Spoken service server news p q segment → PacketFormed start (To_client segment)
 segment_formed service start server news p q segment writes at h bytes (spoken_syn e) =
     subst (λ s. PacketFormed start (To_client s)) (sym e)
-    (h.key, (ap (λ a. a.ip) at, ap (λ a. a.port) at), (h.sisn, omega arith, omega arith, omega arith, omega arith, tt, omega arith))
+    (h.key, (ap (λ a. a.ip) at, ap (λ a. a.port) at), (h.sisn, omega arith, omega arith, omega arith, omega arith, tt, omega (arith, sent_fits q.mss q.timestamping h.mss.1 h.timestamping), sent_short q.mss q.timestamping h.timestamping))
 segment_formed service start server news p q segment writes at h bytes (spoken_text offset n short e) =
     let run = bytes_output service writes q.taken (take q.reads_answered q.lengths) bytes in
     let size = length-take n (drop offset (answered_run service q).output) in
@@ -124,15 +127,16 @@ segment_formed service start server news p q segment writes at h bytes (spoken_t
         omega arith,
         tt,
         bytes_take n (drop offset (answered_run service q).output) (bytes_drop offset (answered_run service q).output run),
-        omega (arith, size, short, h.mss),
+        omega (arith, size, short, sent_fits q.mss q.timestamping h.mss.1 h.timestamping),
+        sent_short q.mss q.timestamping h.timestamping,
       ),
     )
 segment_formed service start server news p q segment writes at h bytes (spoken_fin f e) =
     subst (λ s. PacketFormed start (To_client s)) (sym e)
-    (h.key, (ap (λ a. a.ip) at, ap (λ a. a.port) at), (omega arith, omega arith, omega arith, omega arith, tt, tt, omega arith))
+    (h.key, (ap (λ a. a.ip) at, ap (λ a. a.port) at), (omega arith, omega arith, omega arith, omega arith, tt, tt, omega (arith, sent_fits q.mss q.timestamping h.mss.1 h.timestamping), sent_short q.mss q.timestamping h.timestamping))
 segment_formed service start server news p q segment writes at h bytes (spoken_bare offset e) =
     subst (λ s. PacketFormed start (To_client s)) (sym e)
-    (h.key, (ap (λ a. a.ip) at, ap (λ a. a.port) at), (omega arith, omega arith, omega arith, omega arith, tt, tt, omega arith))
+    (h.key, (ap (λ a. a.ip) at, ap (λ a. a.port) at), (omega arith, omega arith, omega arith, omega arith, tt, tt, omega (arith, sent_fits q.mss q.timestamping h.mss.1 h.timestamping), sent_short q.mss q.timestamping h.timestamping))
 
 -- and its messages
 pub text_bytes : (segment : Segment) → AreBytes segment.payload → AreBytes (text_of segment)
@@ -197,13 +201,19 @@ reset_formed : (start : World) (boot : ℕ) (news : News) (p q : Point) (sent : 
 reset_formed start boot news p q sent b h t =
     let key : HasClient start q.key = subst (HasClient start) (sym (ap (λ x. x.key) t.point)) h.key in (
       subst (PointFormed start) (sym t.point)
-          (record { key = h.key; sisn = h.sisn; mss = h.mss; enough = h.enough; fetched = h.fetched; count = h.count; lengths = h.lengths; batches = h.batches }),
+          (record { key = h.key; sisn = h.sisn; mss = h.mss; enough = h.enough; fetched = h.fetched; count = h.count; lengths = h.lengths; batches = h.batches; timestamping = h.timestamping }),
       subst (AllByRecursion (PacketFormed start)) (sym t.packets) (bodies_sent start boot (dones news p q) b (dones_formed start boot news p q key)),
     )
 
+news_short_stamps : (news : News) → NewsFormed news → NewsShort news
+news_short_stamps (Comes segment) n = n.7
+news_short_stamps (Logged kept) n = tt
+news_short_stamps Ticks n = tt
+news_short_stamps Begins n = tt
+
 live_point : {State : Type 0} (service : Machine State) (start : World) (server : Addr) (boot : ℕ) (news : News) (p q : Point) (sent : List Packet)
-    → PointFormed start p → LiveTurn service server boot news p q sent → PointFormed start q
-live_point service start server boot news p q sent h t =
+    → NewsFormed news → PointFormed start p → LiveTurn service server boot news p q sent → PointFormed start q
+live_point service start server boot news p q sent n h t =
     let more : length p.taken ≤ length q.taken = taken_more news p q t.taken in
     let before : Point = record q { lengths = p.lengths } in
     let fetched : q.fetched ≤ length q.taken = omega (arith, t.same.fetched, h.fetched, more) in
@@ -218,13 +228,14 @@ live_point service start server boot news p q sent h t =
       count = now.1;
       lengths = now.2;
       batches = t.same.batches ∙ h.batches;
+      timestamping = subst₂ HasRoom (sym t.same.mss) (sym t.timestamping) (turn_has_room news p (news_short_stamps news n) h.timestamping);
     }
 
 live_formed : {State : Type 0} (service : Machine State) (start : World) (server : Addr) (boot : ℕ) (news : News) (p q : Point) (sent : List Packet) → WritesBytes service
     → server ≡ start.server → IsBoot boot → NewsFormed news → PointFormed start p → TakesBytes start q → LiveTurn service server boot news p q sent
     → PointFormed start q × AllByRecursion (PacketFormed start) sent
 live_formed service start server boot news p q sent writes at b n h s t =
-    let point : PointFormed start q = live_point service start server boot news p q sent h t in
+    let point : PointFormed start q = live_point service start server boot news p q sent n h t in
     let segments : AllByRecursion (λ x. PacketFormed start (To_client x)) (segments_of service server news p q) =
     all_weaker (Spoken service server news p q) _ (segments_of service server news p q)
     (λ x spoken. segment_formed service start server news p q x writes at point s.bytes spoken) (segments_spoken service server news p q) in
@@ -266,7 +277,7 @@ pub listen_formed : (start : World) (node : Node) (input : Input) (places : List
 listen_formed start node (Packet_comes segment) places at h =
     holds_if (AllByRecursion (PacketFormed start)) (is_strange node segment places) (map To_client (as_listen node.server segment)) []
     (λ t. holds_if (λ x. AllByRecursion (PacketFormed start) (map To_client x)) (has_ack segment && not (has_rst segment)) (rst_at_ack node.server segment ∷ []) []
-    (λ s. ((h.0, (ap (λ a. a.ip) at, ap (λ a. a.port) at), (h.2.1, omega arith, omega arith, omega arith, tt, tt, omega arith)), tt)) (λ s. tt)) (λ t. tt)
+    (λ s. ((h.0, (ap (λ a. a.ip) at, ap (λ a. a.port) at), (h.2.1, omega arith, omega arith, omega arith, tt, tt, omega arith, tt)), tt)) (λ s. tt)) (λ t. tt)
 listen_formed start node (Message_comes message) places at h = tt
 listen_formed start node Noise_comes places at h = tt
 listen_formed start node Tick_comes places at h = tt
@@ -276,29 +287,31 @@ closed_formed : (start : World) (server : Addr) (segment : Segment) → server �
 closed_formed start server segment at h =
     holds_if (λ x. AllByRecursion (PacketFormed start) (map To_client x)) (has_rst segment) [] _ (λ t. tt)
     (λ t. holds_if (λ x. AllByRecursion (PacketFormed start) (map To_client x)) (has_ack segment) (rst_at_ack server segment ∷ []) (rst_behind server segment ∷ [])
-    (λ s. ((h.0, (ap (λ a. a.ip) at, ap (λ a. a.port) at), (h.2.1, omega arith, omega arith, omega arith, tt, tt, omega arith)), tt))
-    (λ s. ((h.0, (ap (λ a. a.ip) at, ap (λ a. a.port) at), (omega arith, omega arith, omega arith, omega arith, tt, tt, omega arith)), tt)))
+    (λ s. ((h.0, (ap (λ a. a.ip) at, ap (λ a. a.port) at), (h.2.1, omega arith, omega arith, omega arith, tt, tt, omega arith, tt)), tt))
+    (λ s. ((h.0, (ap (λ a. a.ip) at, ap (λ a. a.port) at), (omega arith, omega arith, omega arith, omega arith, tt, tt, omega arith, tt)), tt)))
 
 full_formed : (start : World) (server : Addr) (asked : Numbers) → server ≡ start.server → NumbersFormed start asked → PacketFormed start (To_client (full_rst server asked))
-full_formed start server asked at h = (h.0, (ap (λ a. a.ip) at, ap (λ a. a.port) at), (omega arith, omega arith, omega arith, omega arith, tt, tt, omega arith))
+full_formed start server asked at h = (h.0, (ap (λ a. a.ip) at, ap (λ a. a.port) at), (omega arith, omega arith, omega arith, omega arith, tt, tt, omega arith, tt))
 
 -- openings
-is_size : (mss : Option ℕ) → IsSize (segment_size mss)
-is_size (Some mss) = (omega arith, omega arith)
-is_size None = (omega arith, omega arith)
-
 pub new_formed : (start : World) (node : Node) (input : Input) (opened : ℕ) (places : List Place) → InputFormed start input
     → AllByRecursion (PlaceFormed start) (newcomers node input opened places)
 new_formed start node (Packet_comes segment) opened places h =
     holds_if (AllByRecursion (PlaceFormed start)) (is_strange node segment places && is_syn segment && nat_lt (pending_count places) 64)
-    (Opens (numbers_for node.isn opened segment) ∷ []) [] (λ t. ((h.0, h.2.0, omega arith, is_size segment.head.mss), tt)) (λ t. tt)
+    (Opens (numbers_for node.profile node.isn opened segment) (timestamping_for node.profile segment) ∷ []) [] (λ t. (
+      (
+        (h.0, h.2.0, omega arith, is_size segment.head.mss (timestamps_sent (timestamping_for node.profile segment))),
+        asked_short node.profile.timestamps segment.head.timestamps h.2.7,
+      ),
+      tt,
+    )) (λ t. tt)
 new_formed start node (Message_comes message) opened places h = tt
 new_formed start node Noise_comes opened places h = tt
 new_formed start node Tick_comes opened places h = tt
 
-opened_point_formed : (profile : Profile) (start : World) (kept : Numbers) → profile ≡ start.profile → NumbersFormed start kept → PointFormed start (point_opened profile kept)
-opened_point_formed profile start kept same h =
-    record { key = h.0; sisn = h.2; mss = h.3; enough = omega arith; fetched = omega arith; count = omega arith; lengths = tt; batches = ap (λ x. x.batches) same }
+opened_point_formed : (profile : Profile) (timestamping : Timestamping) (start : World) (kept : Numbers) → IsShortEcho timestamping → profile ≡ start.profile → NumbersFormed start kept → PointFormed start (point_opened profile timestamping kept)
+opened_point_formed profile timestamping start kept short same h =
+    record { key = h.0; sisn = h.2; mss = h.3; enough = omega arith; fetched = omega arith; count = omega arith; lengths = tt; batches = ap (λ x. x.batches) same; timestamping = fitting_has_room timestamping kept.mss short }
 
 -- one place in one turn
 pub place_formed : {State : Type 0} (service : Machine State) (start : World) (log : Log) (node : Node) (input : Input) → WritesBytes service
@@ -313,18 +326,19 @@ place_formed service start log node input writes s entries at same b i h place n
     let c = connection_formed service start log node news p after sent writes s entries at b (news_formed start node input news p h w) nf.0 nf.1
     (subst (PlaceSound start log) e f) t in
     (subst (AllByRecursion (PlaceSound start log)) (sym n) (c.0, tt), c.1)
-place_formed service start log node input writes s entries at same b i h place now sent f (began asked kept after e has n t) =
+place_formed service start log node input writes s entries at same b i h place now sent f (began asked kept timestamping after e has n t) =
     let told : InputFits (script_of start) (isn_of start) log (Message_comes has.message) = subst (InputFits (script_of start) (isn_of start) log) has.comes i in
     let came : InputFormed start (Message_comes has.message) = subst (InputFormed start) has.comes h in
     let numbers : NumbersFormed start kept = subst (BodyFormed start has.message.boot) has.body came.0.1 in
-    let c = connection_formed service start log node Begins (point_opened node.profile kept) after sent writes s entries at b tt tt tt
-    (opened_point node.profile (script_of start) (isn_of start) log kept entries (subst (AnswerFits log) has.body told), opened_point_formed node.profile start kept same numbers) t in
+    let pending : PlaceSound start log (Opens asked timestamping) = subst (PlaceSound start log) e f in
+    let c = connection_formed service start log node Begins (point_opened node.profile timestamping kept) after sent writes s entries at b tt tt tt
+    (opened_point node.profile timestamping (script_of start) (isn_of start) log kept entries (subst (AnswerFits log) has.body told), opened_point_formed node.profile timestamping start kept pending.1.1 same numbers) t in
     (subst (AllByRecursion (PlaceSound start log)) (sym n) (c.0, tt), c.1)
-place_formed service start log node input writes s entries at same b i h place now sent f (dropped asked e why n x) =
-    let numbers : PlaceSound start log (Opens asked) = subst (PlaceSound start log) e f in (
+place_formed service start log node input writes s entries at same b i h place now sent f (dropped asked timestamping e why n x) =
+    let numbers : PlaceSound start log (Opens asked timestamping) = subst (PlaceSound start log) e f in (
       subst (AllByRecursion (PlaceSound start log)) (sym n) tt,
       ⊎_elim (λ y. subst (AllByRecursion (PacketFormed start)) (sym y) tt)
-          (λ y. subst (AllByRecursion (PacketFormed start)) (sym y) (full_formed start node.server asked at numbers.1, tt)) x,
+          (λ y. subst (AllByRecursion (PacketFormed start)) (sym y) (full_formed start node.server asked at numbers.1.0, tt)) x,
     )
 place_formed service start log node input writes s entries at same b i h place now sent f (ended p e why n x) =
     (subst (AllByRecursion (PlaceSound start log)) (sym n) ((tt, tt), tt), subst (AllByRecursion (PacketFormed start)) (sym x) tt)

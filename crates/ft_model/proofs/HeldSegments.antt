@@ -1,4 +1,5 @@
 -- The run with two segments in the wrong order, whole: each moment happens and is allowed.
+use Rattle.std.specs.Prelude.{None}
 use Rattle.std.proofs.Common.{◌≡◌, false, refl, List}
 use native.Mathlib.Bridge.{IsLe}
 use Rattle.ft_model.specs.Client.Move.{Text}
@@ -29,11 +30,11 @@ turn_14 = serves echo 1 5000 run.gap_filled run.held_point run.filled_point run.
 
 happens_11 : Happens echo path.moment_10.world run.moment_11.event run.moment_11.sent run.moment_11.world
 unfolding laws IsLe
-happens_11 = record { client = path.open_client; segment = segment_in run.first_sent; later = run.telling_client; is_there = refl; move = record { move = Text 0 2; window = 65535; may = refl; fits = refl; segment_is = refl; after_is = refl }; sent_is = refl; after_is = refl }
+happens_11 = record { client = path.open_client; segment = segment_in run.first_sent; later = run.telling_client; is_there = refl; move = record { move = Text 0 2; window = 65535; may = refl; fits = refl; timestamps = None; carries = refl; segment_is = refl; after_is = refl }; sent_is = refl; after_is = refl }
 
 happens_12 : Happens echo run.moment_11.world run.moment_12.event run.moment_12.sent run.moment_12.world
 unfolding laws IsLe
-happens_12 = record { client = run.telling_client; segment = segment_in run.second_sent; later = path.told_client; is_there = refl; move = record { move = Text 2 3; window = 65535; may = refl; fits = refl; segment_is = refl; after_is = refl }; sent_is = refl; after_is = refl }
+happens_12 = record { client = run.telling_client; segment = segment_in run.second_sent; later = path.told_client; is_there = refl; move = record { move = Text 2 3; window = 65535; may = refl; fits = refl; timestamps = None; carries = refl; segment_is = refl; after_is = refl }; sent_is = refl; after_is = refl }
 
 happens_13 : Happens echo run.moment_12.world run.moment_13.event run.moment_13.sent run.moment_13.world
 unfolding laws IsLe

@@ -21,7 +21,7 @@ use Rattle.ft_model.specs.Reads.{reads_told, read_messages, first_told}
 use Rattle.ft_model.specs.ResetAndEnd.{dones, tells_done}
 use Rattle.ft_model.specs.Segments.{segments_of}
 use Rattle.ft_model.specs.Connection.{ConnectionTurn, told_by}
-use Rattle.ft_model.specs.Opening.{is_syn, numbers_for}
+use Rattle.ft_model.specs.Opening.{is_syn, numbers_for, timestamping_for}
 use Rattle.ft_model.specs.Refusal.{as_listen, as_closed, rst_at_ack, rst_behind}
 use Rattle.ft_model.specs.Node.{Node, Place, Stage, Input, key_of, is_for, is_known, pending_count}
 use Rattle.ft_model.specs.Node.Place.{Opens, Lives, Ended}
@@ -126,7 +126,7 @@ asks_on boot keys later places now on (From_logger message) a = tt
 place_ends : (log : Log) (message : Message) (place : Place) → PlaceEnds log place → PlaceEnds (log_after log message) place
 place_ends log message (Ended key) e = done_later log (log_after log message) key (log_grows log message) e
 place_ends log message (Lives p) e = tt
-place_ends log message (Opens n) e = tt
+place_ends log message (Opens n timestamping) e = tt
 
 -- a message comes to the log
 pub stage_hears : (w : World) (message : Message) (node : Node) (stage : Stage) → IsUnderWay w (To_logger message) → IsLogged w.log.boot node stage
@@ -251,9 +251,9 @@ place_knows service script isn log node input entries i says place now sent q (s
     (subst (AllByRecursion (PlaceEnds log)) (sym n) (q.1, tt), subst (AllByRecursion (IsPlain log)) (sym s) tt)
 place_knows service script isn log node input entries i says place now sent q (went_on news p after e w n t) =
     (subst (AllByRecursion (PlaceEnds log)) (sym n) (tt, tt), connection_plain service log node.server node.boot news p after sent t)
-place_knows service script isn log node input entries i says place now sent q (began asked kept after e h n t) =
+place_knows service script isn log node input entries i says place now sent q (began asked kept timestamping after e h n t) =
     (subst (AllByRecursion (PlaceEnds log)) (sym n) (tt, tt), connection_plain service log node.server node.boot _ _ after sent t)
-place_knows service script isn log node input entries i says place now sent q (dropped asked e d n s) =
+place_knows service script isn log node input entries i says place now sent q (dropped asked timestamping e d n s) =
     let shut : IsShut (entry_keys log) asked.key = dropped_shut script isn log node input asked entries i says (subst (PlaceFits script isn log) e q.0) d in (
       subst (AllByRecursion (PlaceEnds log)) (sym n) tt,
       ⊎_elim (λ x. subst (AllByRecursion (IsPlain log)) (sym x) tt) (λ x. subst (AllByRecursion (IsPlain log)) (sym x) ((λ r. inr shut, tt), tt)) s,
@@ -274,7 +274,7 @@ place_stays : {State : Type 0} (service : Machine State) (script : Key → List 
     → EntriesFit script isn log.entries → InputFits script isn log input → InputSays log input
     → (place : Place) (now : List Place) (sent : List Packet) → PlaceFits script isn log place → PlaceWent service node input place now sent → StaysOrShuts (entry_keys log) place now
 place_stays service script isn log node input entries i says place now sent f t =
-    ⊎_elim (λ d. inr (subst (IsShut (entry_keys log)) (sym (ap key_of d.1)) (dropped_shut script isn log node input d.0 entries i says (subst (PlaceFits script isn log) d.1 f) d.2)))
+    ⊎_elim (λ d. inr (subst (IsShut (entry_keys log)) (sym (ap key_of d.2)) (dropped_shut script isn log node input d.0 entries i says (subst (PlaceFits script isn log) d.2 f) d.3)))
     (λ k. inl k) (stays_or_drops service node input place now sent t)
 
 knows_on : (Goes : Place → List Place → List Packet → Type 0) (Q : Place → Type 0) (keys : List Key) (key : Key)
@@ -314,7 +314,7 @@ refusals_plain log node Tick_comes places g calls = tt
 
 new_ends : (log : Log) (node : Node) (input : Input) (opened : ℕ) (places : List Place) → AllByRecursion (PlaceEnds log) (newcomers node input opened places)
 new_ends log node (Packet_comes segment) opened places =
-    holds_if (AllByRecursion (PlaceEnds log)) (is_strange node segment places && is_syn segment && nat_lt (pending_count places) 64) (Opens (numbers_for node.isn opened segment) ∷ []) []
+    holds_if (AllByRecursion (PlaceEnds log)) (is_strange node segment places && is_syn segment && nat_lt (pending_count places) 64) (Opens (numbers_for node.profile node.isn opened segment) (timestamping_for node.profile segment) ∷ []) []
     (λ t. (tt, tt)) (λ t. tt)
 new_ends log node (Message_comes message) opened places = tt
 new_ends log node Noise_comes opened places = tt
@@ -366,4 +366,4 @@ serving_knows service script isn log packets node input opened places later sent
     (all_append fair (refusals node input places) _
     (all_weaker (IsPlain log) fair (refusals node input places) (plain_fair log node.boot later) (refusals_plain log node input places k.keys calls))
     (all_flat (λ place. Knows later (key_of place)) fair (opens_at node input) later
-    (asks_so node input (λ place. Knows later (key_of place)) fair (λ numbers r. (tt, λ e. inl r))) (each_known later)))))
+    (asks_so node input (λ place. Knows later (key_of place)) fair (λ numbers s r. (tt, λ e. inl r))) (each_known later)))))

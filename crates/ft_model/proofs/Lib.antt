@@ -48,6 +48,7 @@ pub mod Asked
 pub mod Resumed
 pub mod Exact
 pub mod Stands
+pub mod Stamped
 pub mod StreamAgreement
 pub mod Copied
 pub mod RightEdge

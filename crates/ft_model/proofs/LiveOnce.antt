@@ -15,9 +15,9 @@ use Rattle.ft_model.proofs.Settled.{noted, settled, makes_alike}
 noted_is : {State : Type 0} (service : Machine State) (server : Addr) (boot : ℕ) (news : News) (p q : Point) (sent : List Packet)
     → LiveTurn service server boot news p q sent → q ≡ noted news p q.lengths q.sent q.timing q.interval q.rest q.end_ticks
 noted_is service server boot news p q sent t =
-    let e : record { key = q.key; cisn = q.cisn; sisn = q.sisn; mss = q.mss; fetched = q.fetched; fetched_output = q.fetched_output; taken = q.taken; fin = q.fin; early = q.early; answered = q.answered; lengths = q.lengths; reads_answered = q.reads_answered; una = q.una; sent = q.sent; edge = q.edge; wl1 = q.wl1; wl2 = q.wl2; congestion = q.congestion; syn_acked = q.syn_acked; timing = q.timing; delays = q.delays; batches = q.batches; interval = q.interval; rest = q.rest; end_ticks = q.end_ticks; reset = q.reset }
+    let e : record { key = q.key; cisn = q.cisn; sisn = q.sisn; mss = q.mss; fetched = q.fetched; fetched_output = q.fetched_output; taken = q.taken; fin = q.fin; early = q.early; answered = q.answered; lengths = q.lengths; reads_answered = q.reads_answered; una = q.una; sent = q.sent; edge = q.edge; wl1 = q.wl1; wl2 = q.wl2; congestion = q.congestion; syn_acked = q.syn_acked; timing = q.timing; timestamping = q.timestamping; delays = q.delays; batches = q.batches; interval = q.interval; rest = q.rest; end_ticks = q.end_ticks; reset = q.reset }
     ≡ noted news p q.lengths q.sent q.timing q.interval q.rest q.end_ticks =
-    cc (t.same.key, t.same.cisn, t.same.sisn, t.same.mss, t.same.fetched, t.same.fetched_output, t.same.delays, t.same.batches, t.taken, t.fin, t.early, t.answered, t.reads_answered, t.una, t.edge, t.wl1, t.wl2, t.congestion, t.syn_acked, t.reset)
+    cc (t.same.key, t.same.cisn, t.same.sisn, t.same.mss, t.same.fetched, t.same.fetched_output, t.same.delays, t.same.batches, t.taken, t.fin, t.early, t.answered, t.reads_answered, t.una, t.edge, t.wl1, t.wl2, t.congestion, t.syn_acked, t.timestamping, t.reset)
     in e
 
 -- none, and some: never both

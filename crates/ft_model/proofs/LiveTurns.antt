@@ -83,6 +83,7 @@ live_turn service server boot news p known =
       congestion = refl;
       sent_units = refl;
       timing = refl;
+      timestamping = refl;
       interval = refl;
       rest = refl;
       end_ticks = refl;

@@ -1,6 +1,7 @@
 -- The run with a measured timer and a recovery, whole: each moment happens and is allowed.
 use Rattle.std.proofs.Common.{◌^◌, false, refl, None, [], ◌∷◌}
 use native.Mathlib.Bridge.{le_by_compare, IsLe}
+use Rattle.tcp_rules.specs.declared.timestamping.Timestamping.TheVariants.{Off}
 use Rattle.tcp_rules.specs.Profile.{wan}
 use Rattle.seq_arith.specs.Message.Body.{HelloMsg, SummaryMsg, ListMsg, EntryMsg, BytesMsg, PartMsg, CutsMsg, LensMsg}
 use Rattle.server_trait.specs.Service.{AreBytes}
@@ -179,11 +180,11 @@ happens_3 = (path.packet_2, refl, ((node_at (Serving 0 []), refl, turn_3 transfe
 
 happens_4 : Follows run.moment_3 run.moment_4
 unfolding laws IsLe
-happens_4 = record { client = client_with run.request; segment = segment_in path.packet_3; later = run.opening; is_there = refl; move = record { move = Syn None; window = 65535; may = refl; fits = refl; segment_is = refl; after_is = refl }; sent_is = refl; after_is = refl }
+happens_4 = record { client = client_with run.request; segment = segment_in path.packet_3; later = run.opening; is_there = refl; move = record { move = Syn None; window = 65535; may = refl; fits = refl; timestamps = None; carries = refl; segment_is = refl; after_is = refl }; sent_is = refl; after_is = refl }
 
 happens_5 : Follows run.moment_4 run.moment_5
 unfolding laws IsLe
-happens_5 = (path.packet_3, refl, ((node_at (Serving 1 (Opens numbers ∷ [])), refl, turn_5 transfer), refl))
+happens_5 = (path.packet_3, refl, ((node_at (Serving 1 (Opens numbers Off ∷ [])), refl, turn_5 transfer), refl))
 
 happens_6 : Follows run.moment_5 run.moment_6
 unfolding laws IsLe
@@ -199,7 +200,7 @@ happens_8 = (path.packet_6, refl, (refl, refl))
 
 happens_9 : Follows run.moment_8 run.moment_9
 unfolding laws IsLe
-happens_9 = record { client = run.open_client; segment = segment_in path.packet_7; later = run.open_client; is_there = refl; move = record { move = Acknowledge; window = 65535; may = refl; fits = refl; segment_is = refl; after_is = refl }; sent_is = refl; after_is = refl }
+happens_9 = record { client = run.open_client; segment = segment_in path.packet_7; later = run.open_client; is_there = refl; move = record { move = Acknowledge; window = 65535; may = refl; fits = refl; timestamps = None; carries = refl; segment_is = refl; after_is = refl }; sent_is = refl; after_is = refl }
 
 happens_10 : Follows run.moment_9 run.moment_10
 unfolding laws IsLe
@@ -207,7 +208,7 @@ happens_10 = (path.packet_7, refl, ((node_live open_point, refl, turn_10 transfe
 
 happens_11 : Follows run.moment_10 run.moment_11
 unfolding laws IsLe
-happens_11 = record { client = run.open_client; segment = segment_in run.asking; later = run.told_client; is_there = refl; move = record { move = Text 0 4; window = 65535; may = refl; fits = refl; segment_is = refl; after_is = refl }; sent_is = refl; after_is = refl }
+happens_11 = record { client = run.open_client; segment = segment_in run.asking; later = run.told_client; is_there = refl; move = record { move = Text 0 4; window = 65535; may = refl; fits = refl; timestamps = None; carries = refl; segment_is = refl; after_is = refl }; sent_is = refl; after_is = refl }
 
 happens_12 : Follows run.moment_11 run.moment_12
 unfolding laws IsLe
@@ -243,7 +244,7 @@ happens_19 = (run.text 0 536, refl, (refl, refl))
 
 happens_20 : Follows run.moment_19 run.moment_20
 unfolding laws IsLe pattern
-happens_20 = record { client = run.has 536 0; segment = segment_in (run.acknowledging 536); later = run.has 536 536; is_there = refl; move = record { move = Acknowledge; window = 65535; may = refl; fits = refl; segment_is = refl; after_is = refl }; sent_is = refl; after_is = refl }
+happens_20 = record { client = run.has 536 0; segment = segment_in (run.acknowledging 536); later = run.has 536 536; is_there = refl; move = record { move = Acknowledge; window = 65535; may = refl; fits = refl; timestamps = None; carries = refl; segment_is = refl; after_is = refl }; sent_is = refl; after_is = refl }
 
 happens_21 : Follows run.moment_20 run.moment_21
 unfolding laws IsLe
@@ -251,7 +252,7 @@ happens_21 = (run.acknowledging 536, refl, ((node_live run.measured_point, refl,
 
 happens_22 : Follows run.moment_21 run.moment_22
 unfolding laws IsLe pattern
-happens_22 = record { client = run.has 536 536; segment = segment_in (run.acknowledging 536); later = run.has 536 536; is_there = refl; move = record { move = Acknowledge; window = 65535; may = refl; fits = refl; segment_is = refl; after_is = refl }; sent_is = refl; after_is = refl }
+happens_22 = record { client = run.has 536 536; segment = segment_in (run.acknowledging 536); later = run.has 536 536; is_there = refl; move = record { move = Acknowledge; window = 65535; may = refl; fits = refl; timestamps = None; carries = refl; segment_is = refl; after_is = refl }; sent_is = refl; after_is = refl }
 
 happens_23 : Follows run.moment_22 run.moment_23
 unfolding laws IsLe
@@ -259,7 +260,7 @@ happens_23 = (run.acknowledging 536, refl, ((node_live (run.repeated 1), refl, t
 
 happens_24 : Follows run.moment_23 run.moment_24
 unfolding laws IsLe pattern
-happens_24 = record { client = run.has 536 536; segment = segment_in (run.acknowledging 536); later = run.has 536 536; is_there = refl; move = record { move = Acknowledge; window = 65535; may = refl; fits = refl; segment_is = refl; after_is = refl }; sent_is = refl; after_is = refl }
+happens_24 = record { client = run.has 536 536; segment = segment_in (run.acknowledging 536); later = run.has 536 536; is_there = refl; move = record { move = Acknowledge; window = 65535; may = refl; fits = refl; timestamps = None; carries = refl; segment_is = refl; after_is = refl }; sent_is = refl; after_is = refl }
 
 happens_25 : Follows run.moment_24 run.moment_25
 unfolding laws IsLe
@@ -267,7 +268,7 @@ happens_25 = (run.acknowledging 536, refl, ((node_live (run.repeated 2), refl, t
 
 happens_26 : Follows run.moment_25 run.moment_26
 unfolding laws IsLe pattern
-happens_26 = record { client = run.has 536 536; segment = segment_in (run.acknowledging 536); later = run.has 536 536; is_there = refl; move = record { move = Acknowledge; window = 65535; may = refl; fits = refl; segment_is = refl; after_is = refl }; sent_is = refl; after_is = refl }
+happens_26 = record { client = run.has 536 536; segment = segment_in (run.acknowledging 536); later = run.has 536 536; is_there = refl; move = record { move = Acknowledge; window = 65535; may = refl; fits = refl; timestamps = None; carries = refl; segment_is = refl; after_is = refl }; sent_is = refl; after_is = refl }
 
 happens_27 : Follows run.moment_26 run.moment_27
 unfolding laws IsLe
@@ -279,7 +280,7 @@ happens_28 = (run.text 536 536, refl, (refl, refl))
 
 happens_29 : Follows run.moment_28 run.moment_29
 unfolding laws IsLe pattern
-happens_29 = record { client = run.has 1072 536; segment = segment_in (run.acknowledging 1072); later = run.has 1072 1072; is_there = refl; move = record { move = Acknowledge; window = 65535; may = refl; fits = refl; segment_is = refl; after_is = refl }; sent_is = refl; after_is = refl }
+happens_29 = record { client = run.has 1072 536; segment = segment_in (run.acknowledging 1072); later = run.has 1072 1072; is_there = refl; move = record { move = Acknowledge; window = 65535; may = refl; fits = refl; timestamps = None; carries = refl; segment_is = refl; after_is = refl }; sent_is = refl; after_is = refl }
 
 happens_30 : Follows run.moment_29 run.moment_30
 unfolding laws IsLe
@@ -315,7 +316,7 @@ happens_37 = (run.text 1072 536, refl, (refl, refl))
 
 happens_38 : Follows run.moment_37 run.moment_38
 unfolding laws IsLe pattern
-happens_38 = record { client = run.has 1608 1072; segment = segment_in (run.acknowledging 1608); later = run.has 1608 1608; is_there = refl; move = record { move = Acknowledge; window = 65535; may = refl; fits = refl; segment_is = refl; after_is = refl }; sent_is = refl; after_is = refl }
+happens_38 = record { client = run.has 1608 1072; segment = segment_in (run.acknowledging 1608); later = run.has 1608 1608; is_there = refl; move = record { move = Acknowledge; window = 65535; may = refl; fits = refl; timestamps = None; carries = refl; segment_is = refl; after_is = refl }; sent_is = refl; after_is = refl }
 
 happens_39 : Follows run.moment_38 run.moment_39
 unfolding laws IsLe

@@ -18,7 +18,7 @@ use Rattle.ft_model.proofs.Unfenced.{live_stage}
 
 place_counts : {State : Type 0} (service : Machine State) (author : Key → List ℕ) (place : Place) → PlaceRuns service author place → CountsReads place
 place_counts service author (Lives p) r = r.1.counts
-place_counts service author (Opens n) r = tt
+place_counts service author (Opens n timestamping) r = tt
 place_counts service author (Ended k) r = tt
 
 stage_counts : {State : Type 0} (service : Machine State) (author : Key → List ℕ) (stage : Stage) → StageRuns service author stage → AllCount stage

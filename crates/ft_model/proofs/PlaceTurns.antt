@@ -1,4 +1,5 @@
 -- What becomes of one place in one turn, and how what holds of each place and each packet holds of a whole turn.
+use Rattle.tcp_rules.specs.declared.timestamping.Timestamping.{Timestamping}
 use Rattle.std.proofs.Common.{◌≡◌, ℕ, Bool, true, false, ◌==◌, MatchBool, refl, sym, ap, ◌∙◌, subst, eqb-true, List, [], ◌∷◌, map, flat_map, inl, inr, ◌⊎◌}
 use Rattle.std.specs.List.{AllByRecursion}
 use Rattle.std.proofs.lemmas.Bool.{and_parts}
@@ -52,9 +53,9 @@ pub data PlaceWent {State : Type 0} (service : Machine State) (node : Node) (inp
   stayed : now ≡ place ∷ [] → sent ≡ [] → PlaceWent service node input place now sent
   went_on : (news : News) (p after : Point) → place ≡ Lives p → IsNews node input news p → now ≡ Lives after ∷ []
       → ConnectionTurn service node.server node.boot news p after sent → PlaceWent service node input place now sent
-  began : (asked kept : Numbers) (after : Point) → place ≡ Opens asked → HasOpened node input asked kept → now ≡ Lives after ∷ []
-      → ConnectionTurn service node.server node.boot Begins (point_opened node.profile kept) after sent → PlaceWent service node input place now sent
-  dropped : (asked : Numbers) → place ≡ Opens asked → IsDropped node input asked → now ≡ [] → (sent ≡ []) ⊎ (sent ≡ To_client (full_rst node.server asked) ∷ []) → PlaceWent service node input place now sent
+  began : (asked kept : Numbers) (timestamping : Timestamping) (after : Point) → place ≡ Opens asked timestamping → HasOpened node input asked kept → now ≡ Lives after ∷ []
+      → ConnectionTurn service node.server node.boot Begins (point_opened node.profile timestamping kept) after sent → PlaceWent service node input place now sent
+  dropped : (asked : Numbers) (timestamping : Timestamping) → place ≡ Opens asked timestamping → IsDropped node input asked → now ≡ [] → (sent ≡ []) ⊎ (sent ≡ To_client (full_rst node.server asked) ∷ []) → PlaceWent service node input place now sent
   ended : (p : Point) → place ≡ Lives p → HasEnded input p.key → now ≡ Ended p.key ∷ [] → sent ≡ [] → PlaceWent service node input place now sent
   refused : (key : Key) (segment : Segment) → place ≡ Ended key → input ≡ Packet_comes segment → source_of segment ≡ key → now ≡ Ended key ∷ []
       → sent ≡ map To_client (as_closed node.server segment) → PlaceWent service node input place now sent
@@ -63,12 +64,12 @@ stays : {State : Type 0} (service : Machine State) (node : Node) (input : Input)
     → Stays place now sent → PlaceWent service node input place now sent
 stays service node input place now sent s = stayed s.0 s.1
 
-opens : {State : Type 0} (service : Machine State) (node : Node) (input : Input) (asked kept : Numbers) (b : Bool) (now : List Place) (sent : List Packet)
+opens : {State : Type 0} (service : Machine State) (node : Node) (input : Input) (asked kept : Numbers) (timestamping : Timestamping) (b : Bool) (now : List Place) (sent : List Packet)
     → (kept.cisn == asked.cisn) ≡ b → HasOpened node input asked kept
-    → MatchBool b (LivesOn service node Begins (point_opened node.profile kept) now sent) ((now ≡ []) × (sent ≡ []))
-    → PlaceWent service node input (Opens asked) now sent
-opens service node input asked kept true now sent o h t = began asked kept t.0 refl h t.1 t.2
-opens service node input asked kept false now sent o h t = dropped asked refl (inl (kept, h, o)) t.0 (inl t.1)
+    → MatchBool b (LivesOn service node Begins (point_opened node.profile timestamping kept) now sent) ((now ≡ []) × (sent ≡ []))
+    → PlaceWent service node input (Opens asked timestamping) now sent
+opens service node input asked kept timestamping true now sent o h t = began asked kept timestamping t.0 refl h t.1 t.2
+opens service node input asked kept timestamping false now sent o h t = dropped asked timestamping refl (inl (kept, h, o)) t.0 (inl t.1)
 
 hears : {State : Type 0} (service : Machine State) (node : Node) (message : Message) (body : Body) (place : Place) (now : List Place) (sent : List Packet)
     → message.body ≡ body → message.boot ≡ node.boot → names body (key_of place) ≡ true
@@ -78,11 +79,11 @@ hears service node message (StableMsg kept) (Lives p) now sent e b n t =
 hears service node message (ReadsMsg kept) (Lives p) now sent e b n t =
     went_on (Logged kept) p t.0 refl (message, refl, b, same_key kept.key p.key n, inr e) t.1 t.2
 hears service node message (EndedMsg key) (Lives p) now sent e b n t = ended p refl (message, refl, e ∙ ap EndedMsg (same_key key p.key n)) t.0 t.1
-hears service node message (OpenedMsg kept) (Opens asked) now sent e b n t =
-    opens service node (Message_comes message) asked kept (kept.cisn == asked.cisn) now sent refl
+hears service node message (OpenedMsg kept) (Opens asked timestamping) now sent e b n t =
+    opens service node (Message_comes message) asked kept timestamping (kept.cisn == asked.cisn) now sent refl
     (record { message = message; comes = refl; boot = b; body = e; key = same_key kept.key asked.key n }) t
-hears service node message (FullMsg key) (Opens asked) now sent e b n t =
-    dropped asked refl (inr (message, refl, e ∙ ap FullMsg (same_key key asked.key n))) t.0 (inr t.1)
+hears service node message (FullMsg key) (Opens asked timestamping) now sent e b n t =
+    dropped asked timestamping refl (inr (message, refl, e ∙ ap FullMsg (same_key key asked.key n))) t.0 (inr t.1)
 hears service node message body place now sent e b n t = stays service node (Message_comes message) place now sent t
 
 meets : {State : Type 0} (service : Machine State) (node : Node) (input : Input) (place : Place) (now : List Place) (sent : List Packet)
@@ -126,9 +127,9 @@ all_flat R P f [] g a = tt
 all_flat R P f (x ∷ xs) g a = all_append P (f x) (flat_map f xs) (g x a.0) (all_flat R P f xs g a.1)
 
 pub asks_so : (node : Node) (input : Input) (R : Place → Type 0) (P : Packet → Type 0)
-    → ((numbers : Numbers) → R (Opens numbers) → P (told_by node.boot (OpenMsg numbers))) → (place : Place) → R place → AllByRecursion P (opens_at node input place)
-asks_so node input R P asks (Opens numbers) r =
-    holds_if (AllByRecursion P) (is_asked node input numbers) (told_by node.boot (OpenMsg numbers) ∷ []) [] (λ t. (asks numbers r, tt)) (λ t. tt)
+    → ((numbers : Numbers) (timestamping : Timestamping) → R (Opens numbers timestamping) → P (told_by node.boot (OpenMsg numbers))) → (place : Place) → R place → AllByRecursion P (opens_at node input place)
+asks_so node input R P asks (Opens numbers timestamping) r =
+    holds_if (AllByRecursion P) (is_asked node input numbers) (told_by node.boot (OpenMsg numbers) ∷ []) [] (λ t. (asks numbers timestamping r, tt)) (λ t. tt)
 asks_so node input R P asks (Lives p) r = tt
 asks_so node input R P asks (Ended key) r = tt
 
@@ -137,7 +138,7 @@ pub serving_goes_on : {State : Type 0} (service : Machine State) (node : Node) (
     (before after : List Place) (sent : List Packet)
     → ((place : Place) (now : List Place) (sent : List Packet) → Q place → PlaceWent service node input place now sent → AllByRecursion R now × AllByRecursion P sent)
     → AllByRecursion R (newcomers node input opened before) → AllByRecursion P (refusals node input before)
-    → ((numbers : Numbers) → R (Opens numbers) → P (told_by node.boot (OpenMsg numbers)))
+    → ((numbers : Numbers) (timestamping : Timestamping) → R (Opens numbers timestamping) → P (told_by node.boot (OpenMsg numbers)))
     → AllByRecursion Q before → ServingTurn service node input opened before after sent
     → AllByRecursion R after × AllByRecursion P sent
 serving_goes_on service node input opened Q R P before after sent step fresh rsts asks q t =

@@ -1,4 +1,7 @@
 -- Every connection has its server's profile. Where nothing is measured its timing never changes, and no loss is noted.
+use Rattle.tcp_rules.specs.Timestamping.{fitting, asked_by, resumed_with}
+use Rattle.tcp_rules.specs.declared.timestamping.Timestamping.TheVariants.{Off}
+use Rattle.tcp_rules.specs.declared.timestamping.Timestamping.{Timestamping}
 use Rattle.std.proofs.Common.{◌≡◌, ℕ, ◌+◌, ◌-◌, ◌*◌, Bool, true, false, ◌==◌, ◌&&◌, not, nat_lt, min, refl, sym, ap, ◌∙◌, subst, arith, Some, List, [], ◌∷◌}
 use Rattle.std.specs.Prelude.{nat_le}
 use Rattle.std.specs.List.{AllByRecursion}
@@ -6,6 +9,7 @@ use Rattle.ft_io.specs.declared.Addr.{Addr}
 use Rattle.ft_io.proofs.Choices.{holds_either_way, if_false}
 use Rattle.tcp_rules.specs.Congestion.{Congestion, is_partial, with_new_data, with_duplicate, with_expiry}
 use Rattle.seq_arith.specs.Message.{Numbers}
+use Rattle.seq_arith.specs.Packet.{Segment}
 use Rattle.tcp_rules.specs.Profile.{Profile, plain}
 use Rattle.tcp_rules.proofs.Unmeasured.{duplicate_recovers, duplicate_notes_none}
 use Rattle.tcp_rules.specs.Timing.{Timing, initial_timing, with_sample, with_acknowledged, with_tick, without_trip, with_backoff, with_sent}
@@ -16,7 +20,7 @@ use Rattle.ft_model.specs.News.{News}
 use Rattle.ft_model.specs.News.News.{Comes, Logged, Ticks, Begins}
 use Rattle.ft_model.specs.Point.{Point}
 use Rattle.ft_model.specs.Profiled.{HasProfile}
-use Rattle.ft_model.specs.Opening.{is_syn, numbers_for, point_opened}
+use Rattle.ft_model.specs.Opening.{is_syn, numbers_for, point_opened, timestamping_for}
 use Rattle.ft_model.specs.Restart.{Fetched, entry_in, point_of}
 use Rattle.ft_model.specs.Sending.{acknowledged_by, acknowledges_new, is_duplicate, is_lost, is_first_expiry, flight, congestion_after, sent_at_once, timing_after, resends}
 use Rattle.ft_model.specs.Timer.{timing_noted}
@@ -28,6 +32,7 @@ use Rattle.ft_model.specs.Node.Input.{Packet_comes, Message_comes, Noise_comes, 
 use Rattle.ft_model.specs.ServingTurn.{newcomers, refusals, is_strange}
 use Rattle.ft_model.specs.Lawful.{restored, all_restored, Revives, LawfulTurn}
 use Rattle.ft_model.specs.World.{World, Moment, Joint, world_after}
+use Rattle.ft_model.proofs.Stamped.{stays_off}
 use Rattle.ft_model.proofs.Lists.{none_is_some, some_is, all_of, all_weaker, all_append}
 use Rattle.ft_model.proofs.StageTurns.{StageWent, stage_went, either_turn}
 use Rattle.ft_model.proofs.StageTurns.StageWent.{was_fenced, waited, held_off, asked_on, resumed, served}
@@ -125,28 +130,52 @@ live_keeps service profile server boot news p q sent h t = record {
   batches = t.same.batches ∙ h.batches;
   timing = λ off. t.timing ∙ turn_stays service news p q (h.timing off);
   lost = λ off. ap (λ x. x.lost) t.congestion ∙ turn_notes_none news p (h.recovers ∙ off) (h.lost off);
+  timestamping = λ off. t.timestamping ∙ stays_off news p (h.timestamping off);
 }
 
 pub turn_keeps : {State : Type 0} (service : Machine State) (profile : Profile) (server : Addr) (boot : ℕ) (news : News) (p q : Point) (sent : List Packet)
     → ConnectionTurn service server boot news p q sent → HasProfile profile p → HasProfile profile q
 turn_keeps service profile server boot news p q sent t h =
     either_turn service server boot news p q sent
-    (λ r. subst (HasProfile profile) (sym r.point) (record { measures = h.measures; recovers = h.recovers; delays = h.delays; batches = h.batches; timing = h.timing; lost = h.lost }))
+    (λ r. subst (HasProfile profile) (sym r.point) (record { measures = h.measures; recovers = h.recovers; delays = h.delays; batches = h.batches; timing = h.timing; lost = h.lost; timestamping = h.timestamping }))
     (λ l. live_keeps service profile server boot news p q sent h l) t
 
 unmeasured : (measures : Bool) → measures ≡ false → initial_timing measures ≡ initial_timing false
 unmeasured measures off = ap initial_timing off
 
-pub opened_has : (profile : Profile) (numbers : Numbers) → HasProfile profile (point_opened profile numbers)
-opened_has profile numbers = record { measures = refl; recovers = refl; delays = refl; batches = refl; timing = unmeasured profile.measures; lost = λ off. refl }
+opened_with : (profile : Profile) (timestamping : Timestamping) (numbers : Numbers) → (profile.timestamps ≡ false → timestamping ≡ Off)
+    → HasProfile profile (point_opened profile timestamping numbers)
+opened_with profile timestamping numbers none = record {
+  measures = refl;
+  recovers = refl;
+  delays = refl;
+  batches = refl;
+  timing = unmeasured profile.measures;
+  lost = λ off. refl;
+  timestamping = λ off. ap (λ t. fitting t numbers.mss) (none off);
+}
+
+asked_off : (profile : Profile) (syn : Segment) → profile.timestamps ≡ false → timestamping_for profile syn ≡ Off
+asked_off profile syn off = ap (λ uses. asked_by uses syn.head.timestamps) off
+
+pub opened_has : (profile : Profile) (syn : Segment) (numbers : Numbers) → HasProfile profile (point_opened profile (timestamping_for profile syn) numbers)
+opened_has profile syn numbers = opened_with profile (timestamping_for profile syn) numbers (asked_off profile syn)
 
 pub entry_has : {State : Type 0} (service : Machine State) (profile : Profile) (e : Entry) → HasProfile profile (point_of service profile e)
-entry_has service profile e = record { measures = refl; recovers = refl; delays = refl; batches = refl; timing = unmeasured profile.measures; lost = λ off. refl }
+entry_has service profile e = record {
+  measures = refl;
+  recovers = refl;
+  delays = refl;
+  batches = refl;
+  timing = unmeasured profile.measures;
+  lost = λ off. refl;
+  timestamping = λ off. ap (λ uses. resumed_with uses e.mss) off;
+}
 
 -- all places
 abbrev PlaceHas : Profile → Place → Type 0
 PlaceHas profile (Lives p) = HasProfile profile p
-PlaceHas profile (Opens numbers) = Unit {0}
+PlaceHas profile (Opens numbers timestamping) = profile.timestamps ≡ false → timestamping ≡ Off
 PlaceHas profile (Ended key) = Unit {0}
 
 abbrev Anything : Packet → Type 0
@@ -163,9 +192,9 @@ place_keeps : {State : Type 0} (service : Machine State) (node : Node) (input : 
 place_keeps service node input place now sent h (stayed e s) = (one_place node.profile place now h e, any_packets sent)
 place_keeps service node input place now sent h (went_on news p after is n e t) =
     (one_place node.profile (Lives after) now (turn_keeps service node.profile node.server node.boot news p after sent t (subst (PlaceHas node.profile) is h)) e, any_packets sent)
-place_keeps service node input place now sent h (began asked kept after is o e t) =
-    (one_place node.profile (Lives after) now (turn_keeps service node.profile node.server node.boot Begins (point_opened node.profile kept) after sent t (opened_has node.profile kept)) e, any_packets sent)
-place_keeps service node input place now sent h (dropped asked is d e s) = (subst (AllByRecursion (PlaceHas node.profile)) (sym e) tt, any_packets sent)
+place_keeps service node input place now sent h (began asked kept timestamping after is o e t) =
+    (one_place node.profile (Lives after) now (turn_keeps service node.profile node.server node.boot Begins (point_opened node.profile timestamping kept) after sent t (opened_with node.profile timestamping kept (subst (PlaceHas node.profile) is h))) e, any_packets sent)
+place_keeps service node input place now sent h (dropped asked timestamping is d e s) = (subst (AllByRecursion (PlaceHas node.profile)) (sym e) tt, any_packets sent)
 place_keeps service node input place now sent h (ended p is d e s) = (one_place node.profile (Ended p.key) now tt e, any_packets sent)
 place_keeps service node input place now sent h (refused key segment is i k e s) = (one_place node.profile (Ended key) now tt e, any_packets sent)
 
@@ -173,7 +202,7 @@ revived_keeps : {State : Type 0} (service : Machine State) (node : Node) (place 
     → Revives service node place now sent → AllByRecursion (PlaceHas node.profile) now × AllByRecursion Anything sent
 revived_keeps service node (Lives p) now sent h t =
     (one_place node.profile (Lives t.0) now (turn_keeps service node.profile node.server node.boot Begins p t.0 sent t.2 h) t.1, any_packets sent)
-revived_keeps service node (Opens n) now sent h t = (one_place node.profile (Opens n) now tt t.0, any_packets sent)
+revived_keeps service node (Opens n timestamping) now sent h t = (one_place node.profile (Opens n timestamping) now h t.0, any_packets sent)
 revived_keeps service node (Ended k) now sent h t = (one_place node.profile (Ended k) now tt t.0, any_packets sent)
 
 restored_have : {State : Type 0} (service : Machine State) (profile : Profile) (fetched : List Fetched) → AllByRecursion (PlaceHas profile) (all_restored service profile fetched)
@@ -182,13 +211,13 @@ restored_have service profile (f ∷ earlier) =
     all_append (PlaceHas profile) (all_restored service profile earlier) (restored service profile f ∷ []) (restored_have service profile earlier)
     (holds_either_way (PlaceHas profile) f.head.done (Ended f.head.key) (Lives (point_of service profile (entry_in f))) tt (entry_has service profile (entry_in f)), tt)
 
-new_have : (profile : Profile) (node : Node) (input : Input) (opened : ℕ) (places : List Place) → AllByRecursion (PlaceHas profile) (newcomers node input opened places)
-new_have profile node (Packet_comes segment) opened places =
-    holds_either_way (AllByRecursion (PlaceHas profile)) (is_strange node segment places && is_syn segment && nat_lt (pending_count places) 64)
-    (Opens (numbers_for node.isn opened segment) ∷ []) [] (tt, tt) tt
-new_have profile node (Message_comes message) opened places = tt
-new_have profile node Noise_comes opened places = tt
-new_have profile node Tick_comes opened places = tt
+new_have : (node : Node) (input : Input) (opened : ℕ) (places : List Place) → AllByRecursion (PlaceHas node.profile) (newcomers node input opened places)
+new_have node (Packet_comes segment) opened places =
+    holds_either_way (AllByRecursion (PlaceHas node.profile)) (is_strange node segment places && is_syn segment && nat_lt (pending_count places) 64)
+    (Opens (numbers_for node.profile node.isn opened segment) (timestamping_for node.profile segment) ∷ []) [] (asked_off node.profile segment, tt) tt
+new_have node (Message_comes message) opened places = tt
+new_have node Noise_comes opened places = tt
+new_have node Tick_comes opened places = tt
 
 abbrev StageHas : Profile → Stage → Type 0
 StageHas profile (Serving opened places) = AllByRecursion (PlaceHas profile) places
@@ -209,7 +238,7 @@ stage_keeps service node input sent after h (resumed count fetched places p none
 stage_keeps service node input sent after h (served opened places later b e t) =
     subst (StageHas node.profile) (sym e)
     (serving_goes_on service node input opened (PlaceHas node.profile) (PlaceHas node.profile) Anything places later sent (place_keeps service node input)
-    (new_have node.profile node input opened places) (any_packets (refusals node input places)) (λ numbers r. tt) (subst (StageHas node.profile) b h) t).0
+    (new_have node input opened places) (any_packets (refusals node input places)) (λ numbers s r. tt) (subst (StageHas node.profile) b h) t).0
 
 -- whole traces
 pub record KeepsProfile (profile : Profile) (w : World) : Type 0 where
@@ -246,7 +275,7 @@ profile_goes_on service profile before sent after k (server_down s e) =
 points_have : (profile : Profile) (places : List Place) → AllByRecursion (PlaceHas profile) places → AllByRecursion (HasProfile profile) (points_in places)
 points_have profile [] h = tt
 points_have profile (Lives p ∷ places) h = (h.0, points_have profile places h.1)
-points_have profile (Opens n ∷ places) h = points_have profile places h.1
+points_have profile (Opens n timestamping ∷ places) h = points_have profile places h.1
 points_have profile (Ended k ∷ places) h = points_have profile places h.1
 
 stage_points : (profile : Profile) (stage : Stage) → StageHas profile stage → AllByRecursion (HasProfile profile) (points_at stage)
@@ -274,4 +303,11 @@ pub plain_after : {State : Type 0} (service : Machine State) (start : World) (tr
     → (world_after start trace).node ≡ Some node → start.profile ≡ plain → AllByRecursion (λ p. p.timing ≡ initial_timing false) (points_at node.stage)
 plain_after service start trace node j up is_plain =
     all_weaker (HasProfile start.profile) (λ p. p.timing ≡ initial_timing false) (points_at node.stage) (λ p h. h.timing (ap (λ x. x.measures) is_plain))
+    (profile_after service start trace node j up).1
+
+-- .. and its segments carry no timestamps
+pub plain_unstamped : {State : Type 0} (service : Machine State) (start : World) (trace : List Moment) (node : Node) → Joint service start trace
+    → (world_after start trace).node ≡ Some node → start.profile ≡ plain → AllByRecursion (λ p. p.timestamping ≡ Off) (points_at node.stage)
+plain_unstamped service start trace node j up is_plain =
+    all_weaker (HasProfile start.profile) (λ p. p.timestamping ≡ Off) (points_at node.stage) (λ p h. h.timestamping (ap (λ x. x.timestamps) is_plain))
     (profile_after service start trace node j up).1

@@ -16,7 +16,7 @@ use Rattle.ft_model.proofs.Acknowledged.{true_after}
 places_hold : (script : Key → List ℕ) (isn : Key → ℕ) (log : Log) (places : List Place) → AllByRecursion (PlaceFits script isn log) places → AllByRecursion HoldsBehind (points_in places)
 places_hold script isn log [] f = tt
 places_hold script isn log (Lives p ∷ places) f = (f.0.0.behind, places_hold script isn log places f.1)
-places_hold script isn log (Opens n ∷ places) f = places_hold script isn log places f.1
+places_hold script isn log (Opens n timestamping ∷ places) f = places_hold script isn log places f.1
 places_hold script isn log (Ended k ∷ places) f = places_hold script isn log places f.1
 
 stage_holds : (script : Key → List ℕ) (isn : Key → ℕ) (log : Log) (stage : Stage) → StageFits script isn log stage → AllByRecursion HoldsBehind (points_at stage)

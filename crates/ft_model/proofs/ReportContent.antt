@@ -1,9 +1,10 @@
 -- No word of a packet's line has a space or a line feed in it.
-use Rattle.std.proofs.Common.{◌≡◌, ℕ, ◌<◌, ◌^◌, ◌/◌, ◌%◌, ◌==◌, Bool, true, false, zero, suc, nat_lt, if◌then◌else◌, Option, None, Some, List, [], ◌∷◌, ◌++◌, codes, decimal, length, slice_index, refl, subst, sym, arith}
+use Rattle.std.proofs.Common.{◌≡◌, ℕ, ◌<◌, ◌^◌, ◌/◌, ◌%◌, ◌==◌, Bool, true, false, zero, suc, nat_lt, if◌then◌else◌, Option, None, Some, IfSome, List, [], ◌∷◌, ◌++◌, codes, decimal, length, slice_index, refl, subst, sym, arith}
 use Rattle.std.specs.List.{AllByRecursion, list_all}
 use Rattle.std.proofs.lemmas.Bool.{ltb-true}
 use Rattle.hex.specs.Hex.{IsBytes, encode_lower, encode_with, lower_digits}
 use Rattle.ft_io.specs.declared.Key.{Key}
+use Rattle.seq_arith.specs.declared.options.Timestamps.{Timestamps}
 use Rattle.seq_arith.specs.Packet.{Segment}
 use Rattle.seq_arith.specs.Message.{Numbers, Kept, EntryHead, Part, Body, Message}
 use Rattle.seq_arith.specs.Message.Body.{HelloMsg, SummaryMsg, ListMsg, EntryMsg, BytesMsg, PartMsg, CutsMsg, LensMsg, OpenMsg, OpenedMsg, DataMsg, StableMsg, ReadMsg, ReadsMsg, DoneMsg, EndedMsg, StaleMsg, FullMsg}
@@ -14,7 +15,7 @@ use Rattle.ft_io.specs.declared.Addr.{Addr}
 use Rattle.ft_model.specs.declared.way.Way.{Way}
 use Rattle.ft_model.specs.declared.way.Way.TheVariants.{ClientToServer, ServerToClient, ServerToLogger, LoggerToServer, HeadToTail, TailToHead}
 use Rattle.ft_model.specs.Texts.{or_dash, hex_text, list_text, behind_commas, address_text, key_text, flag_letters, flags_text, mss_text, bit_text, ending_text, way_text}
-use Rattle.ft_model.specs.Report.{segment_words, name_of, numbers_words, kept_words, entry_words, part_words, field_words, message_words, content_words}
+use Rattle.ft_model.specs.Report.{timestamps_words, segment_words, name_of, numbers_words, kept_words, entry_words, part_words, field_words, message_words, content_words}
 use Rattle.ft_model.specs.Readable.{IsWord, FitsU64, FitsOption, FitsWay, FitsKey, IsReadable}
 use Rattle.ft_model.proofs.ReportRanges.{FitsSegment, FitsNumbers, FitsKept, FitsEntry, FitsPart, FitsBody, segment_fits, message_fits}
 use Rattle.ft_model.proofs.ReportWords.{all_append, word_decimal}
@@ -118,11 +119,15 @@ infixr 10 ◌⊕◌
 abbrev ◌⊕◌ : {A B : Type 0} → A → B → A × B
 word ⊕ others = (word, others)
 
+words_timestamps : (timestamps : Option Timestamps) → IfSome timestamps (λ t. FitsU64 t.value × FitsU64 t.echo) → AllByRecursion IsWord (timestamps_words timestamps)
+words_timestamps None h = tt
+words_timestamps (Some t) h = lit (codes "ts") refl ⊕ word_decimal t.value h.0 ⊕ word_decimal t.echo h.1 ⊕ tt
+
 pub words_segment : (s : Segment) → FitsSegment s → AllByRecursion IsWord (segment_words s)
 words_segment s h =
     word_flags s.head.flags ⊕ lit (codes "seq") refl ⊕ word_decimal s.head.seq h.0 ⊕ lit (codes "ack") refl ⊕ word_decimal s.head.ack h.1
     ⊕ lit (codes "window") refl ⊕ word_decimal s.head.window h.3 ⊕ lit (codes "mss") refl ⊕ word_mss s.head.mss h.4 ⊕ lit (codes "data") refl
-    ⊕ word_hex s.payload h.5 ⊕ tt
+    ⊕ word_hex s.payload h.5 ⊕ words_timestamps s.head.timestamps h.6
 
 word_name : (b : Body) → IsWord (name_of b)
 word_name HelloMsg = lit (codes "Hello") refl

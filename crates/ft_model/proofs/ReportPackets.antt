@@ -1,5 +1,5 @@
 -- The words of a packet's line tell the packet.
-use Rattle.std.proofs.Common.{◌≡◌, ℕ, ◌<◌, ◌+◌, ◌-◌, ◌*◌, ◌==◌, true, Option, None, Some, List, [], ◌∷◌, codes, decimal, get_or, position, refl, sym, ◌∙◌, ap, subst, arith}
+use Rattle.std.proofs.Common.{◌≡◌, ℕ, ◌<◌, ◌+◌, ◌-◌, ◌*◌, ◌==◌, true, Option, None, Some, IfSome, length, List, [], ◌∷◌, codes, decimal, get_or, position, refl, sym, ◌∙◌, ap, subst, arith}
 use Rattle.std.specs.Option.{option_map_or}
 use Rattle.std.proofs.lemmas.Bool.{eqb-true}
 use Rattle.std.proofs.lemmas.Fmt.{decimal_injective}
@@ -8,6 +8,7 @@ use Rattle.std.proofs.lemmas.List.Quantifiers.{position-Some}
 use Rattle.ft_io.specs.declared.Addr.{Addr}
 use Rattle.ft_io.specs.declared.Key.{Key}
 use Rattle.ft_io.specs.Key.{key_eq}
+use Rattle.seq_arith.specs.declared.options.Timestamps.{Timestamps}
 use Rattle.seq_arith.specs.Packet.{Segment}
 use Rattle.seq_arith.specs.Message.{Numbers, Kept, EntryHead, Part, Body, Message}
 use Rattle.seq_arith.specs.Message.Body.{HelloMsg, SummaryMsg, ListMsg, EntryMsg, BytesMsg, PartMsg, CutsMsg, LensMsg, OpenMsg, OpenedMsg, DataMsg, StableMsg, ReadMsg, ReadsMsg, DoneMsg, EndedMsg, StaleMsg, FullMsg}
@@ -18,7 +19,7 @@ use Rattle.ft_model.specs.Network.Packet.{To_server, To_client, To_logger, From_
 use Rattle.ft_model.specs.declared.way.Way.{Way}
 use Rattle.ft_model.specs.declared.way.Way.TheVariants.{ClientToServer, ServerToClient}
 use Rattle.ft_model.specs.Texts.{key_text, way_text}
-use Rattle.ft_model.specs.Report.{segment_words, name_of, numbers_words, kept_words, entry_words, part_words, field_words, message_words, content_words, packet_line, number_of_client, way_of}
+use Rattle.ft_model.specs.Report.{timestamps_words, segment_words, name_of, numbers_words, kept_words, entry_words, part_words, field_words, message_words, content_words, packet_line, number_of_client, way_of}
 use Rattle.ft_model.specs.Readable.{FitsU64, FitsWay, FitsKey, IsOf, IsReadable}
 use Rattle.ft_model.proofs.ReportRanges.{FitsSegment, FitsNumbers, FitsKept, FitsEntry, FitsPart, FitsBody, segment_fits, message_fits}
 use Rattle.ft_model.proofs.ReportWords.{rest_same, word_decimal}
@@ -117,6 +118,15 @@ message_same m n p q fits also e =
     let b : m.body ≡ n.body = body_same m.body n.body fits also (cc) (cc) in
     λ i. record { boot = a i; body = b i }
 
+timestamps_same : (s t : Option Timestamps) → IfSome s (λ x. FitsU64 x.value × FitsU64 x.echo) → IfSome t (λ x. FitsU64 x.value × FitsU64 x.echo)
+    → timestamps_words s ≡ timestamps_words t → s ≡ t
+timestamps_same None None p q e = refl
+timestamps_same None (Some t) p q e = absurd (let length_differs : 0 ≡ 3 = ap length e in omega (arith, length_differs))
+timestamps_same (Some s) None p q e = absurd (let length_differs : 3 ≡ 0 = ap length e in omega (arith, length_differs))
+timestamps_same (Some s) (Some t) p q e =
+    let value : s.value ≡ t.value = decimal_injective _ _ p.0 q.0 (cc) in
+    let echo : s.echo ≡ t.echo = decimal_injective _ _ p.1 q.1 (cc) in λ i. Some (record { value = value i; echo = echo i })
+
 segment_same : (s t : Segment) → FitsSegment s → FitsSegment t → source_of s ≡ source_of t → destination_of s ≡ destination_of t
     → segment_words s ≡ segment_words t → s ≡ t
 segment_same s t p q from to e =
@@ -126,8 +136,9 @@ segment_same s t p q from to e =
     let window : s.head.window ≡ t.head.window = decimal_injective _ _ p.3 q.3 (cc) in
     let mss : s.head.mss ≡ t.head.mss = mss_same _ _ p.4 q.4 (cc) in
     let payload : s.payload ≡ t.payload = hex_same _ _ p.5 q.5 (cc) in
+    let timestamps : s.head.timestamps ≡ t.head.timestamps = timestamps_same _ _ p.6 q.6 (cc) in
     λ i. record {
-      head = record { src = (from i).ip; dst = (to i).ip; sport = (from i).port; dport = (to i).port; seq = seq i; ack = ack i; flags = flags i; window = window i; mss = mss i };
+      head = record { src = (from i).ip; dst = (to i).ip; sport = (from i).port; dport = (to i).port; seq = seq i; ack = ack i; flags = flags i; window = window i; mss = mss i; timestamps = timestamps i };
       payload = payload i;
     }
 

@@ -3,6 +3,7 @@ use Rattle.std.proofs.Common.{◌≡◌, ℕ, ◌<◌, ◌≤◌, ◌^◌, true,
 use Rattle.std.specs.List.{AllByRecursion, list_all}
 use Rattle.std.proofs.lemmas.Bool.{and_parts}
 use Rattle.hex.specs.Hex.{IsBytes}
+use Rattle.seq_arith.specs.declared.options.Timestamps.{Timestamps}
 use Rattle.seq_arith.specs.Packet.{Segment}
 use Rattle.seq_arith.specs.Message.{Numbers, Kept, EntryHead, Part, Body, Message}
 use Rattle.seq_arith.specs.Message.Body.{HelloMsg, SummaryMsg, ListMsg, EntryMsg, BytesMsg, PartMsg, CutsMsg, LensMsg, OpenMsg, OpenedMsg, DataMsg, StableMsg, ReadMsg, ReadsMsg, DoneMsg, EndedMsg, StaleMsg, FullMsg}
@@ -16,6 +17,7 @@ use Rattle.ft_model.proofs.Formed.{bytes_of_all}
 -- the sizes of a segment's fields
 abbrev pub FitsSegment : Segment → Type 0
 FitsSegment s = FitsU64 s.head.seq × FitsU64 s.head.ack × (s.head.flags < 256) × FitsU64 s.head.window × FitsOption s.head.mss × IsBytes s.payload
+    × IfSome s.head.timestamps (λ t. FitsU64 t.value × FitsU64 t.echo)
 
 abbrev pub FitsNumbers : Numbers → Type 0
 FitsNumbers n = FitsKey n.key × FitsU64 n.cisn × FitsU64 n.sisn × FitsU64 n.mss
@@ -54,9 +56,20 @@ option_fits : (o : Option ℕ) → IfSome o (λ n. n < 2 ^ 16) → FitsOption o
 option_fits (Some n) h = omega (arith, h)
 option_fits None h = tt
 
+timestamps_fit : (timestamps : Option Timestamps) → IfSome timestamps (λ t. (t.value < 2 ^ 32) × (t.echo < 2 ^ 32)) → IfSome timestamps (λ t. FitsU64 t.value × FitsU64 t.echo)
+timestamps_fit (Some t) h = (omega (arith, h.0), omega (arith, h.1))
+timestamps_fit None h = tt
+
 pub segment_fits : (s : Segment) → CanBeSent s → FitsSegment s
-segment_fits s h =
-    (omega (arith, h.0.seq), omega (arith, h.0.ack), h.0.flags, omega (arith, h.0.window), option_fits s.head.mss h.0.mss, bytes_of_all s.payload h.1)
+segment_fits s h = (
+  omega (arith, h.0.seq),
+  omega (arith, h.0.ack),
+  h.0.flags,
+  omega (arith, h.0.window),
+  option_fits s.head.mss h.0.mss,
+  bytes_of_all s.payload h.1,
+  timestamps_fit s.head.timestamps h.0.timestamps,
+)
 
 lengths_fit : (lens : List ℕ) → list_all (λ len. nat_le len 2048) lens ≡ true → AllByRecursion FitsU64 lens
 lengths_fit [] e = tt

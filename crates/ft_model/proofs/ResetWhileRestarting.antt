@@ -41,7 +41,7 @@ happens_21 = (from_log 2 (SummaryMsg 1), refl, ((fetching 2 900000 [], refl, ask
 
 happens_22 : Happens echo run.moment_21.world run.moment_22.event run.moment_22.sent run.moment_22.world
 unfolding laws IsLe
-happens_22 = record { client = path.served_client; segment = client_segment 16 1006 5006 65535 []; later = run.acknowledging_client; is_there = refl; move = record { move = Acknowledge; window = 65535; may = refl; fits = refl; segment_is = refl; after_is = refl }; sent_is = refl; after_is = refl }
+happens_22 = record { client = path.served_client; segment = client_segment 16 1006 5006 65535 []; later = run.acknowledging_client; is_there = refl; move = record { move = Acknowledge; window = 65535; may = refl; fits = refl; timestamps = None; carries = refl; segment_is = refl; after_is = refl }; sent_is = refl; after_is = refl }
 
 happens_24 : Happens echo run.wrong.world run.moment_24.event run.moment_24.sent run.moment_24.world
 unfolding laws

@@ -65,7 +65,7 @@ revives_plain : {State : Type 0} (service : Machine State) (log : Log) (node : N
     → Revives service node place now sent → AllByRecursion (PlaceEnds log) now × AllByRecursion (IsPlain log) sent
 revives_plain service log node (Lives p) now sent e t =
     (subst (AllByRecursion (PlaceEnds log)) (sym t.1) (tt, tt), connection_plain service log node.server node.boot Begins p t.0 sent t.2)
-revives_plain service log node (Opens n) now sent e t = (subst (AllByRecursion (PlaceEnds log)) (sym t.0) (tt, tt), subst (AllByRecursion (IsPlain log)) (sym t.1) tt)
+revives_plain service log node (Opens n timestamping) now sent e t = (subst (AllByRecursion (PlaceEnds log)) (sym t.0) (tt, tt), subst (AllByRecursion (IsPlain log)) (sym t.1) tt)
 revives_plain service log node (Ended key) now sent e t = (subst (AllByRecursion (PlaceEnds log)) (sym t.0) (e, tt), subst (AllByRecursion (IsPlain log)) (sym t.1) tt)
 
 quiet_opening : (keys : List Key) (places : List Place) (body : Body) → is_change body ≡ false → AsksFor keys places body

@@ -131,7 +131,7 @@ pub revived : {State : Type 0} (service : Machine State) (node : Node) (place : 
     → (after : Place) × (now ≡ after ∷ []) × (key_of after ≡ key_of place)
 revived service node (Lives p) now sent t =
     (Lives t.0, t.1, either_turn service node.server node.boot Begins p t.0 sent (λ r. ap (λ x. x.key) r.point) (λ l. l.same.key) t.2)
-revived service node (Opens n) now sent t = (Opens n, t.0, refl)
+revived service node (Opens n timestamping) now sent t = (Opens n timestamping, t.0, refl)
 revived service node (Ended k) now sent t = (Ended k, t.0, refl)
 
 pub revived_keys : {State : Type 0} (service : Machine State) (node : Node) (before after : List Place) (sent : List Packet) → AllGo (Revives service node) before after sent

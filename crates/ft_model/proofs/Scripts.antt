@@ -213,7 +213,9 @@ by_move c (Refuse number) window short may = record { syn = λ e. absurd (true�
 
 -- a client's move carries its script
 pub move_fits : (c later : Client) (segment : Segment) → length c.script ≤ 2 ^ 24 → IsMove c segment later → FitsScript c.script c.isn segment
-move_fits c later segment short m = subst (FitsScript c.script c.isn) (sym m.segment_is) (by_move c m.move m.window short m.may)
+move_fits c later segment short m =
+    let fits : FitsScript c.script c.isn (segment_of c m.move m.window) = by_move c m.move m.window short m.may in
+    subst (FitsScript c.script c.isn) (sym m.segment_is) (record { syn = fits.syn; text = fits.text })
 
 -- an entry that hears a part
 pub entry_fits : (script : List ℕ) (isn : ℕ) (part : Part) (e : Entry) → PartFits script part → EntryFits script isn e → EntryFits script isn (with_part part e)

@@ -10,6 +10,7 @@ use Rattle.ft_model.specs.Timer.{interval_after, rest_after}
 use Rattle.tcp_rules.specs.Timing.{Timing}
 use Rattle.ft_model.specs.Sending.{syn_acked_after, acknowledged_after, edge_after, wl1_after, wl2_after, congestion_after, sent_after, timing_after}
 use Rattle.ft_model.specs.ResetAndEnd.{end_ticks_after}
+use Rattle.ft_model.specs.Timestamps.{timestamping_after}
 
 -- the point after the news are noted, with these lengths and with what is settled at the end of the turn left open
 abbrev pub noted : News → Point → List ℕ → (sent : ℕ) → Timing → (interval rest end_ticks : ℕ) → Point
@@ -34,6 +35,7 @@ noted news p lengths sent timing interval rest end_ticks = record {
   congestion = congestion_after news p;
   syn_acked = syn_acked_after news p;
   timing = timing;
+  timestamping = timestamping_after news p;
   delays = p.delays;
   batches = p.batches;
   interval = interval;

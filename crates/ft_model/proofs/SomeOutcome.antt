@@ -179,7 +179,7 @@ move_can w event number move h asks free =
         segment = segment_of client move window;
         later = moved client move window;
         is_there = c.1;
-        move = record { move = move; window = window; may = move_may client event move alone c.2; fits = window_fits client event move h alone; segment_is = refl; after_is = refl };
+        move = record { move = move; window = window; may = move_may client event move alone c.2; fits = window_fits client event move h alone; timestamps = None; carries = refl; segment_is = refl; after_is = refl };
         sent_is = refl;
         after_is = refl;
       },

@@ -210,7 +210,7 @@ closed_silent key server segment =
 
 still_told : (packets : List Packet) (place : Place) → WasTold packets place → TellsNow packets [] place
 still_told packets (Lives p) w = w
-still_told packets (Opens n) w = tt
+still_told packets (Opens n timestamping) w = tt
 still_told packets (Ended k) w = tt
 
 pub place_tells : {State : Type 0} (service : Machine State) (node : Node) (input : Input) (packets : List Packet) (place : Place) (now : List Place) (sent : List Packet)
@@ -220,10 +220,10 @@ place_tells service node input packets place now sent w (stayed n s) =
 place_tells service node input packets place now sent w (went_on news p after e i n t) =
     let c = connection_tells service node.server node.boot news p after sent packets (subst (WasTold packets) e w) t in
     (subst (AllByRecursion (TellsNow packets sent)) (sym n) (c.0, tt), subst (λ k. TellsOnly k sent) (sym (ap key_of e)) c.1)
-place_tells service node input packets place now sent w (began asked kept after e h n t) =
-    let c = beginning_tells service node.server node.boot (point_opened node.profile kept) after sent packets t in
+place_tells service node input packets place now sent w (began asked kept timestamping after e h n t) =
+    let c = beginning_tells service node.server node.boot (point_opened node.profile timestamping kept) after sent packets t in
     (subst (AllByRecursion (TellsNow packets sent)) (sym n) (c.0, tt), subst (λ k. TellsOnly k sent) (h.key ∙ sym (ap key_of e)) c.1)
-place_tells service node input packets place now sent w (dropped asked e d n s) = (
+place_tells service node input packets place now sent w (dropped asked timestamping e d n s) = (
   subst (AllByRecursion (TellsNow packets sent)) (sym n) tt,
   λ other x. ⊎_elim (λ y. nothing_said other sent y) (λ y. ap (last_told other) y ∙ ap (λ o. or_before None o) (rst_silent other (full_rst node.server asked) refl)) s,
 )
@@ -235,13 +235,13 @@ place_tells service node input packets place now sent w (refused key segment e c
 pub tells_here : (packets first others : List Packet) (x : Place) → IsSilentTo (key_of x) others → TellsNow packets first x → TellsNow packets (first ++ others) x
 tells_here packets first others (Lives q) s t = λ r.
     ap (λ o. or_before o (last_told q.key packets)) (last_append q.key first others ∙ ap (λ o. or_before o (last_told q.key first)) s) ∙ t r
-tells_here packets first others (Opens n) s t = tt
+tells_here packets first others (Opens n timestamping) s t = tt
 tells_here packets first others (Ended k) s t = tt
 
 tells_there : (packets first others : List Packet) (x : Place) → IsSilentTo (key_of x) first → TellsNow packets others x → TellsNow packets (first ++ others) x
 tells_there packets first others (Lives q) s t = λ r.
     ap (λ o. or_before o (last_told q.key packets)) (last_append q.key first others ∙ (ap (λ o. or_before (last_told q.key others) o) s ∙ sym (or_none (last_told q.key others)))) ∙ t r
-tells_there packets first others (Opens n) s t = tt
+tells_there packets first others (Opens n timestamping) s t = tt
 tells_there packets first others (Ended k) s t = tt
 
 no_key_all : (key : Key) (places : List Place) → has_key key (map key_of places) ≡ false → AllByRecursion (λ x. key_eq (key_of x) key ≡ false) places

@@ -9,7 +9,7 @@ use Rattle.server_trait.specs.Service.{Machine}
 use Rattle.ft_model.specs.Network.{Packet}
 use Rattle.ft_model.specs.Network.Packet.{To_client, From_logger}
 use Rattle.ft_model.specs.Connection.{told_by}
-use Rattle.ft_model.specs.Opening.{is_syn, numbers_for}
+use Rattle.ft_model.specs.Opening.{is_syn, numbers_for, timestamping_for}
 use Rattle.ft_model.specs.Refusal.{as_listen, rst_at_ack}
 use Rattle.ft_model.specs.Node.{Node, Place, Stage, Input, key_of, points_in, points_at, booted, pending_count}
 use Rattle.ft_model.specs.Node.Place.{Opens, Lives, Ended}
@@ -51,15 +51,15 @@ listen_silent key node Tick_comes places = refl
 
 opens_silent : (key : Key) (node : Node) (input : Input) (places : List Place) → IsSilentTo key (flat_map (opens_at node input) places)
 opens_silent key node input [] = refl
-opens_silent key node input (Opens n ∷ places) =
-    silent_append key (opens_at node input (Opens n)) (flat_map (opens_at node input) places)
+opens_silent key node input (Opens n timestamping ∷ places) =
+    silent_append key (opens_at node input (Opens n timestamping)) (flat_map (opens_at node input) places)
     (holds_if (IsSilentTo key) (is_asked node input n) (told_by node.boot (OpenMsg n) ∷ []) [] (λ t. refl) (λ t. refl)) (opens_silent key node input places)
 opens_silent key node input (Lives p ∷ places) = opens_silent key node input places
 opens_silent key node input (Ended k ∷ places) = opens_silent key node input places
 
 new_told : (packets sent : List Packet) (node : Node) (input : Input) (opened : ℕ) (places : List Place) → AllByRecursion (TellsNow packets sent) (newcomers node input opened places)
 new_told packets sent node (Packet_comes segment) opened places =
-    holds_if (AllByRecursion (TellsNow packets sent)) (is_strange node segment places && is_syn segment && nat_lt (pending_count places) 64) (Opens (numbers_for node.isn opened segment) ∷ []) [] (λ t. (tt, tt)) (λ t. tt)
+    holds_if (AllByRecursion (TellsNow packets sent)) (is_strange node segment places && is_syn segment && nat_lt (pending_count places) 64) (Opens (numbers_for node.profile node.isn opened segment) (timestamping_for node.profile segment) ∷ []) [] (λ t. (tt, tt)) (λ t. tt)
 new_told packets sent node (Message_comes message) opened places = tt
 new_told packets sent node Noise_comes opened places = tt
 new_told packets sent node Tick_comes opened places = tt
@@ -79,7 +79,7 @@ restart_told packets (Fenced newer) r = tt
 
 told_then : (packets sent : List Packet) (place : Place) → TellsNow packets sent place → WasTold (packets ++ sent) place
 told_then packets sent (Lives q) t = λ r. last_append q.key packets sent ∙ t r
-told_then packets sent (Opens n) t = tt
+told_then packets sent (Opens n timestamping) t = tt
 told_then packets sent (Ended k) t = tt
 
 revive_tells : {State : Type 0} (service : Machine State) (node : Node) (packets : List Packet) (place : Place) (now : List Place) (sent : List Packet)
@@ -87,8 +87,8 @@ revive_tells : {State : Type 0} (service : Machine State) (node : Node) (packets
 revive_tells service node packets (Lives p) now sent h t =
     let c = beginning_tells service node.server node.boot p t.0 sent packets t.2 in
     (subst (AllByRecursion (TellsNow packets sent)) (sym t.1) (c.0, tt), c.1, inr (revived service node (Lives p) now sent t))
-revive_tells service node packets (Opens n) now sent h t =
-    (subst (AllByRecursion (TellsNow packets sent)) (sym t.0) (tt, tt), λ other e. nothing_said other sent t.1, inr (Opens n, t.0, refl))
+revive_tells service node packets (Opens n timestamping) now sent h t =
+    (subst (AllByRecursion (TellsNow packets sent)) (sym t.0) (tt, tt), λ other e. nothing_said other sent t.1, inr (Opens n timestamping, t.0, refl))
 revive_tells service node packets (Ended k) now sent h t =
     (subst (AllByRecursion (TellsNow packets sent)) (sym t.0) (tt, tt), λ other e. nothing_said other sent t.1, inr (Ended k, t.0, refl))
 
@@ -128,7 +128,7 @@ turn_tells service w node input sent after a d told e brought (served opened pla
 
 place_still : (packets sent : List Packet) → ((key : Key) → IsSilentTo key sent) → (place : Place) → WasTold packets place → WasTold (packets ++ sent) place
 place_still packets sent s (Lives p) w = λ r. last_append p.key packets sent ∙ (ap (λ o. or_before o (last_told p.key packets)) (s p.key) ∙ w r)
-place_still packets sent s (Opens n) w = tt
+place_still packets sent s (Opens n timestamping) w = tt
 place_still packets sent s (Ended k) w = tt
 
 told_still : (packets sent : List Packet) (stage : Stage) → ((key : Key) → IsSilentTo key sent) → StageTold packets stage → StageTold (packets ++ sent) stage
@@ -161,7 +161,7 @@ telling_goes_on service before sent after a d t (server_down s e) = subst IsTell
 points_told : (packets : List Packet) (places : List Place) → AllByRecursion (WasTold packets) places → AllByRecursion (IsToldLast packets) (points_in places)
 points_told packets [] a = tt
 points_told packets (Lives p ∷ places) a = (a.0, points_told packets places a.1)
-points_told packets (Opens n ∷ places) a = points_told packets places a.1
+points_told packets (Opens n timestamping ∷ places) a = points_told packets places a.1
 points_told packets (Ended k ∷ places) a = points_told packets places a.1
 
 stage_told : (packets : List Packet) (stage : Stage) → StageTold packets stage → AllByRecursion (IsToldLast packets) (points_at stage)

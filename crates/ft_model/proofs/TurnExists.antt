@@ -1,4 +1,5 @@
 -- Each turn can be made: from each stand, each input has a lawful turn, and the counts stay in order.
+use Rattle.tcp_rules.specs.declared.timestamping.Timestamping.{Timestamping}
 use Rattle.std.proofs.Common.{◌≡◌, ℕ, ◌≤◌, ◌+◌, Bool, true, false, ◌==◌, ◌&&◌, nat_lt, refl, MatchBool, Option, Some, None, List, [], ◌∷◌, ◌++◌, map, length, length-append, le_refl, true≢false, flat_map, arith, if◌then◌else◌}
 use Rattle.std.specs.List.{AllByRecursion}
 use Rattle.tcp_rules.specs.Profile.{Profile}
@@ -12,7 +13,7 @@ use Rattle.ft_model.specs.News.News.{Comes, Logged, Ticks, Begins}
 use Rattle.ft_model.specs.Point.{Point}
 use Rattle.ft_model.specs.Answered.{answered_after, reads_answered_after}
 use Rattle.ft_model.specs.ResetAndEnd.{reset_after, dones}
-use Rattle.ft_model.specs.Opening.{is_syn, numbers_for, point_opened}
+use Rattle.ft_model.specs.Opening.{is_syn, numbers_for, point_opened, timestamping_for}
 use Rattle.ft_model.specs.Refusal.{as_closed, full_rst}
 use Rattle.ft_model.specs.Connection.{ResetTurn, LiveTurn, told_by, sent_by}
 use Rattle.ft_model.specs.Restart.{Fetched, Wanted, wanted, entry_in, point_of}
@@ -62,17 +63,17 @@ lives service node news p counts =
     let r : ReachesBy service node news p (reset_after news p) = reaches service node news p counts (reset_after news p) in
     (Lives r.0 ∷ [], r.1, (r.0, refl, r.2), (r.3, tt))
 
-opens : {State : Type 0} (service : Machine State) (node : Node) (kept : Numbers) (b : Bool)
-    → (now : List Place) × (sent : List Packet) × MatchBool b (LivesOn service node Begins (point_opened node.profile kept) now sent) ((now ≡ []) × (sent ≡ [])) × AllByRecursion CountsReads now
-opens service node kept true = lives service node Begins (point_opened node.profile kept) (le_refl 0)
-opens service node kept false = ([], [], (refl, refl), tt)
+opens : {State : Type 0} (service : Machine State) (node : Node) (timestamping : Timestamping) (kept : Numbers) (b : Bool)
+    → (now : List Place) × (sent : List Packet) × MatchBool b (LivesOn service node Begins (point_opened node.profile timestamping kept) now sent) ((now ≡ []) × (sent ≡ [])) × AllByRecursion CountsReads now
+opens service node timestamping kept true = lives service node Begins (point_opened node.profile timestamping kept) (le_refl 0)
+opens service node timestamping kept false = ([], [], (refl, refl), tt)
 
 hears : {State : Type 0} (service : Machine State) (node : Node) (body : Body) (place : Place) → CountsReads place → Outcome (Hears service node body) place
 hears service node (StableMsg kept) (Lives p) counts = lives service node (Logged kept) p counts
 hears service node (ReadsMsg kept) (Lives p) counts = lives service node (Logged kept) p counts
 hears service node (EndedMsg key) (Lives p) counts = (Ended p.key ∷ [], [], (refl, refl), (tt, tt))
-hears service node (OpenedMsg kept) (Opens asked) counts = opens service node kept (kept.cisn == asked.cisn)
-hears service node (FullMsg key) (Opens asked) counts = ([], To_client (full_rst node.server asked) ∷ [], (refl, refl), tt)
+hears service node (OpenedMsg kept) (Opens asked timestamping) counts = opens service node timestamping kept (kept.cisn == asked.cisn)
+hears service node (FullMsg key) (Opens asked timestamping) counts = ([], To_client (full_rst node.server asked) ∷ [], (refl, refl), tt)
 hears service node _ place counts = (place ∷ [], [], (refl, refl), (counts, tt))
 
 meets : {State : Type 0} (service : Machine State) (node : Node) (input : Input) (place : Place) → CountsReads place → Outcome (Meets service node input) place
@@ -101,13 +102,13 @@ all_go Goes outcome (place ∷ places) counts =
     let there : (after : List Place) × (sent : List Packet) × AllGo Goes places after sent × AllByRecursion CountsReads after = all_go Goes outcome places counts.1 in
     (here.0 ++ there.0, here.1 ++ there.1, (here.0, there.0, here.1, there.1, refl, refl, here.2, there.2), all_append CountsReads here.0 there.0 here.3 there.3)
 
-one_place : (b : Bool) (numbers : Numbers) → AllByRecursion CountsReads (if b then Opens numbers ∷ [] else [])
-one_place true numbers = (tt, tt)
-one_place false numbers = tt
+one_place : (b : Bool) (numbers : Numbers) (timestamping : Timestamping) → AllByRecursion CountsReads (if b then Opens numbers timestamping ∷ [] else [])
+one_place true numbers timestamping = (tt, tt)
+one_place false numbers timestamping = tt
 
 new_count : (node : Node) (input : Input) (opened : ℕ) (places : List Place) → AllByRecursion CountsReads (newcomers node input opened places)
 new_count node (Packet_comes segment) opened places =
-    one_place (is_strange node segment places && is_syn segment && nat_lt (pending_count places) 64) (numbers_for node.isn opened segment)
+    one_place (is_strange node segment places && is_syn segment && nat_lt (pending_count places) 64) (numbers_for node.profile node.isn opened segment) (timestamping_for node.profile segment)
 new_count node _ opened places = tt
 
 by_done : {State : Type 0} (service : Machine State) (profile : Profile) (f : Fetched) (b : Bool) → CountsReads (if b then Ended f.head.key else Lives (point_of service profile (entry_in f)))

@@ -1,4 +1,5 @@
 -- A turn of a server is determined by where it stands and by what comes: place by place, and in each stage.
+use Rattle.tcp_rules.specs.declared.timestamping.Timestamping.{Timestamping}
 use Rattle.std.proofs.Common.{◌≡◌, ℕ, Bool, true, false, sym, ap, ap₂, ◌∙◌, MatchBool, Option, Some, None, List, [], ◌∷◌, ◌++◌, map, length, flat_map, ◌==◌, ◌+◌}
 use Rattle.ft_io.specs.declared.Addr.{Addr}
 use Rattle.seq_arith.specs.Message.{Numbers, Body}
@@ -44,20 +45,20 @@ lives_once service node news p now later sent other s t =
     by_reset service node.server node.boot news (reset_after news p) p s.0 t.0 sent other s.2 t.2 in
     (s.1 ∙ (ap (λ q. Lives q ∷ []) once.0 ∙ sym t.1), once.1)
 
-opened_once : {State : Type 0} (service : Machine State) (node : Node) (b : Bool) (kept : Numbers) (now later : List Place) (sent other : List Packet)
-    → MatchBool b (LivesOn service node Begins (point_opened node.profile kept) now sent) ((now ≡ []) × (sent ≡ []))
-    → MatchBool b (LivesOn service node Begins (point_opened node.profile kept) later other) ((later ≡ []) × (other ≡ [])) → (now ≡ later) × (sent ≡ other)
-opened_once service node true kept now later sent other s t = lives_once service node Begins (point_opened node.profile kept) now later sent other s t
-opened_once service node false kept now later sent other s t = both now later [] sent other [] s t
+opened_once : {State : Type 0} (service : Machine State) (node : Node) (b : Bool) (timestamping : Timestamping) (kept : Numbers) (now later : List Place) (sent other : List Packet)
+    → MatchBool b (LivesOn service node Begins (point_opened node.profile timestamping kept) now sent) ((now ≡ []) × (sent ≡ []))
+    → MatchBool b (LivesOn service node Begins (point_opened node.profile timestamping kept) later other) ((later ≡ []) × (other ≡ [])) → (now ≡ later) × (sent ≡ other)
+opened_once service node true timestamping kept now later sent other s t = lives_once service node Begins (point_opened node.profile timestamping kept) now later sent other s t
+opened_once service node false timestamping kept now later sent other s t = both now later [] sent other [] s t
 
 hears_once : {State : Type 0} (service : Machine State) (node : Node) (body : Body) (place : Place) (now later : List Place) (sent other : List Packet)
     → Hears service node body place now sent → Hears service node body place later other → (now ≡ later) × (sent ≡ other)
 hears_once service node (StableMsg kept) (Lives p) now later sent other s t = lives_once service node (Logged kept) p now later sent other s t
 hears_once service node (ReadsMsg kept) (Lives p) now later sent other s t = lives_once service node (Logged kept) p now later sent other s t
-hears_once service node (OpenedMsg kept) (Opens asked) now later sent other s t =
-    opened_once service node (kept.cisn == asked.cisn) kept now later sent other s t
+hears_once service node (OpenedMsg kept) (Opens asked timestamping) now later sent other s t =
+    opened_once service node (kept.cisn == asked.cisn) timestamping kept now later sent other s t
 hears_once service node (EndedMsg key) (Lives p) now later sent other s t = (s.0 ∙ sym t.0, s.1 ∙ sym t.1)
-hears_once service node (FullMsg key) (Opens asked) now later sent other s t = (s.0 ∙ sym t.0, s.1 ∙ sym t.1)
+hears_once service node (FullMsg key) (Opens asked timestamping) now later sent other s t = (s.0 ∙ sym t.0, s.1 ∙ sym t.1)
 hears_once service node _ place now later sent other s t = (s.0 ∙ sym t.0, s.1 ∙ sym t.1)
 
 meets_once : {State : Type 0} (service : Machine State) (node : Node) (input : Input) (place : Place) (now later : List Place) (sent other : List Packet)

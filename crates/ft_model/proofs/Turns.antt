@@ -49,7 +49,7 @@ alone Goes place now sent goes = (now, [], sent, [], sym (append-nil now), sym (
 abbrev pub segment_in : Packet → Segment
 segment_in (To_server segment) = segment
 segment_in (To_client segment) = segment
-segment_in _ = record { head = record { src = 0; dst = 0; sport = 0; dport = 0; seq = 0; ack = 0; flags = 0; window = 0; mss = None }; payload = [] }
+segment_in _ = record { head = record { src = 0; dst = 0; sport = 0; dport = 0; seq = 0; ack = 0; flags = 0; window = 0; mss = None; timestamps = None }; payload = [] }
 
 abbrev pub message_in : Packet → Message
 message_in (To_logger message) = message

@@ -27,7 +27,7 @@ use Rattle.ft_model.proofs.WrongTurns.{refused, never_happens}
 
 happens_11 : Happens meter path.moment_10.world run.moment_11.event run.moment_11.sent run.moment_11.world
 unfolding laws IsLe
-happens_11 = record { client = path.open_client; segment = client_segment 16 1001 5001 65535 run.first_text; later = run.begun_client; is_there = refl; move = record { move = Text 0 3; window = 65535; may = refl; fits = refl; segment_is = refl; after_is = refl }; sent_is = refl; after_is = refl }
+happens_11 = record { client = path.open_client; segment = client_segment 16 1001 5001 65535 run.first_text; later = run.begun_client; is_there = refl; move = record { move = Text 0 3; window = 65535; may = refl; fits = refl; timestamps = None; carries = refl; segment_is = refl; after_is = refl }; sent_is = refl; after_is = refl }
 
 sent_is_joint : Joint meter path.start run.sent_trace
 sent_is_joint = (opening_is_joint meter, happens_11)
@@ -86,7 +86,7 @@ happens_18 told = (from_log 2 (EntryMsg 0 (head_with 0 false 0 0)), refl, ((serv
 
 happens_19 : (told : Packet) → Happens meter (run.moment_18 told).world (run.moment_19 told).event (run.moment_19 told).sent (run.moment_19 told).world
 unfolding laws IsLe
-happens_19 told = record { client = run.begun_client; segment = client_segment 16 1001 5001 65535 hello_text; later = run.whole_client; is_there = refl; move = record { move = Text 0 5; window = 65535; may = refl; fits = refl; segment_is = refl; after_is = refl }; sent_is = refl; after_is = refl }
+happens_19 told = record { client = run.begun_client; segment = client_segment 16 1001 5001 65535 hello_text; later = run.whole_client; is_there = refl; move = record { move = Text 0 5; window = 65535; may = refl; fits = refl; timestamps = None; carries = refl; segment_is = refl; after_is = refl }; sent_is = refl; after_is = refl }
 
 turn_20 : LawfulTurn meter (serving_at 2 900000 run.restarted) (Packet_comes (client_segment 16 1001 5001 65535 hello_text)) (run.bare ∷ run.second_data ∷ run.second_read ∷ []) (serving_at 2 900000 run.second_point)
 unfolding laws

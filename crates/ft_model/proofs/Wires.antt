@@ -186,6 +186,7 @@ packet_wire start a (To_server s) h k = (
     flags = h.2.2;
     window = h.2.3;
     mss = h.2.4;
+    timestamps = h.2.7;
     size = h.2.6;
   },
   h.2.5,
@@ -201,6 +202,7 @@ packet_wire start a (To_client s) h k = (
     flags = h.2.2;
     window = h.2.3;
     mss = h.2.4;
+    timestamps = h.2.7;
     size = h.2.6;
   },
   h.2.5,

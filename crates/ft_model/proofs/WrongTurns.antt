@@ -2,6 +2,7 @@
 use Rattle.std.proofs.Common.{◌≡◌, ℕ, Bool, true, false, ◌==◌, ◌&&◌, ◌+◌, ◌*◌, if◌then◌else◌, refl, sym, ap, ◌∙◌, true≢false, subst, Some, List, [], ◌∷◌, length}
 use Rattle.seq_arith.specs.Packet.{Segment}
 use Rattle.server_trait.specs.Service.{Machine}
+use Rattle.tcp_rules.specs.declared.timestamping.Timestamping.TheVariants.{Off}
 use Rattle.ft_model.specs.Network.{Packet, packet_at}
 use Rattle.ft_model.specs.Network.Packet.{To_server, To_client, To_logger}
 use Rattle.ft_model.specs.World.{World, ServerTurn, Delivered, Happens}
@@ -96,7 +97,7 @@ silent = refused echo (run.node_live run.taken_point) (run.node_live run.logged_
 
 -- a SYN-ACK before Opened
 pub answered_early : IsUnlawful (run.node_at (Serving 0 [])) run.syn_comes (run.packet_6 ∷ [])
-answered_early = refused echo (run.node_at (Serving 0 [])) (run.node_at (Serving 1 (Opens numbers ∷ []))) run.syn_comes run.moment_5.sent (run.packet_6 ∷ []) (turn_5 echo) refl refl
+answered_early = refused echo (run.node_at (Serving 0 [])) (run.node_at (Serving 1 (Opens numbers Off ∷ []))) run.syn_comes run.moment_5.sent (run.packet_6 ∷ []) (turn_5 echo) refl refl
 
 -- the FIN before its read is logged
 pub fin_with_read : IsUnlawful closing.first_4.node closing.first_5.input closing.fin_with_read

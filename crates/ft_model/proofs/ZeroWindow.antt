@@ -1,5 +1,6 @@
 -- Each turn is lawful: each equation computes.
 use Rattle.std.proofs.Common.{true, false, refl, [], ◌∷◌}
+use Rattle.tcp_rules.specs.declared.timestamping.Timestamping.TheVariants.{Off}
 use Rattle.tcp_rules.specs.Profile.{plain}
 use Rattle.ft_model.specs.News.News.{Comes, Logged, Ticks, Begins}
 use Rattle.ft_model.specs.Opening.{point_opened}
@@ -21,7 +22,7 @@ probe_1 = record { server = refl; profile = refl; boot = refl; isn = refl; live 
 
 pub probe_2 : Happens run.probe_1.node run.probe_2
 unfolding laws
-probe_2 = record { server = refl; profile = refl; boot = refl; isn = refl; live = refl; stage = (Opens numbers ∷ [], refl, record { went = []; by_places = []; all_go = (refl, refl); places = refl; packets = refl }) }
+probe_2 = record { server = refl; profile = refl; boot = refl; isn = refl; live = refl; stage = (Opens numbers Off ∷ [], refl, record { went = []; by_places = []; all_go = (refl, refl); places = refl; packets = refl }) }
 
 pub probe_3 : Happens run.probe_2.node run.probe_3
 unfolding laws
@@ -37,8 +38,8 @@ probe_3 = record {
     record {
       went = Lives run.begun ∷ [];
       by_places = run.probe_3.sent;
-      all_go = alone (PlaceTurn echo run.probe_2.node run.probe_3.input) (Opens numbers) (Lives run.begun ∷ []) run.probe_3.sent
-          (run.begun, refl, goes echo server 1 Begins (point_opened plain numbers) run.begun run.probe_3.sent refl refl refl refl);
+      all_go = alone (PlaceTurn echo run.probe_2.node run.probe_3.input) (Opens numbers Off) (Lives run.begun ∷ []) run.probe_3.sent
+          (run.begun, refl, goes echo server 1 Begins (point_opened plain Off numbers) run.begun run.probe_3.sent refl refl refl refl);
       places = refl;
       packets = refl;
     },

@@ -35,7 +35,7 @@ happens_3 = ((nth 0 run.moment_2.sent), refl, ((idle 1 5000, refl, probe_1), ref
 
 happens_4 : Happens echo run.moment_3.world run.moment_4.event run.moment_4.sent run.moment_4.world
 unfolding laws IsLe
-happens_4 = record { client = client_with hello_text; segment = turn.syn; later = run.opening; is_there = refl; move = record { move = Syn None; window = 0; may = refl; fits = refl; segment_is = refl; after_is = refl }; sent_is = refl; after_is = refl }
+happens_4 = record { client = client_with hello_text; segment = turn.syn; later = run.opening; is_there = refl; move = record { move = Syn None; window = 0; may = refl; fits = refl; timestamps = None; carries = refl; segment_is = refl; after_is = refl }; sent_is = refl; after_is = refl }
 
 happens_5 : Happens echo run.moment_4.world run.moment_5.event run.moment_5.sent run.moment_5.world
 unfolding laws IsLe
@@ -55,7 +55,7 @@ happens_8 = ((nth 0 run.moment_7.sent), refl, (refl, refl))
 
 happens_9 : Happens echo run.moment_8.world run.moment_9.event run.moment_9.sent run.moment_9.world
 unfolding laws IsLe
-happens_9 = record { client = run.open_client; segment = turn.first_ack; later = run.open_client; is_there = refl; move = record { move = Acknowledge; window = 0; may = refl; fits = refl; segment_is = refl; after_is = refl }; sent_is = refl; after_is = refl }
+happens_9 = record { client = run.open_client; segment = turn.first_ack; later = run.open_client; is_there = refl; move = record { move = Acknowledge; window = 0; may = refl; fits = refl; timestamps = None; carries = refl; segment_is = refl; after_is = refl }; sent_is = refl; after_is = refl }
 
 happens_10 : Happens echo run.moment_9.world run.moment_10.event run.moment_10.sent run.moment_10.world
 unfolding laws IsLe
@@ -63,7 +63,7 @@ happens_10 = ((nth 0 run.moment_9.sent), refl, ((serving_at 1 5000 turn.opened, 
 
 happens_11 : Happens echo run.moment_10.world run.moment_11.event run.moment_11.sent run.moment_11.world
 unfolding laws IsLe
-happens_11 = record { client = run.open_client; segment = turn.text; later = run.told_client; is_there = refl; move = record { move = Text 0 5; window = 0; may = refl; fits = refl; segment_is = refl; after_is = refl }; sent_is = refl; after_is = refl }
+happens_11 = record { client = run.open_client; segment = turn.text; later = run.told_client; is_there = refl; move = record { move = Text 0 5; window = 0; may = refl; fits = refl; timestamps = None; carries = refl; segment_is = refl; after_is = refl }; sent_is = refl; after_is = refl }
 
 happens_12 : Happens echo run.moment_11.world run.moment_12.event run.moment_12.sent run.moment_12.world
 unfolding laws IsLe
@@ -99,7 +99,7 @@ happens_19 = (refl, ((serving_at 1 5000 (turn.probed 4 4), refl, probe_10), refl
 
 happens_20 : Happens echo run.moment_19.world run.moment_20.event run.moment_20.sent run.moment_20.world
 unfolding laws IsLe
-happens_20 = record { client = run.told_client; segment = turn.room; later = run.roomy_client; is_there = refl; move = record { move = Acknowledge; window = 5; may = refl; fits = refl; segment_is = refl; after_is = refl }; sent_is = refl; after_is = refl }
+happens_20 = record { client = run.told_client; segment = turn.room; later = run.roomy_client; is_there = refl; move = record { move = Acknowledge; window = 5; may = refl; fits = refl; timestamps = None; carries = refl; segment_is = refl; after_is = refl }; sent_is = refl; after_is = refl }
 
 happens_21 : Happens echo run.moment_20.world run.moment_21.event run.moment_21.sent run.moment_21.world
 unfolding laws IsLe

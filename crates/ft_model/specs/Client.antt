@@ -7,7 +7,8 @@ use Rattle.ft_io.specs.declared.Key.{Key}
 use Rattle.seq_arith.specs.Number.{number_at}
 use Rattle.tcp_rules.specs.Arrival.{int_eq, is_acceptable, is_usable}
 use Rattle.tcp_rules.specs.Coming.{Early, Came, nothing_early, comes}
-use Rattle.seq_arith.specs.Packet.{Segment, has_syn, has_rst, has_ack}
+use Rattle.seq_arith.specs.declared.options.Timestamps.{Timestamps}
+use Rattle.seq_arith.specs.Packet.{Segment, has_syn, has_rst, has_ack, timestamps_length, with_timestamps}
 use Rattle.ft_model.specs.Offset.{first_of, ack_of, text_of, fin_of, length_of, one_if}
 use Rattle.ft_model.specs.declared.phase.Phase.{Phase}
 use Rattle.ft_model.specs.declared.phase.Phase.TheVariants.{New, Opening, Established, Ended, Reset}
@@ -156,7 +157,12 @@ abbrev pub payload_of : Client → Move → List ℕ
 payload_of client (Text from len) = take len (drop from client.script)
 payload_of client _ = []
 
--- the packet of a move, with the window that it advertises
+-- at most how many bytes of text a move has
+abbrev pub text_length : Move → ℕ
+text_length (Text from len) = len
+text_length _ = 0
+
+-- the packet of a move, with the window that it advertises and without timestamps
 abbrev pub segment_of : Client → Move → ℕ → Segment
 segment_of client move window = record {
   head = record {
@@ -169,6 +175,7 @@ segment_of client move window = record {
     flags = flags_of move;
     window = window;
     mss = mss_of move;
+    timestamps = None;
   };
   payload = payload_of client move;
 }
@@ -197,13 +204,21 @@ may_advertise Rst window = window == 0
 may_advertise (Refuse number) window = window == 0
 may_advertise _ window = nat_lt window (2 ^ 16)
 
+-- a live client's packet may carry timestamps, of 32 bits each, where they leave room for its text (RFC 7323, 3.2)
+abbrev pub may_carry : ClientKind → Move → Option Timestamps → Bool
+may_carry kind move None = true
+may_carry kind move (Some timestamps) =
+    is_live kind && nat_lt timestamps.value (2 ^ 32) && nat_lt timestamps.echo (2 ^ 32) && nat_le (text_length move + timestamps_length) largest_segment
+
 -- a packet is a move of the client, which is then `after`
 pub record IsMove (client : Client) (segment : Segment) (after : Client) : Type 0 where
   pub move : Move
   pub window : ℕ
+  pub timestamps : Option Timestamps
   pub may : may_move client move ≡ true
   pub fits : may_advertise move window ≡ true
-  pub segment_is : segment ≡ segment_of client move window
+  pub carries : may_carry client.kind move timestamps ≡ true
+  pub segment_is : segment ≡ with_timestamps timestamps (segment_of client move window)
   pub after_is : after ≡ moved client move window
 
 -- The scripted client: which move an event of the schedule asks for, and of which client ..

@@ -13,6 +13,7 @@ use Rattle.ft_model.specs.Answered.{answered_after, reads_answered_after}
 use Rattle.ft_model.specs.Reads.{MakesReads, reads_told}
 use Rattle.ft_model.specs.Sending.{syn_acked_after, acknowledged_after, edge_after, wl1_after, wl2_after, congestion_after, sent_after, timing_after}
 use Rattle.ft_model.specs.Timer.{interval_after, rest_after}
+use Rattle.ft_model.specs.Timestamps.{timestamping_after}
 use Rattle.ft_model.specs.Segments.{segments_of}
 use Rattle.ft_model.specs.Copy.{copies}
 use Rattle.ft_model.specs.ResetAndEnd.{reset_after, end_ticks_after, dones}
@@ -56,6 +57,7 @@ pub record LiveTurn {State : Type 0} (service : Machine State) (server : Addr) (
   pub congestion : after.congestion ≡ congestion_after news before
   pub sent_units : after.sent ≡ sent_after service news before after
   pub timing : after.timing ≡ timing_after service news before after
+  pub timestamping : after.timestamping ≡ timestamping_after news before
   pub interval : after.interval ≡ interval_after news before after
   pub rest : after.rest ≡ rest_after service news before after
   pub end_ticks : after.end_ticks ≡ end_ticks_after service news before after

@@ -13,14 +13,36 @@ client_key = record { ip = 3221225985; port = 40000 }
 -- from the client, with these numbers and flags
 abbrev pub from_client : ℕ → ℕ → ℕ → List ℕ → Packet
 from_client seq ack flags payload = To_server (record {
-  head = record { src = 3221225985; dst = 3221226084; sport = 40000; dport = 7; seq = seq; ack = ack; flags = flags; window = 65535; mss = None };
+  head = record {
+    src = 3221225985;
+    dst = 3221226084;
+    sport = 40000;
+    dport = 7;
+    seq = seq;
+    ack = ack;
+    flags = flags;
+    window = 65535;
+    mss = None;
+    timestamps = None;
+  };
   payload = payload;
 })
 
 -- to the client
 abbrev pub from_server : ℕ → ℕ → ℕ → Option ℕ → List ℕ → Packet
 from_server seq ack flags mss payload = To_client (record {
-  head = record { src = 3221226084; dst = 3221225985; sport = 7; dport = 40000; seq = seq; ack = ack; flags = flags; window = 65535; mss = mss };
+  head = record {
+    src = 3221226084;
+    dst = 3221225985;
+    sport = 7;
+    dport = 40000;
+    seq = seq;
+    ack = ack;
+    flags = flags;
+    window = 65535;
+    mss = mss;
+    timestamps = None;
+  };
   payload = payload;
 })
 

@@ -150,7 +150,7 @@ Lawful service server profile boot isn at_boot turns = (at_boot ≡ hello (boote
 
 -- the premises of a lawful process: a packet for this server from the client of a live connection is near to that connection, ..
 abbrev pub IsNearTo : Addr → Segment → Place → Type 0
-IsNearTo server segment (Opens numbers) = Unit {0}
+IsNearTo server segment (Opens numbers timestamping) = Unit {0}
 IsNearTo server segment (Lives p) = is_for server segment ≡ true → key_eq (source_of segment) p.key ≡ true → IsNear p.cisn p.sisn segment
 IsNearTo server segment (Ended key) = Unit {0}
 

@@ -9,6 +9,7 @@ pub mod Taken
 pub mod Answered
 pub mod Reads
 pub mod Timer
+pub mod Timestamps
 pub mod Sending
 pub mod Copy
 pub mod ResetAndEnd

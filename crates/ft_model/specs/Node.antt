@@ -6,18 +6,19 @@ use Rattle.ft_io.specs.declared.Key.{Key}
 use Rattle.ft_io.specs.Key.{key_eq}
 use Rattle.seq_arith.specs.Packet.{Segment}
 use Rattle.tcp_rules.specs.Profile.{Profile}
+use Rattle.tcp_rules.specs.declared.timestamping.Timestamping.{Timestamping}
 use Rattle.seq_arith.specs.Message.{Numbers, Message}
 use Rattle.ft_model.specs.Point.{Point}
 use Rattle.ft_model.specs.Restart.{Fetched}
 
 -- what the server has for a key that it knows
 pub data Place : Type 0 where
-  Opens : Numbers → Place  -- its opening is pending: these numbers are asked for
+  Opens : Numbers → Timestamping → Place  -- its opening is pending: these numbers are asked for, and its SYN asked for these timestamps
   Lives : Point → Place  -- its connection is live
   Ended : Key → Place  -- it is done: the log has answered Ended, or it was fetched as done
 
 abbrev pub key_of : Place → Key
-key_of (Opens numbers) = numbers.key
+key_of (Opens numbers timestamping) = numbers.key
 key_of (Lives p) = p.key
 key_of (Ended key) = key
 
@@ -57,7 +58,7 @@ abbrev pub is_known : Key → List Place → Bool
 is_known key places = is_some (place_at key places)
 
 abbrev pub is_pending : Place → Bool
-is_pending (Opens numbers) = true
+is_pending (Opens numbers timestamping) = true
 is_pending _ = false
 
 abbrev pub pending_count : List Place → ℕ

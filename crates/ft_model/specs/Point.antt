@@ -8,6 +8,8 @@ use Rattle.tcp_rules.specs.Coming.{Early, nothing_early, StandsBehind}
 use Rattle.tcp_rules.specs.Congestion.{Congestion, initial_congestion}
 use Rattle.tcp_rules.specs.Timing.{Timing, first_base, initial_timing}
 use Rattle.tcp_rules.specs.Profile.{Profile}
+use Rattle.tcp_rules.specs.declared.timestamping.Timestamping.{Timestamping}
+use Rattle.tcp_rules.specs.declared.timestamping.Timestamping.TheVariants.{Off}
 use Rattle.server_trait.specs.Service.{Machine, Run, reference}
 use Rattle.ft_model.specs.Offset.{one_if}
 
@@ -32,6 +34,7 @@ pub record Point : Type 0 where
   pub congestion : Congestion  -- the congestion window, the slow start threshold, and the duplicate acknowledgements
   pub syn_acked : Bool  -- whether the SYN is acknowledged: an acknowledgement has counted
   pub timing : Timing  -- the estimate of the round-trip time, and the interval with which the timer starts
+  pub timestamping : Timestamping  -- whether its segments carry timestamps, and which value of the client they echo
   pub delays : Bool  -- whether the ACK of text that isn't logged yet waits for the log. It never changes
   pub batches : Bool  -- whether the log answers only the last of the Data that a turn sends. It never changes
   pub interval : ℕ  -- of the timer, in ticks
@@ -63,6 +66,7 @@ blank_point profile key cisn sisn mss = record {
   congestion = initial_congestion profile.measures mss;
   syn_acked = false;
   timing = initial_timing profile.measures;
+  timestamping = Off;
   delays = profile.delays;
   batches = profile.batches;
   interval = first_base profile.measures;

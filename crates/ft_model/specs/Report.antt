@@ -7,6 +7,7 @@ use Rattle.ft_io.specs.declared.Key.{Key}
 use Rattle.tcp_rules.specs.declared.profile.Profile.{Profile}
 use Rattle.tcp_rules.specs.declared.profile.Profile.TheVariants.{Plain, Wan}
 use Rattle.ft_io.specs.Key.{key_eq}
+use Rattle.seq_arith.specs.declared.options.Timestamps.{Timestamps}
 use Rattle.seq_arith.specs.Packet.{Segment}
 use Rattle.seq_arith.specs.Message.{Numbers, Kept, EntryHead, Part, Body, Message}
 use Rattle.seq_arith.specs.Message.Body.{HelloMsg, SummaryMsg, ListMsg, EntryMsg, BytesMsg, PartMsg, CutsMsg, LensMsg, OpenMsg, OpenedMsg, DataMsg}
@@ -82,11 +83,16 @@ event_words (Stop part) = codes "stop" ∷ decimal part ∷ []
 unfoldable pub event_line : ℕ → Event → List ℕ
 event_line n event = line (codes "event") (decimal n ∷ event_words event)
 
+-- timestamps, if a segment has them: TSval and TSecr
+abbrev pub timestamps_words : Option Timestamps → List (List ℕ)
+timestamps_words None = []
+timestamps_words (Some timestamps) = codes "ts" ∷ decimal timestamps.value ∷ decimal timestamps.echo ∷ []
+
 -- a segment: its flags, then its other fields by name
 abbrev pub segment_words : Segment → List (List ℕ)
 segment_words s =
     flags_text s.head.flags ∷ codes "seq" ∷ decimal s.head.seq ∷ codes "ack" ∷ decimal s.head.ack ∷ codes "window" ∷ decimal s.head.window
-    ∷ codes "mss" ∷ mss_text s.head.mss ∷ codes "data" ∷ hex_text s.payload ∷ []
+    ∷ codes "mss" ∷ mss_text s.head.mss ∷ codes "data" ∷ hex_text s.payload ∷ timestamps_words s.head.timestamps
 
 abbrev pub name_of : Body → List ℕ
 name_of HelloMsg = codes "Hello"

@@ -11,6 +11,7 @@ use Rattle.seq_arith.specs.declared.flags.TheConstants.{ACK}
 use Rattle.seq_arith.specs.Number.{number_at}
 use Rattle.seq_arith.specs.Packet.{Segment}
 use Rattle.tcp_rules.specs.Profile.{Profile}
+use Rattle.tcp_rules.specs.Timestamping.{resumed_with}
 use Rattle.seq_arith.specs.Message.{EntryHead, Body}
 use Rattle.seq_arith.specs.Message.Body.{ListMsg, EntryMsg, BytesMsg, PartMsg, CutsMsg, LensMsg}
 use Rattle.server_trait.specs.Service.{Machine, Run, reference}
@@ -105,6 +106,7 @@ holding_segment server head = record {
     flags = ACK;
     window = 0;
     mss = None;
+    timestamps = None;
   };
   payload = [];
 }
@@ -156,6 +158,7 @@ point_of service profile e = record (blank_point profile e.key e.cisn e.sisn e.m
   wl1 = pos (length e.bytes);
   wl2 = resumed_at service e;
   syn_acked = true;
+  timestamping = resumed_with profile.timestamps e.mss;
 }
 
 -- an entry is sound: a server that keeps its limits can have logged it

@@ -7,6 +7,7 @@ use Rattle.ft_io.specs.declared.Addr.{Addr}
 use Rattle.seq_arith.specs.declared.flags.TheConstants.{FIN, SYN, ACK}
 use Rattle.seq_arith.specs.Number.{number_at}
 use Rattle.seq_arith.specs.Packet.{Head, Segment}
+use Rattle.tcp_rules.specs.Timestamping.{timestamps_sent}
 use Rattle.server_trait.specs.Service.{Machine}
 use Rattle.ft_model.specs.Point.{Point, taken_units, acknowledgement, answered_run, released, window}
 use Rattle.ft_model.specs.News.{News}
@@ -16,7 +17,8 @@ use Rattle.ft_model.specs.Sending.{resends, sent_at_once}
 use Rattle.ft_model.specs.Timer.{expires}
 use Rattle.ft_model.specs.PendingAck.{is_ack_pending}
 
--- Acknowledgement: every segment to a live key acknowledges exactly what is both taken and known to be logged
+-- Acknowledgement: every segment to a live key acknowledges exactly what is both taken and known to be logged. Once a value of the client is known, every one
+-- carries timestamps (RFC 7323, 3.2)
 abbrev pub head_to : Addr → Point → (seq flags : ℕ) → Option ℕ → Head
 head_to server p seq flags mss = record {
   src = server.ip;
@@ -28,6 +30,7 @@ head_to server p seq flags mss = record {
   flags = flags;
   window = window p;
   mss = mss;
+  timestamps = timestamps_sent p.timestamping;
 }
 
 -- a segment at an offset of the output

@@ -15,7 +15,7 @@ use Rattle.ft_model.specs.Point.{Point}
 use Rattle.ft_model.specs.News.{News}
 use Rattle.ft_model.specs.News.News.{Comes, Logged, Ticks, Begins}
 use Rattle.ft_model.specs.Connection.{ConnectionTurn, told_by}
-use Rattle.ft_model.specs.Opening.{is_syn, numbers_for, point_opened}
+use Rattle.ft_model.specs.Opening.{is_syn, numbers_for, timestamping_for, point_opened}
 use Rattle.ft_model.specs.Refusal.{as_listen, as_closed, full_rst}
 use Rattle.ft_model.specs.Node.{Node, Place, Input, key_of, is_for, is_known, pending_count}
 use Rattle.ft_model.specs.Node.Place.{Opens, Lives, Ended}
@@ -35,9 +35,9 @@ abbrev pub Hears : {State : Type 0} → Machine State → Node → Body → Plac
 Hears service node (StableMsg kept) (Lives p) now sent = LivesOn service node (Logged kept) p now sent
 Hears service node (ReadsMsg kept) (Lives p) now sent = LivesOn service node (Logged kept) p now sent
 Hears service node (EndedMsg key) (Lives p) now sent = (now ≡ Ended p.key ∷ []) × (sent ≡ [])
-Hears service node (OpenedMsg kept) (Opens asked) now sent =
-    MatchBool (kept.cisn == asked.cisn) (LivesOn service node Begins (point_opened node.profile kept) now sent) ((now ≡ []) × (sent ≡ []))
-Hears service node (FullMsg key) (Opens asked) now sent = (now ≡ []) × (sent ≡ To_client (full_rst node.server asked) ∷ [])
+Hears service node (OpenedMsg kept) (Opens asked timestamping) now sent =
+    MatchBool (kept.cisn == asked.cisn) (LivesOn service node Begins (point_opened node.profile timestamping kept) now sent) ((now ≡ []) × (sent ≡ []))
+Hears service node (FullMsg key) (Opens asked timestamping) now sent = (now ≡ []) × (sent ≡ To_client (full_rst node.server asked) ∷ [])
 Hears service node _ place now sent = Stays place now sent
 
 -- what an input that concerns a place does there. A segment of a pending key is dropped here: its Open, if it repeats the SYN, comes last
@@ -46,8 +46,8 @@ Meets service node (Packet_comes segment) (Lives p) now sent = LivesOn service n
 Meets service node (Packet_comes segment) (Ended key) now sent = (now ≡ Ended key ∷ []) × (sent ≡ map To_client (as_closed node.server segment))
 Meets service node (Message_comes message) place now sent = Hears service node message.body place now sent
 Meets service node Tick_comes (Lives p) now sent = LivesOn service node Ticks p now sent
-Meets service node (Packet_comes segment) (Opens numbers) now sent = Stays (Opens numbers) now sent
-Meets service node Tick_comes (Opens numbers) now sent = Stays (Opens numbers) now sent
+Meets service node (Packet_comes segment) (Opens numbers timestamping) now sent = Stays (Opens numbers timestamping) now sent
+Meets service node Tick_comes (Opens numbers timestamping) now sent = Stays (Opens numbers timestamping) now sent
 Meets service node Tick_comes (Ended key) now sent = Stays (Ended key) now sent
 Meets service node Noise_comes place now sent = Stays place now sent
 
@@ -85,8 +85,9 @@ is_strange node segment places = is_for node.server segment && not (is_known (so
 -- Opening: a SYN of an unknown key makes a pending opening with the next initial sequence number, while fewer than 64 are pending
 abbrev pub newcomers : Node → Input → (opened : ℕ) → List Place → List Place
 newcomers node (Packet_comes segment) opened places =
-    if is_strange node segment places && is_syn segment && nat_lt (pending_count places) most_pending then Opens (numbers_for node.isn opened segment) ∷ []
-    else []
+    if is_strange node segment places && is_syn segment
+    && nat_lt (pending_count places) most_pending
+    then Opens (numbers_for node.profile node.isn opened segment) (timestamping_for node.profile segment) ∷ [] else []
 newcomers node (Message_comes message) opened places = []
 newcomers node Noise_comes opened places = []
 newcomers node Tick_comes opened places = []
@@ -107,7 +108,7 @@ is_asked node (Message_comes message) numbers = false
 is_asked node Noise_comes numbers = false
 
 abbrev pub opens_at : Node → Input → Place → List Packet
-opens_at node input (Opens numbers) = if is_asked node input numbers then told_by node.boot (OpenMsg numbers) ∷ [] else []
+opens_at node input (Opens numbers timestamping) = if is_asked node input numbers then told_by node.boot (OpenMsg numbers) ∷ [] else []
 opens_at node input _ = []
 
 -- A turn of a server that serves. The packets of the known connections come first, in order, then the pending Opens in the same order. A packet of an unknown

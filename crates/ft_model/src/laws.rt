@@ -1,6 +1,6 @@
 //! Laws about the definitions. Nothing here runs; each function is a theorem.
 
-ghost use Rattle.std.specs.Prelude.{◌≡◌, ℕ, ◌<◌, ◌+◌, pos, true, false, Some, None, List, [], ◌∷◌, if◌then◌else◌};
+ghost use Rattle.std.specs.Prelude.{◌≡◌, ℕ, ◌<◌, ◌+◌, pos, int_le, true, false, Some, None, List, [], ◌∷◌, if◌then◌else◌};
 ghost use Rattle.std.specs.List.{AllByRecursion, list_any};
 ghost use Rattle.ft_io.specs.declared.Addr.{Addr};
 ghost use Rattle.server_trait.specs.Service.{machine};
@@ -10,7 +10,7 @@ ghost use Rattle.ft_model.specs.News.News.{Comes, Begins};
 ghost use Rattle.ft_model.specs.Reads.{next_read};
 ghost use Rattle.ft_model.specs.Segments.{fin_segment, sends_fin, new_fin};
 ghost use Rattle.ft_model.specs.Acknowledgement.{is_segment, IsTold};
-ghost use Rattle.ft_model.specs.Point.{Point, taken_units, most, HoldsBehind, room};
+ghost use Rattle.ft_model.specs.Point.{Point, taken_units, acknowledgement, most, HoldsBehind, room};
 ghost use Rattle.ft_model.specs.Offset.{first_of, ack_of, length_of};
 ghost use Rattle.ft_model.specs.Taken.{accepts, uses, acknowledges_unsent, counts, taken_after, early_after, fin_after};
 ghost use Rattle.ft_model.specs.Sending.{syn_acked_after, acknowledged_after, edge_after, wl1_after, wl2_after, congestion_after};
@@ -18,10 +18,13 @@ ghost use Rattle.ft_model.specs.PendingAck.{needs_ack, is_ack_due, is_ack_pendin
 ghost use Rattle.seq_arith.specs.Packet.{Segment, has_syn, has_rst, has_ack};
 ghost use Rattle.seq_arith.specs.Message.{Numbers};
 ghost use Rattle.tcp_rules.specs.Profile.{Profile, plain};
+ghost use Rattle.tcp_rules.specs.declared.timestamping.Timestamping.TheVariants.{Off};
+ghost use Rattle.tcp_rules.specs.Timestamping.{timestamps_sent};
 ghost use Rattle.tcp_rules.specs.Timing.{initial_timing};
 ghost use Rattle.ft_model.specs.Log.{Entry};
 ghost use Rattle.ft_model.specs.Profiled.{HasProfile};
-ghost use Rattle.ft_model.specs.Opening.{point_opened};
+ghost use Rattle.ft_model.specs.Opening.{point_opened, timestamping_for};
+ghost use Rattle.ft_model.specs.Timestamps.{timestamping_after};
 ghost use Rattle.ft_model.specs.Restart.{point_of};
 ghost use Rattle.ft_model.specs.Connection.{LiveTurn, ConnectionTurn};
 ghost use Rattle.ft_model.specs.Node.{Node, Input, AllCount, points_at};
@@ -121,7 +124,8 @@ pub fn held_text_stands_behind<S: Service>()
 
 /// Every connection has its server's profile, from its first point on and after every turn, and a trace's servers have the profile with which it starts.
 pub fn profiles_stay<S: Service>()
-    ensures opened { (profile : Profile) (numbers : Numbers) → HasProfile profile (point_opened profile numbers) }
+    ensures opened { (profile : Profile) (syn : Segment) (numbers : Numbers)
+        → HasProfile profile (point_opened profile (timestamping_for profile syn) numbers) }
     ensures restored { (kind : ℕ) (profile : Profile) (entry : Entry)
         → HasProfile profile (point_of (machine (S.started kind) S.after S.greeting) profile entry) }
     ensures turn { (kind boot : ℕ) (profile : Profile) (server : Addr) (news : News) (before after : Point) (sent : List Packet)
@@ -132,15 +136,26 @@ pub fn profiles_stay<S: Service>()
         → (node.profile ≡ start.profile) × AllByRecursion (HasProfile start.profile) (points_at node.stage) }
 {}
 
-/// A plain connection's timing never changes, so its timer always starts with one tick; and an ACK that is due is pending.
+/// A plain connection's timing never changes, so its timer always starts with one tick; its segments carry no timestamps; and an ACK that is due is pending.
 pub fn plain_stays<S: Service>()
     ensures timing { (kind : ℕ) (start : World) (trace : List Moment) (node : Node) → Joint (machine (S.started kind) S.after S.greeting) start trace
         → (world_after start trace).node ≡ Some node → start.profile ≡ plain
         → AllByRecursion (λ p. p.timing ≡ initial_timing false) (points_at node.stage) }
+    ensures timestamps { (kind : ℕ) (start : World) (trace : List Moment) (node : Node) → Joint (machine (S.started kind) S.after S.greeting) start trace
+        → (world_after start trace).node ≡ Some node → start.profile ≡ plain → AllByRecursion (λ p. p.timestamping ≡ Off) (points_at node.stage) }
     ensures base { (p : Point) → p.timing ≡ initial_timing false → p.timing.base ≡ 1 }
     ensures ack { (kind : ℕ) (news : News) (before after : Point) → before.delays ≡ false
         → is_ack_pending (machine (S.started kind) S.after S.greeting) news before after
         ≡ is_ack_due (machine (S.started kind) S.after S.greeting) news before after }
+{}
+
+/// Timestamps echo only what the client has sent in time: after a restart none is echoed until a segment brings one, and a segment that begins past the last
+/// acknowledgement changes nothing (RFC 7323, 4.3).
+pub fn echoes_are_in_time<S: Service>()
+    ensures restored { (kind : ℕ) (profile : Profile) (entry : Entry)
+        → timestamps_sent (point_of (machine (S.started kind) S.after S.greeting) profile entry).timestamping ≡ None }
+    ensures late { (p : Point) (segment : Segment) → int_le (first_of p.cisn segment) (pos (acknowledgement p)) ≡ false
+        → timestamping_after (Comes segment) p ≡ p.timestamping }
 {}
 
 /// At the right edge of an open window a segment of length 0 is acceptable.

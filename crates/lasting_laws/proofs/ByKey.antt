@@ -46,7 +46,7 @@ module _ (node : Node) (input : Input) (qs : List Quarantined) where
   skip : (key : Key) (place : Place) (rest : List Quarantined) → key_eq (key_of place) key ≡ false → quarantined_at key (quarantine_of node input qs place ++ rest) ≡ quarantined_at key rest
   skip key (Ended k) rest other = skip_of key k rest other (quarantined_at k qs) (named_in node input node.stage k) refl refl
   skip key (Lives p) rest other = refl
-  skip key (Opens n) rest other = refl
+  skip key (Opens n timestamping) rest other = refl
 
   none_there : (key : Key) (places : List Place) → has_key key (map key_of places) ≡ false → quarantined_at key (flat_map (quarantine_of node input qs) places) ≡ None
   none_there key [] none = refl
@@ -69,7 +69,7 @@ module _ (node : Node) (input : Input) (qs : List Quarantined) where
       ≡ next_quarantine input (quarantined_at key qs) (named_in node input node.stage key)) (sym (same_key k key its))
       (here_of key rest none (quarantined_at key qs) (named_in node input node.stage key) refl refl)
   here key (Lives p) rest its none = none
-  here key (Opens n) rest its none = none
+  here key (Opens n timestamping) rest its none = none
 
   all_there : (key : Key) (places : List Place) → AreDistinct (map key_of places)
       → quarantined_at key (flat_map (quarantine_of node input qs) places) ≡ quarantine_at node input key (quarantined_at key qs) (place_at key places)
@@ -96,7 +96,7 @@ module _ (node : Node) (input : Input) (qs : List Quarantined) where
   at_most_one : (place : Place) → (quarantine_of node input qs place ≡ []) ⊎ ((x : Quarantined) × (quarantine_of node input qs place ≡ x ∷ []) × (x.named.key ≡ key_of place))
   at_most_one (Ended k) = one_key k (quarantined_at k qs) (named_in node input node.stage k) refl refl
   at_most_one (Lives p) = inl refl
-  at_most_one (Opens n) = inl refl
+  at_most_one (Opens n timestamping) = inl refl
 
   abbrev keys_in : List Quarantined → List Key
   keys_in xs = map (λ x. x.named.key) xs
@@ -126,9 +126,9 @@ module _ {State : Type 0} (service : Machine State) (node : Node) (input : Input
   keeps place now sent (stayed n s) = subst (AllByRecursion (λ q. key_of q ≡ key_of place)) (sym n) (refl, tt)
   keeps place now sent (went_on news p q e w n t) =
       subst (AllByRecursion (λ x. key_of x ≡ key_of place)) (sym n) (same_after news p q sent t ∙ sym (ap key_of e), tt)
-  keeps place now sent (began asked kept q e h n t) =
-      subst (AllByRecursion (λ x. key_of x ≡ key_of place)) (sym n) (same_after Begins (point_opened node.profile kept) q sent t ∙ (h.key ∙ sym (ap key_of e)), tt)
-  keeps place now sent (dropped asked e d n s) = subst (AllByRecursion (λ x. key_of x ≡ key_of place)) (sym n) tt
+  keeps place now sent (began asked kept timestamping q e h n t) =
+      subst (AllByRecursion (λ x. key_of x ≡ key_of place)) (sym n) (same_after Begins (point_opened node.profile timestamping kept) q sent t ∙ (h.key ∙ sym (ap key_of e)), tt)
+  keeps place now sent (dropped asked timestamping e d n s) = subst (AllByRecursion (λ x. key_of x ≡ key_of place)) (sym n) tt
   keeps place now sent (ended p e h n s) = subst (AllByRecursion (λ x. key_of x ≡ key_of place)) (sym n) (sym (ap key_of e), tt)
   keeps place now sent (refused k segment e i same n s) = subst (AllByRecursion (λ x. key_of x ≡ key_of place)) (sym n) (sym (ap key_of e), tt)
 

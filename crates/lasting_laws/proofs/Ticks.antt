@@ -15,7 +15,7 @@ use Rattle.ft_model.specs.Node.{Node, Place, Stage, key_of, place_at, pending_co
 use Rattle.ft_model.specs.Node.Input.{Packet_comes, Tick_comes}
 use Rattle.ft_model.specs.Node.Place.{Opens, Lives, Ended}
 use Rattle.ft_model.specs.Node.Stage.{Asking, Fetching, Serving, Fenced}
-use Rattle.ft_model.specs.Opening.{is_syn, numbers_for}
+use Rattle.ft_model.specs.Opening.{is_syn, numbers_for, timestamping_for}
 use Rattle.ft_model.specs.Point.{Point}
 use Rattle.ft_model.specs.ServingTurn.{PlaceTurn, AllGo, Stays, Meets, newcomers, is_strange, concerns}
 use Rattle.ft_model.specs.World.{ServerTurn}
@@ -41,7 +41,7 @@ use Rattle.tcp_rules.proofs.ComingKeeps.{and_false}
 pub no_new : (node : Node) (p : Point) (opened : ℕ) (places : List Place) → newcomers node (Packet_comes (last_rst node.server p)) opened places ≡ []
 no_new node p opened places =
     if_false (is_strange node (last_rst node.server p) places && is_syn (last_rst node.server p) && nat_lt (pending_count places) 64)
-    (Opens (numbers_for node.isn opened (last_rst node.server p)) ∷ []) []
+    (Opens (numbers_for node.profile node.isn opened (last_rst node.server p)) (timestamping_for node.profile (last_rst node.server p)) ∷ []) []
     (ap (λ b. b && nat_lt (pending_count places) 64) (and_false (is_strange node (last_rst node.server p) places) (is_syn (last_rst node.server p)) refl))
 
 -- the places that are still to be tended are those of the node
@@ -185,9 +185,9 @@ module _ {State : Type 0} (service : Machine State) where
         → AreMoments service wait (with_server m packets) sent (with_server last (packets ++ sent))
     tends [] m last packets sent s t =
         ([], (λ i. with_server (t.1 i) (packets ++ t.0 i)) ∙ ap (with_server m) (append-nil packets), sym t.0)
-    tends (Opens n ∷ left) m last packets sent s (first, rest, next, sent_is, tend, more) =
+    tends (Opens n timestamping ∷ left) m last packets sent s (first, rest, next, sent_is, tend, more) =
         skipped m last packets first rest sent tend.0 sent_is
-        (tends left m last packets rest (passed m (Opens n) left s) (subst (λ x. TendsAll service silence watches x left rest last) tend.1 more))
+        (tends left m last packets rest (passed m (Opens n timestamping) left s) (subst (λ x. TendsAll service silence watches x left rest last) tend.1 more))
     tends (Ended k ∷ left) m last packets sent s (first, rest, next, sent_is, tend, more) =
         skipped m last packets first rest sent tend.0 sent_is
         (tends left m last packets rest (passed m (Ended k) left s) (subst (λ x. TendsAll service silence watches x left rest last) tend.1 more))

@@ -82,7 +82,7 @@ pub record DropsOpening {State : Type 0} (service : Machine State) (before : Las
 -- a connection is let go of or asked, or neither
 abbrev pub keep_alives : (silence : ℕ) → Addr → Watch → Place → List Packet
 keep_alives silence server w (Lives p) = if is_asked silence w p then To_client (keep_alive server p) ∷ [] else []
-keep_alives silence server w (Opens numbers) = []
+keep_alives silence server w (Opens numbers timestamping) = []
 keep_alives silence server w (Ended key) = []
 
 abbrev pub Stays : (silence : ℕ) → Watch → Node → Place → List Packet → Node → Type 0

@@ -1,5 +1,6 @@
 -- A server that serves has a connection, live or done, for each client that it has answered. So no acknowledgement comes from a client that it doesn't know, and what
 -- it sends in a turn resets no client that the log keeps, unless it hears that the log is full.
+use Rattle.tcp_rules.specs.declared.timestamping.Timestamping.{Timestamping}
 use Rattle.std.proofs.Common.{◌≡◌, ℕ, Bool, true, false, ◌&&◌, not, nat_lt, refl, sym, ap, ◌∙◌, subst, true≢false, inl, inr, ◌⊎◌, ⊎_elim, IfSome, eq-eqb, Some, None, List, [], ◌∷◌, ◌++◌, map, if◌then◌else◌}
 use Rattle.std.specs.List.{AllByRecursion}
 use Rattle.std.proofs.lemmas.Bool.{and_parts, or_right}
@@ -21,7 +22,7 @@ use Rattle.ft_model.specs.News.{News}
 use Rattle.ft_model.specs.Node.{Node, Place, Input, key_of, place_at, is_for, is_known, is_pending, pending_count}
 use Rattle.ft_model.specs.Node.Place.{Opens, Lives, Ended}
 use Rattle.ft_model.specs.Node.Input.{Packet_comes, Message_comes, Noise_comes, Tick_comes}
-use Rattle.ft_model.specs.Opening.{is_syn, numbers_for}
+use Rattle.ft_model.specs.Opening.{is_syn, numbers_for, timestamping_for}
 use Rattle.ft_model.specs.Point.{Point}
 use Rattle.ft_model.specs.Reads.{reads_told}
 use Rattle.ft_model.specs.Refusal.{as_listen, as_closed, full_rst, rst_at_ack, rst_behind}
@@ -102,17 +103,17 @@ is_full_input _ = false
 abbrev pub IsThere : List Place → Place → Type 0
 IsThere places (Lives p) = is_settled p.key places ≡ true
 IsThere places (Ended key) = is_settled key places ≡ true
-IsThere places (Opens n) = Unit {0}
+IsThere places (Opens n timestamping) = Unit {0}
 
 first_there : (p : Place) (places : List Place) → IsThere (p ∷ places) p
 first_there (Lives p) places = or_left (key_eq p.key p.key) (is_settled p.key places) (key_is p.key)
 first_there (Ended key) places = or_left (key_eq key key) (is_settled key places) (key_is key)
-first_there (Opens n) places = tt
+first_there (Opens n timestamping) places = tt
 
 there_more : (p : Place) (places : List Place) (x : Place) → IsThere places x → IsThere (p ∷ places) x
 there_more p places (Lives q) t = or_right (settles q.key p) (is_settled q.key places) t
 there_more p places (Ended key) t = or_right (settles key p) (is_settled key places) t
-there_more p places (Opens n) t = tt
+there_more p places (Opens n timestamping) t = tt
 
 pub each_there : (places : List Place) → AllByRecursion (IsThere places) places
 each_there [] = tt
@@ -122,7 +123,7 @@ each_there (p ∷ places) = (first_there p places, all_weaker (IsThere places) (
 settles_so : (key : Key) (place : Place) → settles key place ≡ true → key_eq (key_of place) key ≡ true
 settles_so key (Lives p) e = e
 settles_so key (Ended k) e = e
-settles_so key (Opens n) e = absurd (true≢false (sym e))
+settles_so key (Opens n timestamping) e = absurd (true≢false (sym e))
 
 pub settled_known : (key : Key) (places : List Place) → is_settled key places ≡ true → has_key key (map key_of places) ≡ true
 settled_known key [] e = e
@@ -204,11 +205,11 @@ place_fair service script isn log packets node input later entries i ends place 
   subst (AllByRecursion (PlaceOver log packets)) (sym n) (tt, tt),
   λ m. connection_fair service (is_full_input input) log node.server node.boot news p after sent later (one_of (IsThere later) (Lives after) now n m) t,
 )
-place_fair service script isn log packets node input later entries i ends place now sent q (began asked kept after e h n t) = (
+place_fair service script isn log packets node input later entries i ends place now sent q (began asked kept timestamping after e h n t) = (
   subst (AllByRecursion (PlaceOver log packets)) (sym n) (tt, tt),
   λ m. connection_fair service (is_full_input input) log node.server node.boot _ _ after sent later (one_of (IsThere later) (Lives after) now n m) t,
 )
-place_fair service script isn log packets node input later entries i ends place now sent q (dropped asked e d n s) =
+place_fair service script isn log packets node input later entries i ends place now sent q (dropped asked timestamping e d n s) =
     let full : is_full_input input ≡ true = dropped_full script isn log node input asked entries i (subst (PlaceFits script isn log) e q.0) d in (
       subst (AllByRecursion (PlaceOver log packets)) (sym n) tt,
       λ m. ⊎_elim (λ x. subst (AllByRecursion (Fair (is_full_input input) log later)) (sym x) tt)
@@ -238,7 +239,7 @@ refusals_fair log node Tick_comes places later heard = tt
 
 new_over : (log : Log) (packets : List Packet) (node : Node) (input : Input) (opened : ℕ) (places : List Place) → AllByRecursion (PlaceOver log packets) (newcomers node input opened places)
 new_over log packets node (Packet_comes segment) opened places =
-    holds_if (AllByRecursion (PlaceOver log packets)) (is_strange node segment places && is_syn segment && nat_lt (pending_count places) 64) (Opens (numbers_for node.isn opened segment) ∷ []) []
+    holds_if (AllByRecursion (PlaceOver log packets)) (is_strange node segment places && is_syn segment && nat_lt (pending_count places) 64) (Opens (numbers_for node.profile node.isn opened segment) (timestamping_for node.profile segment) ∷ []) []
     (λ t. (tt, tt)) (λ t. tt)
 new_over log packets node (Message_comes message) opened places = tt
 new_over log packets node Noise_comes opened places = tt
@@ -248,10 +249,10 @@ new_over log packets node Tick_comes opened places = tt
 abbrev Finds : List Place → Place → Type 0
 Finds places place = place_at (key_of place) places ≡ Some place
 
-by_key : (places : List Place) (key : Key) (n : Numbers) (b : Bool) → key_eq n.key key ≡ b → place_at key places ≡ Some (Ended key) → place_at n.key places ≡ Some (Opens n) → b ≡ false
-by_key places key n false e a r = refl
-by_key places key n true e a r =
-    let same : Ended key ≡ Opens n = some_is (Ended key) (Opens n) (sym a ∙ (ap (λ k. place_at k places) (sym (same_key n.key key e)) ∙ r)) in absurd (true≢false (sym (ap is_pending same)))
+by_key : (places : List Place) (key : Key) (n : Numbers) (timestamping : Timestamping) (b : Bool) → key_eq n.key key ≡ b → place_at key places ≡ Some (Ended key) → place_at n.key places ≡ Some (Opens n timestamping) → b ≡ false
+by_key places key n timestamping false e a r = refl
+by_key places key n timestamping true e a r =
+    let same : Ended key ≡ Opens n timestamping = some_is (Ended key) (Opens n timestamping) (sym a ∙ (ap (λ k. place_at k places) (sym (same_key n.key key e)) ∙ r)) in absurd (true≢false (sym (ap is_pending same)))
 
 plain_opens : (key : Key) (body : Body) → asks_to_open body ≡ false → asks_for key body ≡ false
 plain_opens key (OpenMsg n) e = absurd (true≢false e)
@@ -268,7 +269,7 @@ over_more : (log : Log) (packets sent : List Packet) (places : List Place) → (
 over_more log packets sent places none (Ended key) at o =
     ⊎_elim (λ d. inl d) (λ n. inr (n.0, all_append (λ p. opens_key key p ≡ false) packets sent n.1 (none key at))) o
 over_more log packets sent places none (Lives p) at o = tt
-over_more log packets sent places none (Opens n) at o = tt
+over_more log packets sent places none (Opens n timestamping) at o = tt
 
 heard_on : (places later : List Place) → ((key : Key) → is_settled key places ≡ true → is_settled key later ≡ true) → (p : Packet) → IsHeard places p → IsHeard later p
 heard_on places later on (To_server segment) h = λ a. on (source_of segment) (h a)
@@ -298,14 +299,14 @@ serving_answers service script isn log clients packets node input opened places 
     subst (AllByRecursion (Sent full log later)) (sym t.packets)
     (all_append (Sent full log later) t.by_places _ (all_weaker (Fair full log later) (Sent full log later) t.by_places (λ p f. f.0) by_places)
     (all_append (Sent full log later) (refusals node input places) _ (all_weaker (Fair full log later) (Sent full log later) (refusals node input places) (λ p f. f.0) rsts)
-    (all_flat (Finds later) (Sent full log later) (opens_at node input) later (asks_so node input (Finds later) (Sent full log later) (λ n r. (tt, λ f. tt))) finds))) in
+    (all_flat (Finds later) (Sent full log later) (opens_at node input) later (asks_so node input (Finds later) (Sent full log later) (λ n s r. (tt, λ f. tt))) finds))) in
     let none : (key : Key) → place_at key later ≡ Some (Ended key) → AllByRecursion (λ p. opens_key key p ≡ false) sent =
     λ key at. subst (AllByRecursion (λ p. opens_key key p ≡ false)) (sym t.packets)
     (all_append (λ p. opens_key key p ≡ false) t.by_places _ (all_weaker (Fair full log later) (λ p. opens_key key p ≡ false) t.by_places (λ p f. plain_key key p f.1) by_places)
     (all_append (λ p. opens_key key p ≡ false) (refusals node input places) _
     (all_weaker (Fair full log later) (λ p. opens_key key p ≡ false) (refusals node input places) (λ p f. plain_key key p f.1) rsts)
     (all_flat (Finds later) (λ p. opens_key key p ≡ false) (opens_at node input) later
-    (asks_so node input (Finds later) (λ p. opens_key key p ≡ false) (λ n r. by_key later key n (key_eq n.key key) refl at r)) finds))) in
+    (asks_so node input (Finds later) (λ p. opens_key key p ≡ false) (λ n s r. by_key later key n s (key_eq n.key key) refl at r)) finds))) in
     let on : (key : Key) → is_settled key places ≡ true → is_settled key later ≡ true =
     λ key s. ap (is_settled key) t.places ∙ settled_append key t.went new
     (inl (settled_goes_on (PlaceTurn service node input) key (λ place now some x e. place_settled service node input key place now some (place_went service node input place now some x) e)

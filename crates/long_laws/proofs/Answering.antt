@@ -81,7 +81,7 @@ input_heard w places Tick_comes a b = tt
 abbrev IsBack : Log → Place → Type 0
 IsBack log (Lives p) = Unit {0}
 IsBack log (Ended key) = IsDone log key
-IsBack log (Opens n) = ⊥
+IsBack log (Opens n timestamping) = ⊥
 
 restored_back : {State : Type 0} (service : Machine State) (profile : Profile) (log : Log) (fetched : List Fetched) → AllByRecursion (IsHeadOf log) fetched → AllByRecursion (IsBack log) (all_restored service profile fetched)
 restored_back service profile log [] a = tt
@@ -100,7 +100,7 @@ revives_back service log node later (Lives p) now sent b t = (
   λ m. connection_fair service false log node.server node.boot Begins p t.0 sent later (one_of (IsThere later) (Lives t.0) now t.1 m) t.2,
 )
 revives_back service log node later (Ended key) now sent b t = (subst (AllByRecursion (IsBack log)) (sym t.0) (b, tt), λ m. subst (AllByRecursion (Fair false log later)) (sym t.1) tt)
-revives_back service log node later (Opens n) now sent b t = absurd b
+revives_back service log node later (Opens n timestamping) now sent b t = absurd b
 
 settled_all : (log : Log) (places : List Place) (key : Key) → AllByRecursion (IsBack log) places → has_key key (map key_of places) ≡ true → is_settled key places ≡ true
 settled_all log [] key a e = e
@@ -110,12 +110,12 @@ settled_all log (Lives p ∷ places) key a e =
 settled_all log (Ended k ∷ places) key a e =
     ⊎_elim (λ h. or_left (key_eq k key) (is_settled key places) h) (λ h. or_right (key_eq k key) (is_settled key places) (settled_all log places key a.1 h))
     (or_cases (key_eq k key) (has_key key (map key_of places)) e)
-settled_all log (Opens n ∷ places) key a e = absurd a.0
+settled_all log (Opens n timestamping ∷ places) key a e = absurd a.0
 
 back_over : (log : Log) (packets : List Packet) (place : Place) → IsBack log place → PlaceOver log packets place
 back_over log packets (Ended key) b = inl b
 back_over log packets (Lives p) b = tt
-back_over log packets (Opens n) b = tt
+back_over log packets (Opens n timestamping) b = tt
 
 -- who acknowledges, and who is answered, has an entry
 heard_logged : {State : Type 0} (service : Machine State) (script : Key → List ℕ) (log : Log) (places : List Place)
@@ -200,7 +200,7 @@ turn_answers service w node input sent after o k e brought (served opened places
 pub over_still : (log : Log) (packets sent : List Packet) → ((key : Key) → AllByRecursion (λ p. opens_key key p ≡ false) sent) → (place : Place) → PlaceOver log packets place → PlaceOver log (packets ++ sent) place
 over_still log packets sent none (Ended key) o = ⊎_elim (λ d. inl d) (λ n. inr (n.0, all_append (λ p. opens_key key p ≡ false) packets sent n.1 (none key))) o
 over_still log packets sent none (Lives p) o = tt
-over_still log packets sent none (Opens n) o = tt
+over_still log packets sent none (Opens n timestamping) o = tt
 
 -- other packets, and other clients
 pub stage_still : (log : Log) (clients now : List Client) (packets sent : List Packet) (stage : Stage) → ((key : Key) → AllByRecursion (λ p. opens_key key p ≡ false) sent)
@@ -255,7 +255,7 @@ over_heard w message under (Ended key) o =
     (absent_key (λ e. e.key) key w.log.entries (ap is_some n.0)) in
     inr (none_found after key (entry_of key after) refl h, all_append (λ p. opens_key key p ≡ false) w.packets (answers w.log message) n.1 (all_answers (λ p. opens_key key p ≡ false) w.log message (λ body a. refl)))) o
 over_heard w message under (Lives p) o = tt
-over_heard w message under (Opens n) o = tt
+over_heard w message under (Opens n timestamping) o = tt
 
 stage_heard : (w : World) (message : Message) (stage : Stage) → IsUnderWay w (To_logger message) → StageAnswers w.log w.clients w.packets stage
     → StageAnswers (log_after w.log message) w.clients (w.packets ++ answers w.log message) stage

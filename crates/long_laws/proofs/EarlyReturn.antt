@@ -1,4 +1,5 @@
 -- Every moment of the early return happens: each equation computes.
+use Rattle.tcp_rules.specs.declared.timestamping.Timestamping.TheVariants.{Off}
 use Rattle.std.proofs.Common.{◌≡◌, ◌^◌, true, refl, sym, subst, true≢false, Some, None, List, [], ◌∷◌, map}
 use Rattle.std.specs.List.{AllByRecursion}
 use native.Mathlib.Bridge.{le_by_compare, IsLe}
@@ -49,7 +50,7 @@ module _ {State : Type 0} (any : Machine State) where
   -- the client resets the connection
   passes_11 : MayPass service (record { now = path.moment_10.world; past = [] }) run.moment_11.step run.moment_11.sent run.moment_11.world
   unfolding laws IsLe
-  passes_11 = (record { client = path.open_client; segment = client_segment 4 1001 0 0 []; later = run.reset_client; is_there = refl; move = record { move = Rst; window = 0; may = refl; fits = refl; segment_is = refl; after_is = refl }; sent_is = refl; after_is = refl }, refl)
+  passes_11 = (record { client = path.open_client; segment = client_segment 4 1001 0 0 []; later = run.reset_client; is_there = refl; move = record { move = Rst; window = 0; may = refl; fits = refl; timestamps = None; carries = refl; segment_is = refl; after_is = refl }; sent_is = refl; after_is = refl }, refl)
 
   resets : ConnectionTurn service server 1 (Comes (client_segment 4 1001 0 0 [])) path.open_point run.reset_point run.moment_12.sent
   unfolding laws
@@ -105,7 +106,7 @@ module _ {State : Type 0} (any : Machine State) where
 
   passes_17 : Passes run.moment_16 run.moment_17
   unfolding laws IsLe
-  passes_17 = (record { client = run.comer; segment = client_segment 2 9000 0 65535 []; later = run.opening; is_there = refl; move = record { move = Syn None; window = 65535; may = refl; fits = refl; segment_is = refl; after_is = refl }; sent_is = refl; after_is = refl }, refl)
+  passes_17 = (record { client = run.comer; segment = client_segment 2 9000 0 65535 []; later = run.opening; is_there = refl; move = record { move = Syn None; window = 65535; may = refl; fits = refl; timestamps = None; carries = refl; segment_is = refl; after_is = refl }; sent_is = refl; after_is = refl }, refl)
 
   -- CLOSED's RST
   turn_18 : LawfulTurn service ended_node (Packet_comes (client_segment 2 9000 0 65535 [])) run.moment_18.sent ended_node
@@ -129,13 +130,13 @@ module _ {State : Type 0} (any : Machine State) where
   )
 
   -- the SYN comes again
-  turn_20 : LawfulTurn service (path.node_at (Serving 1 [])) (Packet_comes (client_segment 2 9000 0 65535 [])) run.moment_20.sent (path.node_at (Serving 2 (Opens run.numbers ∷ [])))
+  turn_20 : LawfulTurn service (path.node_at (Serving 1 [])) (Packet_comes (client_segment 2 9000 0 65535 [])) run.moment_20.sent (path.node_at (Serving 2 (Opens run.numbers Off ∷ [])))
   unfolding laws
-  turn_20 = record { server = refl; profile = refl; boot = refl; isn = refl; live = refl; stage = (Opens run.numbers ∷ [], refl, record { went = []; by_places = []; all_go = (refl, refl); places = refl; packets = refl }) }
+  turn_20 = record { server = refl; profile = refl; boot = refl; isn = refl; live = refl; stage = (Opens run.numbers Off ∷ [], refl, record { went = []; by_places = []; all_go = (refl, refl); places = refl; packets = refl }) }
 
   passes_20 : Passes run.moment_19 run.moment_20
   unfolding laws IsLe
-  passes_20 = ((from_client 2 9000 0 65535 [], refl, ((path.node_at (Serving 2 (Opens run.numbers ∷ [])), refl, turn_20), refl)), refl)
+  passes_20 = ((from_client 2 9000 0 65535 [], refl, ((path.node_at (Serving 2 (Opens run.numbers Off ∷ [])), refl, turn_20), refl)), refl)
 
   passes_21 : Passes run.moment_20 run.moment_21
   unfolding laws IsLe

@@ -66,7 +66,7 @@ module _ {State : Type 0} (service : Machine State) (key : Key) (script more : K
         subst₂ (λ s i. HasTaken s i p) (same_script p.key e) (same_isn p.key e) f.0,
         record { entry = f.1.entry; found = sym (same_entry p.key e) ∙ f.1.found; sisn = f.1.sisn; answered = f.1.answered; reads = f.1.reads },
       )
-  place_fits (Opens n) clear f = on (key_eq n.key key) refl
+  place_fits (Opens n timestamping) clear f = on (key_eq n.key key) refl
     where
       on : (b : Bool) → key_eq n.key key ≡ b → n.cisn ≡ also n.key
       on true e = absurd (clear e)
@@ -111,7 +111,7 @@ module _ {State : Type 0} (service : Machine State) (key : Key) (script more : K
       on : (t : Bool) → key_eq p.key key ≡ t → p.una ≤ logged_output service more now p.key
       on true e = absurd (clear e)
       on false e = subst (λ n. p.una ≤ n) (output_there p.key e) b
-  place_backed (Opens n) clear b = tt
+  place_backed (Opens n timestamping) clear b = tt
   place_backed (Ended k) clear b = tt
 
   pub client_sees : (c : Client) → key_eq c.key key ≡ false → IsSeen service script log c → IsSeen service more now c
@@ -144,7 +144,7 @@ module _ {State : Type 0} (service : Machine State) (key : Key) (old new : Key �
       on : (b : Bool) → key_eq p.key key ≡ b → PlaceRuns service new (Lives p)
       on true e = absurd (clear e)
       on false e = (sym (same p.key e) ∙ f.0, f.1)
-  place_runs (Opens n) clear f = on (key_eq n.key key) refl
+  place_runs (Opens n timestamping) clear f = on (key_eq n.key key) refl
     where
       on : (b : Bool) → key_eq n.key key ≡ b → new n.key ≡ []
       on true e = absurd (clear e)

@@ -101,7 +101,7 @@ happens_3 = (from_log 1 (SummaryMsg 0), refl, ((idle 1 5000, refl, first_is_lawf
 
 happens_4 : Comes run.moment_3.world run.moment_4
 unfolding laws IsLe
-happens_4 = record { client = client_with []; segment = closing.syn; later = run.opening; is_there = refl; move = record { move = Syn None; window = 65535; may = refl; fits = refl; segment_is = refl; after_is = refl }; sent_is = refl; after_is = refl }
+happens_4 = record { client = client_with []; segment = closing.syn; later = run.opening; is_there = refl; move = record { move = Syn None; window = 65535; may = refl; fits = refl; timestamps = None; carries = refl; segment_is = refl; after_is = refl }; sent_is = refl; after_is = refl }
 
 happens_5 : Comes run.moment_4.world run.moment_5
 unfolding laws IsLe
@@ -121,7 +121,7 @@ happens_8 = (to_client 18 5000 1001 65535 (Some 1460) [], refl, (refl, refl))
 
 happens_9 : Comes run.moment_8.world run.moment_9
 unfolding laws IsLe
-happens_9 = record { client = run.open_client; segment = closing.first_ack; later = run.open_client; is_there = refl; move = record { move = Acknowledge; window = 65535; may = refl; fits = refl; segment_is = refl; after_is = refl }; sent_is = refl; after_is = refl }
+happens_9 = record { client = run.open_client; segment = closing.first_ack; later = run.open_client; is_there = refl; move = record { move = Acknowledge; window = 65535; may = refl; fits = refl; timestamps = None; carries = refl; segment_is = refl; after_is = refl }; sent_is = refl; after_is = refl }
 
 happens_10 : Comes run.moment_9.world run.moment_10
 unfolding laws IsLe
@@ -129,7 +129,7 @@ happens_10 = (To_server closing.first_ack, refl, ((serving_at 1 5000 closing.ope
 
 happens_11 : Comes run.moment_10.world run.moment_11
 unfolding laws IsLe
-happens_11 = record { client = run.open_client; segment = closing.fin; later = run.closing_client; is_there = refl; move = record { move = Fin; window = 65535; may = refl; fits = refl; segment_is = refl; after_is = refl }; sent_is = refl; after_is = refl }
+happens_11 = record { client = run.open_client; segment = closing.fin; later = run.closing_client; is_there = refl; move = record { move = Fin; window = 65535; may = refl; fits = refl; timestamps = None; carries = refl; segment_is = refl; after_is = refl }; sent_is = refl; after_is = refl }
 
 happens_12 : Comes run.moment_11.world run.moment_12
 unfolding laws IsLe
@@ -157,7 +157,7 @@ happens_17 = (to_client 17 5001 1002 65535 None [], refl, (refl, refl))
 
 happens_18 : Comes run.moment_17.world run.moment_18
 unfolding laws IsLe
-happens_18 = record { client = run.ended_client; segment = closing.last_ack; later = run.ended_client; is_there = refl; move = record { move = Acknowledge; window = 65535; may = refl; fits = refl; segment_is = refl; after_is = refl }; sent_is = refl; after_is = refl }
+happens_18 = record { client = run.ended_client; segment = closing.last_ack; later = run.ended_client; is_there = refl; move = record { move = Acknowledge; window = 65535; may = refl; fits = refl; timestamps = None; carries = refl; segment_is = refl; after_is = refl }; sent_is = refl; after_is = refl }
 
 happens_19 : Comes run.moment_18.world run.moment_19
 unfolding laws IsLe

@@ -66,7 +66,7 @@ module _ {State : Type 0} (service : Machine State) (w : World) (server : Addr) 
 
   place_told : (place : Place) → WasTold packets place → WasTold (packets ++ To_client (keep_alive server p) ∷ []) place
   place_told (Lives q) t = λ r. said_to q (key_eq p.key q.key) refl (t r)
-  place_told (Opens n) t = tt
+  place_told (Opens n timestamping) t = tt
   place_told (Ended k) t = tt
 
   pub stage_told : (stage : Stage) → StageTold packets stage → StageTold (packets ++ To_client (keep_alive server p) ∷ []) stage

@@ -1,4 +1,5 @@
 -- A Full resets the client of a pending opening, whatever the log has of it by then.
+use Rattle.tcp_rules.specs.declared.timestamping.Timestamping.{Timestamping}
 use Rattle.std.proofs.Common.{◌≡◌, ℕ, ◌+◌, ◌==◌, ◌&&◌, true, refl, sym, ap, ap₂, subst, eq-eqb, MatchBool, None, Some, List, [], ◌∷◌, ◌++◌, arith}
 use Rattle.seq_arith.specs.Message.{Numbers, Message}
 use Rattle.seq_arith.specs.Message.Body.{FullMsg}
@@ -18,7 +19,7 @@ use Rattle.ft_model.proofs.Lists.{key_is}
 use Rattle.ft_model.proofs.Turns.{alone}
 use Rattle.ft_io.proofs.Choices.{holds_if}
 
-module _ {State : Type 0} (service : Machine State) (node : Node) (opened : ℕ) (numbers : Numbers) (is : node.stage ≡ Serving opened (Opens numbers ∷ [])) where
+module _ {State : Type 0} (service : Machine State) (node : Node) (opened : ℕ) (numbers : Numbers) (timestamping : Timestamping) (is : node.stage ≡ Serving opened (Opens numbers timestamping ∷ [])) where
   abbrev message : Message
   message = record { boot = node.boot; body = FullMsg numbers.key }
 
@@ -31,10 +32,10 @@ module _ {State : Type 0} (service : Machine State) (node : Node) (opened : ℕ)
   abbrev later : Node
   later = record node { stage = Serving opened [] }
 
-  drops : PlaceTurn service node input (Opens numbers) [] sent
+  drops : PlaceTurn service node input (Opens numbers timestamping) [] sent
   drops =
       let heard : concerns node input numbers.key ≡ true = ap₂ ◌&&◌ (eq-eqb node.boot node.boot refl) (key_is numbers.key) in
-      subst (λ b. MatchBool b (Meets service node input (Opens numbers) [] sent) (Stays (Opens numbers) [] sent)) (sym heard) (refl, refl)
+      subst (λ b. MatchBool b (Meets service node input (Opens numbers timestamping) [] sent) (Stays (Opens numbers timestamping) [] sent)) (sym heard) (refl, refl)
 
   turn : LawfulTurn service node input sent later
   turn = record {
@@ -47,7 +48,7 @@ module _ {State : Type 0} (service : Machine State) (node : Node) (opened : ℕ)
         (subst (λ s. StageTurn service node s input later.stage sent) (sym is) (
           [],
           ap (λ n. Serving n []) none_new,
-          record { went = []; by_places = sent; all_go = alone (PlaceTurn service node input) (Opens numbers) [] sent drops; places = refl; packets = refl },
+          record { went = []; by_places = sent; all_go = alone (PlaceTurn service node input) (Opens numbers timestamping) [] sent drops; places = refl; packets = refl },
         ));
   }
     where

@@ -1,4 +1,5 @@
 -- Every moment of the late refusal happens: each equation computes.
+use Rattle.tcp_rules.specs.declared.timestamping.Timestamping.TheVariants.{Off}
 use Rattle.std.proofs.Common.{◌^◌, sym, true≢false, refl, None, [], ◌∷◌}
 use native.Mathlib.Bridge.{le_by_compare, IsLe}
 use Rattle.ft_model.specs.Client.Move.{Syn, Text, Acknowledge, Refuse}
@@ -63,11 +64,11 @@ happens_3 = (path.packet_2, refl, ((path.node_at (Serving 0 []), refl, turn_3 ec
 
 happens_4 : Happens echo run.moment_3.world run.moment_4.event run.moment_4.sent run.moment_4.world
 unfolding laws IsLe
-happens_4 = record { client = run.live (client_with hello_text); segment = segment_in path.packet_3; later = run.live path.opening; is_there = refl; move = record { move = Syn None; window = 65535; may = refl; fits = refl; segment_is = refl; after_is = refl }; sent_is = refl; after_is = refl }
+happens_4 = record { client = run.live (client_with hello_text); segment = segment_in path.packet_3; later = run.live path.opening; is_there = refl; move = record { move = Syn None; window = 65535; may = refl; fits = refl; timestamps = None; carries = refl; segment_is = refl; after_is = refl }; sent_is = refl; after_is = refl }
 
 happens_5 : Happens echo run.moment_4.world run.moment_5.event run.moment_5.sent run.moment_5.world
 unfolding laws IsLe
-happens_5 = (path.packet_3, refl, ((path.node_at (Serving 1 (Opens numbers ∷ [])), refl, turn_5 echo), refl))
+happens_5 = (path.packet_3, refl, ((path.node_at (Serving 1 (Opens numbers Off ∷ [])), refl, turn_5 echo), refl))
 
 happens_6 : Happens echo run.moment_5.world run.moment_6.event run.moment_6.sent run.moment_6.world
 unfolding laws IsLe
@@ -79,7 +80,7 @@ happens_7 = (path.packet_5, refl, ((path.node_live path.begun_point, refl, turn_
 
 happens_8 : Happens echo run.moment_7.world run.moment_8.event run.moment_8.sent run.moment_8.world
 unfolding laws IsLe
-happens_8 = record { client = run.live path.opening; segment = segment_in run.refusal; later = run.live path.opening; is_there = refl; move = record { move = Refuse 1006; window = 0; may = refl; fits = refl; segment_is = refl; after_is = refl }; sent_is = refl; after_is = refl }
+happens_8 = record { client = run.live path.opening; segment = segment_in run.refusal; later = run.live path.opening; is_there = refl; move = record { move = Refuse 1006; window = 0; may = refl; fits = refl; timestamps = None; carries = refl; segment_is = refl; after_is = refl }; sent_is = refl; after_is = refl }
 
 happens_9 : Happens echo run.moment_8.world run.moment_9.event run.moment_9.sent run.moment_9.world
 unfolding laws IsLe
@@ -87,7 +88,7 @@ happens_9 = (path.packet_6, refl, (refl, refl))
 
 happens_10 : Happens echo run.moment_9.world run.moment_10.event run.moment_10.sent run.moment_10.world
 unfolding laws IsLe
-happens_10 = record { client = run.live path.open_client; segment = segment_in path.packet_7; later = run.live path.open_client; is_there = refl; move = record { move = Acknowledge; window = 65535; may = refl; fits = refl; segment_is = refl; after_is = refl }; sent_is = refl; after_is = refl }
+happens_10 = record { client = run.live path.open_client; segment = segment_in path.packet_7; later = run.live path.open_client; is_there = refl; move = record { move = Acknowledge; window = 65535; may = refl; fits = refl; timestamps = None; carries = refl; segment_is = refl; after_is = refl }; sent_is = refl; after_is = refl }
 
 happens_11 : Happens echo run.moment_10.world run.moment_11.event run.moment_11.sent run.moment_11.world
 unfolding laws IsLe
@@ -95,7 +96,7 @@ happens_11 = (path.packet_7, refl, ((path.node_live path.open_point, refl, turn_
 
 happens_12 : Happens echo run.moment_11.world run.moment_12.event run.moment_12.sent run.moment_12.world
 unfolding laws IsLe
-happens_12 = record { client = run.live path.open_client; segment = segment_in path.packet_8; later = run.live path.told_client; is_there = refl; move = record { move = Text 0 5; window = 65535; may = refl; fits = refl; segment_is = refl; after_is = refl }; sent_is = refl; after_is = refl }
+happens_12 = record { client = run.live path.open_client; segment = segment_in path.packet_8; later = run.live path.told_client; is_there = refl; move = record { move = Text 0 5; window = 65535; may = refl; fits = refl; timestamps = None; carries = refl; segment_is = refl; after_is = refl }; sent_is = refl; after_is = refl }
 
 happens_13 : Happens echo run.moment_12.world run.moment_13.event run.moment_13.sent run.moment_13.world
 unfolding laws IsLe

@@ -1,4 +1,5 @@
 -- Every moment of the late return happens, and the server is discreet in each.
+use Rattle.tcp_rules.specs.declared.timestamping.Timestamping.TheVariants.{Off}
 use Rattle.std.proofs.Common.{◌≡◌, false, refl, sym, ◌∙◌, true≢false, Some, [], ◌∷◌, map}
 use Rattle.std.specs.List.{AllByRecursion}
 use native.Mathlib.Bridge.{IsLe}
@@ -38,26 +39,26 @@ module _ {State : Type 0} (any : Machine State) where
   passes_18 : Passes early.moment_17 run.moment_18
   passes_18 = (record { absent = refl; clear = all_ended; unasked = (refl, (refl, (refl, tt))) }, refl, refl, refl)
 
-  turn_19 : LawfulTurn service (path.node_at (Serving 1 [])) (Packet_comes (client_segment 2 9000 0 65535 [])) run.moment_19.sent (path.node_at (Serving 2 (Opens early.numbers ∷ [])))
+  turn_19 : LawfulTurn service (path.node_at (Serving 1 [])) (Packet_comes (client_segment 2 9000 0 65535 [])) run.moment_19.sent (path.node_at (Serving 2 (Opens early.numbers Off ∷ [])))
   unfolding laws
-  turn_19 = record { server = refl; profile = refl; boot = refl; isn = refl; live = refl; stage = (Opens early.numbers ∷ [], refl, record { went = []; by_places = []; all_go = (refl, refl); places = refl; packets = refl }) }
+  turn_19 = record { server = refl; profile = refl; boot = refl; isn = refl; live = refl; stage = (Opens early.numbers Off ∷ [], refl, record { went = []; by_places = []; all_go = (refl, refl); places = refl; packets = refl }) }
 
   passes_19 : Passes run.moment_18 run.moment_19
   unfolding laws IsLe
-  passes_19 = ((from_client 2 9000 0 65535 [], refl, ((path.node_at (Serving 2 (Opens early.numbers ∷ [])), refl, turn_19), refl)), refl)
+  passes_19 = ((from_client 2 9000 0 65535 [], refl, ((path.node_at (Serving 2 (Opens early.numbers Off ∷ [])), refl, turn_19), refl)), refl)
 
   passes_20 : Passes run.moment_19 run.moment_20
   unfolding laws IsLe
   passes_20 = ((to_log 1 (OpenMsg early.numbers), refl, (refl, refl)), refl)
 
   -- the SYN-ACK leaves
-  begins : ConnectionTurn service server 1 Begins (point_opened plain early.numbers) run.begun_point run.moment_21.sent
+  begins : ConnectionTurn service server 1 Begins (point_opened plain Off early.numbers) run.begun_point run.moment_21.sent
   unfolding laws
-  begins = goes service server 1 Begins (point_opened plain early.numbers) run.begun_point run.moment_21.sent refl refl refl refl
+  begins = goes service server 1 Begins (point_opened plain Off early.numbers) run.begun_point run.moment_21.sent refl refl refl refl
 
-  turn_21 : LawfulTurn service (path.node_at (Serving 2 (Opens early.numbers ∷ []))) (Message_comes (message_in (from_log 1 (OpenedMsg early.numbers)))) run.moment_21.sent (path.node_at (Serving 2 (Lives run.begun_point ∷ [])))
+  turn_21 : LawfulTurn service (path.node_at (Serving 2 (Opens early.numbers Off ∷ []))) (Message_comes (message_in (from_log 1 (OpenedMsg early.numbers)))) run.moment_21.sent (path.node_at (Serving 2 (Lives run.begun_point ∷ [])))
   unfolding laws
-  turn_21 = record { server = refl; profile = refl; boot = refl; isn = refl; live = refl; stage = (Lives run.begun_point ∷ [], refl, record { went = Lives run.begun_point ∷ []; by_places = run.moment_21.sent; all_go = alone (PlaceTurn service (path.node_at (Serving 2 (Opens early.numbers ∷ []))) (Message_comes (message_in (from_log 1 (OpenedMsg early.numbers))))) (Opens early.numbers) (Lives run.begun_point ∷ []) run.moment_21.sent (run.begun_point, refl, begins); places = refl; packets = refl }) }
+  turn_21 = record { server = refl; profile = refl; boot = refl; isn = refl; live = refl; stage = (Lives run.begun_point ∷ [], refl, record { went = Lives run.begun_point ∷ []; by_places = run.moment_21.sent; all_go = alone (PlaceTurn service (path.node_at (Serving 2 (Opens early.numbers Off ∷ []))) (Message_comes (message_in (from_log 1 (OpenedMsg early.numbers))))) (Opens early.numbers Off) (Lives run.begun_point ∷ []) run.moment_21.sent (run.begun_point, refl, begins); places = refl; packets = refl }) }
 
   passes_21 : Passes run.moment_20 run.moment_21
   unfolding laws IsLe

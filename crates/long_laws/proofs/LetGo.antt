@@ -34,7 +34,7 @@ use Rattle.long_laws.proofs.Stands.{Stands, AreSame, Shown, shown}
 -- where the same was last told
 place_told : (xs ys : List Packet) → ((k : Key) → last_told k xs ≡ last_told k ys) → (place : Place) → WasTold xs place → WasTold ys place
 place_told xs ys same (Lives p) t = λ r. sym (same p.key) ∙ t r
-place_told xs ys same (Opens n) t = tt
+place_told xs ys same (Opens n timestamping) t = tt
 place_told xs ys same (Ended k) t = tt
 
 pub stage_told : (xs ys : List Packet) → ((k : Key) → last_told k xs ≡ last_told k ys) → (stage : Stage) → StageTold xs stage → StageTold ys stage

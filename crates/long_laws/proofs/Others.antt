@@ -77,7 +77,7 @@ last_others key k (p ∷ packets) apart =
 settles_key : (k : Key) (place : Place) → settles k place ≡ true → key_of place ≡ k
 settles_key k (Lives p) e = same_key p.key k e
 settles_key k (Ended key) e = same_key key k e
-settles_key k (Opens n) e = absurd (true≢false (sym e))
+settles_key k (Opens n timestamping) e = absurd (true≢false (sym e))
 
 pub settled_others : (key k : Key) (places : List Place) → key_eq k key ≡ false → is_settled k places ≡ true → is_settled k (others (λ p. key_eq (key_of p) key) places) ≡ true
 settled_others key k [] apart e = e

@@ -147,7 +147,7 @@ module _ {State : Type 0} (service : Machine State) (B C : Key → ℕ → Type 
         reset = λ r. done p.key t (o.reset r);
         ends = ⊎_elim (λ z. inl z) (λ x. inr (⊎_elim (λ f. inl (done p.key t f)) (λ y. inr y) x)) o.ends;
       })
-  place_elsewhere (Opens n) clear o = tt
+  place_elsewhere (Opens n timestamping) clear o = tt
   place_elsewhere (Ended k) clear o = tt
 
   stage_elsewhere : (stage : Stage) → AreClear key (places_at stage) → StageOver service B F stage → StageOver service C G stage

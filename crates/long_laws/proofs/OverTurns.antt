@@ -18,7 +18,7 @@ use Rattle.ft_model.specs.Node.Input.{Packet_comes, Message_comes, Noise_comes, 
 use Rattle.ft_model.specs.Node.Place.{Opens, Lives, Ended}
 use Rattle.ft_model.specs.Node.Stage.{Asking, Fetching, Serving, Fenced}
 use Rattle.ft_model.specs.Offset.{ack_of}
-use Rattle.ft_model.specs.Opening.{is_syn, numbers_for, point_opened}
+use Rattle.ft_model.specs.Opening.{is_syn, numbers_for, point_opened, timestamping_for}
 use Rattle.ft_model.specs.Point.{Point, is_over}
 use Rattle.ft_model.specs.Refusal.{as_closed}
 use Rattle.ft_model.specs.Restart.{Wanted, wanted, point_of}
@@ -100,11 +100,11 @@ module _ {State : Type 0} (service : Machine State) (B : Key → ℕ → Type 0)
       let o : PointOver service B F p = x.1.1 in
       lives_over node news p after now sent (record { enough = x.1.0.1.enough; counts = x.1.0.1.counts }) (news_over B F w.log node input news p i come x.0.1) o
       (⊎_elim (λ z. inl z) (λ y. inr (⊎_elim (λ f. f) (finish p x.0 x.1.0 o) y)) o.ends) n t
-  place_over node input i place now sent b (began asks kept after e h n t) =
-      let none : PointOver service B F (point_opened node.profile kept) =
-      record { sends = opened_sends service node.profile kept; una = zero_is kept.key; reset = λ r. absurd (true≢false (sym r)); ends = inl refl } in
-      lives_over node Begins (point_opened node.profile kept) after now sent (opened_counts node.profile kept) tt none (inl refl) n t
-  place_over node input i place now sent b (dropped asks e d n s) = (
+  place_over node input i place now sent b (began asks kept timestamping after e h n t) =
+      let none : PointOver service B F (point_opened node.profile timestamping kept) =
+      record { sends = opened_sends service node.profile timestamping kept; una = zero_is kept.key; reset = λ r. absurd (true≢false (sym r)); ends = inl refl } in
+      lives_over node Begins (point_opened node.profile timestamping kept) after now sent (opened_counts node.profile timestamping kept) tt none (inl refl) n t
+  place_over node input i place now sent b (dropped asks timestamping e d n s) = (
     subst (AllByRecursion Q) (sym n) tt,
     ⊎_elim (λ x. subst (AllByRecursion P) (sym x) tt) (λ x. subst (AllByRecursion P) (sym x) (tt, tt)) s,
   )
@@ -114,12 +114,12 @@ module _ {State : Type 0} (service : Machine State) (B : Key → ℕ → Type 0)
 
   revive_over : (node : Node) (place : Place) (now : List Place) (sent : List Packet) → Restored place → Revives service node place now sent → AllByRecursion Q now × AllByRecursion P sent
   revive_over node (Lives p) now sent b t = lives_over node Begins p t.0 now sent b.0 tt b.1.0 (inl b.1.1) t.1 t.2
-  revive_over node (Opens n) now sent b t = (subst (AllByRecursion Q) (sym t.0) (tt, tt), subst (AllByRecursion P) (sym t.1) tt)
+  revive_over node (Opens n timestamping) now sent b t = (subst (AllByRecursion Q) (sym t.0) (tt, tt), subst (AllByRecursion P) (sym t.1) tt)
   revive_over node (Ended k) now sent b t = (subst (AllByRecursion Q) (sym t.0) (tt, tt), subst (AllByRecursion P) (sym t.1) tt)
 
   new_over : (node : Node) (input : Input) (opened : ℕ) (places : List Place) → AllByRecursion Q (newcomers node input opened places)
   new_over node (Packet_comes segment) opened places =
-      holds_if (AllByRecursion Q) (is_strange node segment places && is_syn segment && nat_lt (pending_count places) 64) (Opens (numbers_for node.isn opened segment) ∷ []) [] (λ t. (tt, tt)) (λ t. tt)
+      holds_if (AllByRecursion Q) (is_strange node segment places && is_syn segment && nat_lt (pending_count places) 64) (Opens (numbers_for node.profile node.isn opened segment) (timestamping_for node.profile segment) ∷ []) [] (λ t. (tt, tt)) (λ t. tt)
   new_over node (Message_comes message) opened places = tt
   new_over node Noise_comes opened places = tt
   new_over node Tick_comes opened places = tt
@@ -170,5 +170,5 @@ module _ {State : Type 0} (service : Machine State) (B : Key → ℕ → Type 0)
       let before : AllByRecursion Before places =
       both_hold (PlaceFits script isn w.log) (λ place. PlaceRuns service a.author place × Q place) places fits (both_hold (PlaceRuns service a.author) Q places runs.0 over) in
       let went = serving_goes_on service node input opened Before Q P places later sent (place_over node input (input_over B F w input packets brought)) (new_over node input opened places)
-      (refusals_so P node input places (λ x. tt)) (λ n c. tt) before t in
+      (refusals_so P node input places (λ x. tt)) (λ n s c. tt) before t in
       (subst (StageOver service B F) (sym g) went.0, went.1)

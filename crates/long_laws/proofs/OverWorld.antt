@@ -6,7 +6,7 @@ use Rattle.ft_io.specs.declared.Key.{Key}
 use Rattle.ft_io.specs.Key.{key_eq}
 use Rattle.ft_io.proofs.Choices.{by_cases, holds_if}
 use Rattle.seq_arith.specs.Number.{number_at, offset_of}
-use Rattle.seq_arith.specs.Packet.{Segment, has_rst, has_ack}
+use Rattle.seq_arith.specs.Packet.{Segment, has_rst, has_ack, with_timestamps}
 use Rattle.seq_arith.specs.Message.{Part, Body, Message}
 use Rattle.seq_arith.specs.Message.Body.{OpenMsg, DataMsg, ReadMsg, DoneMsg}
 use Rattle.seq_arith.proofs.Shifts.{offset_of_number}
@@ -82,7 +82,7 @@ module _ {State : Type 0} (service : Machine State) (B C : Key → ℕ → Type 
     reset = λ r. done p.key (o.reset r);
     ends = ⊎_elim (λ z. inl z) (λ x. inr (⊎_elim (λ f. inl (done p.key f)) (λ y. inr y) x)) o.ends;
   }
-  place_stays (Opens n) o = tt
+  place_stays (Opens n timestamping) o = tt
   place_stays (Ended k) o = tt
 
   pub stage_stays : (stage : Stage) → StageOver service B F stage → StageOver service C G stage
@@ -255,7 +255,7 @@ module _ {State : Type 0} (service : Machine State) (let_go : Key → Bool) wher
       let window : ℕ = m.move.window in
       let may : may_move c move ≡ true = m.move.may in
       let d : Client = moved c move window in
-      let one : Packet = To_server (segment_of c move window) in
+      let one : Packet = To_server (with_timestamps m.move.timestamps (segment_of c move window)) in
       let clients : List Client = with_client c.key (λ y. d) w.clients in
       let packets : List Packet = w.packets ++ one ∷ [] in
       let same : after ≡ record w { clients = clients; packets = packets } =

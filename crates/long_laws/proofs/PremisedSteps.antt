@@ -234,7 +234,7 @@ module _ (key : Key) (script more : Key → List ℕ) (isn also : Key → ℕ) (
   place_below : (place : Place) → (key_eq (key_of place) key ≡ true → IsEnded place) → PlaceBelow script place → PlaceBelow more place
   place_below (Lives p) clear b =
       by_cases (key_eq p.key key) (λ e. absurd (clear e)) (λ e. λ fin. subst (λ s. length s < 2 ^ 24) (same_script p.key e) (b fin))
-  place_below (Opens n) clear b = tt
+  place_below (Opens n timestamping) clear b = tt
   place_below (Ended k) clear b = tt
 
   stage_below : (stage : Stage) → AreClear key (places_at stage) → StageBelow script stage → StageBelow more stage

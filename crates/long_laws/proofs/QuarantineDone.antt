@@ -60,7 +60,7 @@ stays_absent log message key other none =
 abbrev pub DoneAmong : List Place → Place → Type 0
 DoneAmong places (Ended key) = IsDoneThere key places
 DoneAmong places (Lives p) = Unit {0}
-DoneAmong places (Opens n) = Unit {0}
+DoneAmong places (Opens n timestamping) = Unit {0}
 
 clear_elsewhere : (key : Key) (places : List Place) → has_key key (map key_of places) ≡ false → AllByRecursion (λ place. key_eq (key_of place) key ≡ true → IsEnded place) places
 clear_elsewhere key [] h = tt
@@ -82,12 +82,12 @@ among_more p places none (Ended key) d = (
     on true e = refl
     on false e = e
 among_more p places none (Lives q) d = tt
-among_more p places none (Opens n) d = tt
+among_more p places none (Opens n timestamping) d = tt
 
 first_among : (p : Place) (places : List Place) → has_key (key_of p) (map key_of places) ≡ false → DoneAmong (p ∷ places) p
 first_among (Ended key) places none = ((λ t. tt, clear_elsewhere key places none), or_left (key_eq key key) (has_key key (map key_of places)) (key_is key))
 first_among (Lives p) places none = tt
-first_among (Opens n) places none = tt
+first_among (Opens n timestamping) places none = tt
 
 pub done_among : (places : List Place) → AreDistinct (map key_of places) → AllByRecursion (DoneAmong places) places
 done_among [] d = tt
@@ -106,7 +106,7 @@ module _ {State : Type 0} (service : Machine State) (w : World) (o : Stands serv
 
   place_has : (place : Option Place) (n : Named) → ((p : Point) → place ≡ Some (Lives p) → HasIt (named_point p) w.log) → named_place place ≡ Some n → HasIt n w.log
   place_has (Some (Lives p)) n f e = subst (λ m. HasIt m w.log) (some_is (named_point p) n e) (f p refl)
-  place_has (Some (Opens numbers)) n f e = none_is_some n e
+  place_has (Some (Opens numbers timestamping)) n f e = none_is_some n e
   place_has (Some (Ended key)) n f e = none_is_some n e
   place_has None n f e = none_is_some n e
 

@@ -177,12 +177,12 @@ elsewhere_kept before sent after notes quarantine e k = record {
 abbrev pub DoneIn : Stage → Place → Type 0
 DoneIn stage (Ended key) = IsDoneAt key stage
 DoneIn stage (Lives p) = Unit {0}
-DoneIn stage (Opens n) = Unit {0}
+DoneIn stage (Opens n timestamping) = Unit {0}
 
 among_in : (opened : ℕ) (places : List Place) (place : Place) → DoneAmong places place → DoneIn (Serving opened places) place
 among_in opened places (Ended key) d = d
 among_in opened places (Lives p) d = tt
-among_in opened places (Opens n) d = tt
+among_in opened places (Opens n timestamping) d = tt
 
 done_in : (stage : Stage) → StageDistinct stage → AllByRecursion (DoneIn stage) (places_at stage)
 done_in (Serving opened places) d = all_weaker (DoneAmong places) (DoneIn (Serving opened places)) places (among_in opened places) (done_among places d)
@@ -192,7 +192,7 @@ done_in (Fenced newer) d = tt
 
 place_key : (place : Option Place) (key : Key) (n : Named) → ((p : Place) → place ≡ Some p → key_eq (key_of p) key ≡ true) → named_place place ≡ Some n → n.key ≡ key
 place_key (Some (Lives p)) key n f e = sym (ap (λ m. m.key) (some_is _ n e)) ∙ same_key p.key key (f (Lives p) refl)
-place_key (Some (Opens numbers)) key n f e = none_is_some n e
+place_key (Some (Opens numbers timestamping)) key n f e = none_is_some n e
 place_key (Some (Ended k)) key n f e = none_is_some n e
 place_key None key n f e = none_is_some n e
 
@@ -257,7 +257,7 @@ module _ {State : Type 0} (service : Machine State) (w : World) (o : Stands serv
   place_rests : IsBrought w input → (place : Place) → DoneIn later.stage place → AllByRecursion (Rests next later) (quarantine_of node input quarantine place)
   place_rests brought (Ended key) d = one_rests brought key d (quarantined_at key quarantine) (named_in node input node.stage key) refl refl
   place_rests brought (Lives p) d = tt
-  place_rests brought (Opens n) d = tt
+  place_rests brought (Opens n timestamping) d = tt
 
   all_rest : IsBrought w input → StageDistinct later.stage → AllByRecursion (Rests next later) (quarantine_after node input later.stage quarantine)
   all_rest brought d =

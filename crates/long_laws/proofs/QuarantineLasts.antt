@@ -40,7 +40,7 @@ one_ages input qs key None None e = tt
 place_ages : (node : Node) (input : Input) (qs : List Quarantined) (place : Place) → AllByRecursion (GoesOnOrBegins input qs) (quarantine_of node input qs place)
 place_ages node input qs (Ended key) = one_ages input qs key (quarantined_at key qs) (named_in node input node.stage key) refl
 place_ages node input qs (Lives p) = tt
-place_ages node input qs (Opens n) = tt
+place_ages node input qs (Opens n timestamping) = tt
 
 pub all_age : (node : Node) (input : Input) (later : Stage) (qs : List Quarantined) → AllByRecursion (GoesOnOrBegins input qs) (quarantine_after node input later qs)
 all_age node input later qs =

@@ -129,7 +129,7 @@ plain_unopened n log (From_logger message) p = tt
 -- The places
 
 clear_place : (n : Named) (place : Place) → (key_eq (key_of place) n.key ≡ true → IsEnded place) → NotOpening n place
-clear_place n (Opens numbers) c = other_numbers n numbers (never (key_eq numbers.key n.key) c)
+clear_place n (Opens numbers timestamping) c = other_numbers n numbers (never (key_eq numbers.key n.key) c)
   where
     never : (b : Bool) → (b ≡ true → ⊥) → b ≡ false
     never true f = absurd (f refl)
@@ -161,11 +161,11 @@ place_over service log n node input place now sent c (went_on news p q e i x t) 
   subst (AllByRecursion (NotOpening n)) (sym x) (tt, tt),
   all_weaker (IsPlain log) (Unopened n) sent (plain_unopened n log) (connection_plain service log node.server node.boot news p q sent t),
 )
-place_over service log n node input place now sent c (began asked kept q e h x t) = (
+place_over service log n node input place now sent c (began asked kept timestamping q e h x t) = (
   subst (AllByRecursion (NotOpening n)) (sym x) (tt, tt),
   all_weaker (IsPlain log) (Unopened n) sent (plain_unopened n log) (connection_plain service log node.server node.boot _ _ q sent t),
 )
-place_over service log n node input place now sent c (dropped asked e d x s) = (
+place_over service log n node input place now sent c (dropped asked timestamping e d x s) = (
   subst (AllByRecursion (NotOpening n)) (sym x) tt,
   ⊎_elim (λ y. subst (AllByRecursion (Unopened n)) (sym y) tt) (λ y. subst (AllByRecursion (Unopened n)) (sym y) (tt, tt)) s,
 )
@@ -180,7 +180,7 @@ stage_over service log n node input sent after (was_fenced newer f s) fresh a r 
     (subst (λ stage. AllByRecursion (NotOpening n) (places_at stage) × (is_restarting stage ≡ false)) (sym f) (tt, refl), subst (AllByRecursion (Unopened n)) (sym s) tt)
 stage_over service log n node input sent after (served o before later b f t) fresh a r =
     let x = serving_goes_on service node input o (NotOpening n) (NotOpening n) (Unopened n) before later sent (place_over service log n node input)
-    (subst (λ stage. AllByRecursion (NotOpening n) (new_places node input stage)) b fresh) (refusals_so (Unopened n) node input before (λ s. tt)) (λ numbers c. c)
+    (subst (λ stage. AllByRecursion (NotOpening n) (new_places node input stage)) b fresh) (refusals_so (Unopened n) node input before (λ s. tt)) (λ numbers s c. c)
     (subst (λ stage. AllByRecursion (NotOpening n) (places_at stage)) b a) t in
     (subst (λ stage. AllByRecursion (NotOpening n) (places_at stage) × (is_restarting stage ≡ false)) (sym f) (x.0, refl), x.1)
 stage_over service log n node input sent after (waited w f s) fresh a r = absurd (true≢false (sym w ∙ r))

@@ -10,7 +10,7 @@ use Rattle.ft_model.specs.Node.{Node, Stage, Input, pending_count}
 use Rattle.ft_model.specs.Node.Input.{Packet_comes, Message_comes, Noise_comes, Tick_comes}
 use Rattle.ft_model.specs.Node.Place.{Opens}
 use Rattle.ft_model.specs.Node.Stage.{Asking, Fetching, Serving, Fenced}
-use Rattle.ft_model.specs.Opening.{numbers_for}
+use Rattle.ft_model.specs.Opening.{numbers_for, timestamping_for}
 use Rattle.ft_model.specs.Point.{Point}
 use Rattle.ft_model.specs.ServingTurn.{is_strange}
 use Rattle.seq_arith.specs.Message.{Message}
@@ -59,7 +59,7 @@ never_new false c = refl
 rst_opens_none : (notes : List ForgetMessage) (node : Node) (p : Point) (stage : Stage) → AllByRecursion (IsFresh (new_places node (Packet_comes (last_rst node.server p)) stage)) notes
 rst_opens_none notes node p (Serving opened places) =
     subst (λ l. AllByRecursion (IsFresh l) notes)
-    (sym (if_false (is_strange node (last_rst node.server p) places && false && nat_lt (pending_count places) 64) (Opens (numbers_for node.isn opened (last_rst node.server p)) ∷ []) []
+    (sym (if_false (is_strange node (last_rst node.server p) places && false && nat_lt (pending_count places) 64) (Opens (numbers_for node.profile node.isn opened (last_rst node.server p)) (timestamping_for node.profile (last_rst node.server p)) ∷ []) []
     (never_new (is_strange node (last_rst node.server p) places) (nat_lt (pending_count places) 64)))) (all_fresh notes)
 rst_opens_none notes node p Asking = all_fresh notes
 rst_opens_none notes node p (Fetching count fetched) = all_fresh notes

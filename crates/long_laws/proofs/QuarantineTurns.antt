@@ -20,7 +20,7 @@ use Rattle.ft_model.specs.Node.{Node, Place, Stage, Input, key_of, is_for, is_kn
 use Rattle.ft_model.specs.Node.Place.{Opens}
 use Rattle.ft_model.specs.Node.Input.{Packet_comes, Message_comes, Noise_comes, Tick_comes}
 use Rattle.ft_model.specs.Node.Stage.{Asking, Fetching, Serving, Fenced}
-use Rattle.ft_model.specs.Opening.{is_syn, numbers_for, point_opened}
+use Rattle.ft_model.specs.Opening.{is_syn, numbers_for, point_opened, timestamping_for}
 use Rattle.ft_model.specs.Point.{Point}
 use Rattle.ft_model.specs.Reads.{reads_told, read_messages, first_told}
 use Rattle.ft_model.specs.Refusal.{as_listen}
@@ -99,11 +99,11 @@ place_clear service key node input place now sent c (went_on news p q e w n t) =
     let other : key_eq p.key key ≡ false = never_true (key_eq p.key key) (λ h. subst (ClearAt key) e c h) in
     let own : key_eq q.key key ≡ false = ap (λ k. key_eq k key) (same_key_after service node.server node.boot news p q sent t) ∙ other in
     (subst (AllByRecursion (ClearAt key)) (sym n) (λ h. absurd (true≢false (sym h ∙ own)), tt), connection_unasked service key node.server node.boot news p q sent own t)
-place_clear service key node input place now sent c (began asked kept q e h n t) =
+place_clear service key node input place now sent c (began asked kept timestamping q e h n t) =
     let other : key_eq asked.key key ≡ false = never_true (key_eq asked.key key) (λ x. subst (ClearAt key) e c x) in
-    let own : key_eq q.key key ≡ false = ap (λ k. key_eq k key) (same_key_after service node.server node.boot Begins (point_opened node.profile kept) q sent t ∙ h.key) ∙ other in
-    (subst (AllByRecursion (ClearAt key)) (sym n) (λ x. absurd (true≢false (sym x ∙ own)), tt), connection_unasked service key node.server node.boot Begins (point_opened node.profile kept) q sent own t)
-place_clear service key node input place now sent c (dropped asked e d n s) = (
+    let own : key_eq q.key key ≡ false = ap (λ k. key_eq k key) (same_key_after service node.server node.boot Begins (point_opened node.profile timestamping kept) q sent t ∙ h.key) ∙ other in
+    (subst (AllByRecursion (ClearAt key)) (sym n) (λ x. absurd (true≢false (sym x ∙ own)), tt), connection_unasked service key node.server node.boot Begins (point_opened node.profile timestamping kept) q sent own t)
+place_clear service key node input place now sent c (dropped asked timestamping e d n s) = (
   subst (AllByRecursion (ClearAt key)) (sym n) tt,
   ⊎_elim (λ x. subst (AllByRecursion (Unasked key)) (sym x) tt) (λ x. subst (AllByRecursion (Unasked key)) (sym x) (refl, tt)) s,
 )
@@ -114,7 +114,7 @@ place_clear service key node input place now sent c (refused k segment e i same 
 -- a key that is known isn't new
 fresh_clear : (key : Key) (node : Node) (input : Input) (opened : ℕ) (places : List Place) → Knows places key → AllByRecursion (ClearAt key) (newcomers node input opened places)
 fresh_clear key node (Packet_comes segment) opened places known =
-    holds_if (AllByRecursion (ClearAt key)) (is_strange node segment places && is_syn segment && nat_lt (pending_count places) 64) (Opens (numbers_for node.isn opened segment) ∷ []) []
+    holds_if (AllByRecursion (ClearAt key)) (is_strange node segment places && is_syn segment && nat_lt (pending_count places) 64) (Opens (numbers_for node.profile node.isn opened segment) (timestamping_for node.profile segment) ∷ []) []
     (λ t. (
       λ same. let one = and_parts (is_strange node segment places && is_syn segment) (nat_lt (pending_count places) 64) t in
           let two = and_parts (is_strange node segment places) (is_syn segment) one.0 in
@@ -143,8 +143,8 @@ done_stays : {State : Type 0} (service : Machine State) (key : Key) (node : Node
     → key_eq (key_of place) key ≡ true → PlaceWent service node input place now sent → Knows now key
 done_stays service key node input place now sent c k (stayed n s) = ap (λ l. has_key key (map key_of l)) n ∙ or_left (key_eq (key_of place) key) false k
 done_stays service key node input place now sent c k (went_on news p q e w n t) = absurd (subst (ClearAt key) e c (ap (λ x. key_eq (key_of x) key) (sym e) ∙ k))
-done_stays service key node input place now sent c k (began asked kept q e h n t) = absurd (subst (ClearAt key) e c (ap (λ x. key_eq (key_of x) key) (sym e) ∙ k))
-done_stays service key node input place now sent c k (dropped asked e d n s) = absurd (subst (ClearAt key) e c (ap (λ x. key_eq (key_of x) key) (sym e) ∙ k))
+done_stays service key node input place now sent c k (began asked kept timestamping q e h n t) = absurd (subst (ClearAt key) e c (ap (λ x. key_eq (key_of x) key) (sym e) ∙ k))
+done_stays service key node input place now sent c k (dropped asked timestamping e d n s) = absurd (subst (ClearAt key) e c (ap (λ x. key_eq (key_of x) key) (sym e) ∙ k))
 done_stays service key node input place now sent c k (ended p e h n s) = absurd (subst (ClearAt key) e c (ap (λ x. key_eq (key_of x) key) (sym e) ∙ k))
 done_stays service key node input place now sent c k (refused own segment e i same n s) =
     ap (λ l. has_key key (map key_of l)) n ∙ or_left (key_eq own key) false (ap (λ x. key_eq (key_of x) key) (sym e) ∙ k)
@@ -168,7 +168,7 @@ pub serving_stays : {State : Type 0} (service : Machine State) (key : Key) (node
 serving_stays service key node input opened before after sent d t =
     let both : AllByRecursion (ClearAt key) after × AllByRecursion (Unasked key) sent =
     serving_goes_on service node input opened (ClearAt key) (ClearAt key) (Unasked key) before after sent (place_clear service key node input)
-    (fresh_clear key node input opened before d.1) (refusals_unasked key node input before) (λ numbers c. never_true (key_eq numbers.key key) (λ h. c h)) d.0 t in
+    (fresh_clear key node input opened before d.1) (refusals_unasked key node input before) (λ numbers s c. never_true (key_eq numbers.key key) (λ h. c h)) d.0 t in
     let went : Knows t.went key = known_on service key node input before t.went t.by_places d.0 t.all_go d.1 in
     ((both.0, subst (λ l. Knows l key) (sym t.places) (knows_front t.went (newcomers node input opened before) key went)), both.1)
 

@@ -1,4 +1,5 @@
 -- What is done is in quarantine, in every trace.
+use Rattle.tcp_rules.specs.declared.timestamping.Timestamping.{Timestamping}
 use Rattle.std.proofs.Common.{◌≡◌, ◌⊎◌, inl, inr, ⊎_elim, ℕ, Bool, true, false, ◌==◌, ◌&&◌, ◌||◌, nat_lt, max, MatchBool, refl, sym, ap, ◌∙◌, subst, true≢false, eq-eqb, find, is_some, option_map, flat_map, Option, Some, None, List, [], ◌∷◌, ◌++◌, map, slice_get}
 use Rattle.std.proofs.lemmas.List.Folds.{list_any-append}
 use Rattle.std.proofs.lemmas.Bool.{or_right}
@@ -16,7 +17,7 @@ use Rattle.ft_model.specs.Node.{Node, Place, Stage, Input, key_of, place_at, pen
 use Rattle.ft_model.specs.Node.Input.{Packet_comes, Message_comes, Noise_comes, Tick_comes}
 use Rattle.ft_model.specs.Node.Place.{Opens, Lives, Ended}
 use Rattle.ft_model.specs.Node.Stage.{Asking, Fetching, Serving, Fenced}
-use Rattle.ft_model.specs.Opening.{is_syn, numbers_for}
+use Rattle.ft_model.specs.Opening.{is_syn, numbers_for, timestamping_for}
 use Rattle.ft_model.specs.Restart.{Fetched, wanted, fetched_after, point_of, entry_in}
 use Rattle.ft_model.specs.ServingTurn.{PlaceTurn, newcomers, is_strange}
 use Rattle.ft_model.specs.World.{World}
@@ -55,7 +56,7 @@ Has qs key = has_key key (map its_key qs) ≡ true
 abbrev HasIts : List Quarantined → Place → Type 0
 HasIts qs (Ended key) = Has qs key
 HasIts qs (Lives p) = Unit {0}
-HasIts qs (Opens n) = Unit {0}
+HasIts qs (Opens n timestamping) = Unit {0}
 
 -- a key that stands among the keys finds something
 finds : {A : Type 0} (of : A → Key) (key : Key) (xs : List A) → has_key key (map of xs) ≡ true → (x : A) × (find (λ y. key_eq (of y) key) xs ≡ Some x)
@@ -71,12 +72,12 @@ has_append xs ys key = ap (has_key key) (map_append its_key xs ys) ∙ list_any-
 has_front : (xs ys : List Quarantined) (place : Place) → HasIts xs place → HasIts (xs ++ ys) place
 has_front xs ys (Ended key) h = has_append xs ys key ∙ or_left (has_key key (map its_key xs)) (has_key key (map its_key ys)) h
 has_front xs ys (Lives p) h = tt
-has_front xs ys (Opens n) h = tt
+has_front xs ys (Opens n timestamping) h = tt
 
 has_behind : (xs ys : List Quarantined) (place : Place) → HasIts ys place → HasIts (xs ++ ys) place
 has_behind xs ys (Ended key) h = has_append xs ys key ∙ or_right (has_key key (map its_key xs)) (has_key key (map its_key ys)) h
 has_behind xs ys (Lives p) h = tt
-has_behind xs ys (Opens n) h = tt
+has_behind xs ys (Opens n timestamping) h = tt
 
 flat_has : (f : Place → List Quarantined) (places : List Place) → AllByRecursion (λ place. HasIts (f place) place) places → AllByRecursion (HasIts (flat_map f places)) places
 flat_has f [] a = tt
@@ -87,7 +88,7 @@ flat_has f (p ∷ places) a =
 abbrev Source : Node → Input → List Quarantined → Place → Type 0
 Source node input qs (Ended key) = Has qs key ⊎ ((n : Named) × (named_in node input node.stage key ≡ Some n))
 Source node input qs (Lives p) = Unit {0}
-Source node input qs (Opens n) = Unit {0}
+Source node input qs (Opens n timestamping) = Unit {0}
 
 pub aged_key : (input : Input) (q : Quarantined) → (aged input q).named.key ≡ q.named.key
 aged_key Tick_comes q = refl
@@ -106,7 +107,7 @@ from_source node input qs key None None e f (inr m) = none_is_some m.0 (sym f �
 place_has : (node : Node) (input : Input) (qs : List Quarantined) (place : Place) → Source node input qs place → HasIts (quarantine_of node input qs place) place
 place_has node input qs (Ended key) s = from_source node input qs key (quarantined_at key qs) (named_in node input node.stage key) refl refl s
 place_has node input qs (Lives p) s = tt
-place_has node input qs (Opens n) s = tt
+place_has node input qs (Opens n timestamping) s = tt
 
 after_has : (node : Node) (input : Input) (later : Stage) (qs : List Quarantined) → AllByRecursion (Source node input qs) (places_at later)
     → AllByRecursion (HasIts (quarantine_after node input later qs)) (places_at later)
@@ -122,10 +123,10 @@ no_places P (Fetching count fetched) r = tt
 no_places P (Serving opened places) r = absurd (true≢false (sym r))
 no_places P (Fenced newer) r = tt
 
-new_source : (R : Place → Type 0) → ((n : Numbers) → R (Opens n)) → (node : Node) (input : Input) (opened : ℕ) (places : List Place) → AllByRecursion R (newcomers node input opened places)
+new_source : (R : Place → Type 0) → ((n : Numbers) (timestamping : Timestamping) → R (Opens n timestamping)) → (node : Node) (input : Input) (opened : ℕ) (places : List Place) → AllByRecursion R (newcomers node input opened places)
 new_source R f node (Packet_comes segment) opened places =
-    holds_if (AllByRecursion R) (is_strange node segment places && is_syn segment && nat_lt (pending_count places) 64) (Opens (numbers_for node.isn opened segment) ∷ []) []
-    (λ t. (f (numbers_for node.isn opened segment), tt)) (λ t. tt)
+    holds_if (AllByRecursion R) (is_strange node segment places && is_syn segment && nat_lt (pending_count places) 64) (Opens (numbers_for node.profile node.isn opened segment) (timestamping_for node.profile segment) ∷ []) []
+    (λ t. (f (numbers_for node.profile node.isn opened segment) (timestamping_for node.profile segment), tt)) (λ t. tt)
 new_source R f node (Message_comes message) opened places = tt
 new_source R f node Noise_comes opened places = tt
 new_source R f node Tick_comes opened places = tt
@@ -134,7 +135,7 @@ new_source R f node Tick_comes opened places = tt
 abbrev Before : List Place → List Quarantined → Place → Type 0
 Before places qs (Ended key) = Has qs key
 Before places qs (Lives p) = place_at p.key places ≡ Some (Lives p)
-Before places qs (Opens n) = Unit {0}
+Before places qs (Opens n timestamping) = Unit {0}
 
 all_before : (places : List Place) (qs : List Quarantined) → AreDistinct (map key_of places) → AllByRecursion (HasIts qs) places → AllByRecursion (Before places qs) places
 all_before places qs d a = all_from_get (Before places qs) places on
@@ -142,7 +143,7 @@ all_before places qs d a = all_from_get (Before places qs) places on
     on : (i : ℕ) (x : Place) → slice_get places i ≡ Some x → Before places qs x
     on i (Ended key) e = all_slice_get (HasIts qs) places i (Ended key) a e
     on i (Lives p) e = finds_itself key_of places i (Lives p) d e
-    on i (Opens n) e = tt
+    on i (Opens n timestamping) e = tt
 
 Nothing : Packet → Type 0
 Nothing packet = Unit {0}
@@ -155,14 +156,14 @@ module _ {State : Type 0} (service : Machine State) (node : Node) (input : Input
   stays_so : (places : List Place) (place : Place) → Before places qs place → Source node input qs place
   stays_so places (Ended key) b = inl b
   stays_so places (Lives p) b = tt
-  stays_so places (Opens n) b = tt
+  stays_so places (Opens n timestamping) b = tt
 
   one_goes : (opened : ℕ) (places : List Place) → node.stage ≡ Serving opened places → (place : Place) (now : List Place) (sent : List Packet) → Before places qs place
       → PlaceWent service node input place now sent → AllByRecursion (Source node input qs) now
   one_goes opened places at place now sent b (stayed n s) = subst (AllByRecursion (Source node input qs)) (sym n) (stays_so places place b, tt)
   one_goes opened places at place now sent b (went_on news p q e i n t) = subst (AllByRecursion (Source node input qs)) (sym n) (tt, tt)
-  one_goes opened places at place now sent b (began asked kept q e h n t) = subst (AllByRecursion (Source node input qs)) (sym n) (tt, tt)
-  one_goes opened places at place now sent b (dropped asked e d n s) = subst (AllByRecursion (Source node input qs)) (sym n) tt
+  one_goes opened places at place now sent b (began asked kept timestamping q e h n t) = subst (AllByRecursion (Source node input qs)) (sym n) (tt, tt)
+  one_goes opened places at place now sent b (dropped asked timestamping e d n s) = subst (AllByRecursion (Source node input qs)) (sym n) tt
   one_goes opened places at place now sent b (ended p e h n s) =
       let found : place_at p.key places ≡ Some (Lives p) = subst (Before places qs) e b in
       let named : named_in node input node.stage p.key ≡ Some (named_point p) =
@@ -178,7 +179,7 @@ module _ {State : Type 0} (service : Machine State) (node : Node) (input : Input
 
   revive_source : (place : Place) (now : List Place) (sent : List Packet) → Source node input qs place → Revives service node place now sent → AllByRecursion (Source node input qs) now
   revive_source (Lives p) now sent s t = subst (AllByRecursion (Source node input qs)) (sym t.1) (tt, tt)
-  revive_source (Opens n) now sent s t = subst (AllByRecursion (Source node input qs)) (sym t.0) (tt, tt)
+  revive_source (Opens n timestamping) now sent s t = subst (AllByRecursion (Source node input qs)) (sym t.0) (tt, tt)
   revive_source (Ended key) now sent s t = subst (AllByRecursion (Source node input qs)) (sym t.0) (s, tt)
 
   all_its_keys : (fetched : List Fetched) → AllByRecursion (λ f. has_key f.head.key (map (λ g. g.head.key) fetched) ≡ true) fetched
@@ -227,7 +228,7 @@ module _ {State : Type 0} (service : Machine State) (node : Node) (input : Input
       (all_go_on (PlaceTurn service node input) (Before places qs) (Source node input qs) Nothing
       (λ place now some x turn. (one_goes opened places b place now some x (place_went service node input place now some turn), nothing_of some)) places t.went t.by_places before t.all_go).0 in
       subst (λ stage. AllByRecursion (Source node input qs) (places_at stage)) (sym f)
-      (subst (AllByRecursion (Source node input qs)) (sym t.places) (all_append (Source node input qs) t.went (newcomers node input opened places) here (new_source (Source node input qs) (λ n. tt) node input opened places)))
+      (subst (AllByRecursion (Source node input qs)) (sym t.places) (all_append (Source node input qs) t.went (newcomers node input opened places) here (new_source (Source node input qs) (λ n s. tt) node input opened places)))
 
   pub turn_has : (later : Node) (sent : List Packet) → StageDistinct node.stage → AllByRecursion (HasIts qs) (places_at node.stage) → LawfulTurn service node input sent later
       → AllByRecursion (HasIts (quarantine_after node input later.stage qs)) (places_at later.stage)
@@ -246,8 +247,8 @@ module _ {State : Type 0} (service : Machine State) (node : Node) (segment : Seg
   unfolding is_packet
   packet_keeps place now sent b (stayed n s) = subst (AllByRecursion (HasIts qs)) (sym n) (b, tt)
   packet_keeps place now sent b (went_on news p q e i n t) = subst (AllByRecursion (HasIts qs)) (sym n) (tt, tt)
-  packet_keeps place now sent b (began asked kept q e h n t) = subst (AllByRecursion (HasIts qs)) (sym n) (tt, tt)
-  packet_keeps place now sent b (dropped asked e d n s) = subst (AllByRecursion (HasIts qs)) (sym n) tt
+  packet_keeps place now sent b (began asked kept timestamping q e h n t) = subst (AllByRecursion (HasIts qs)) (sym n) (tt, tt)
+  packet_keeps place now sent b (dropped asked timestamping e d n s) = subst (AllByRecursion (HasIts qs)) (sym n) tt
   packet_keeps place now sent b (ended p e h n s) = absurd (true≢false (ap is_packet h.1))
   packet_keeps place now sent b (refused key segment e c k n s) = subst (AllByRecursion (HasIts qs)) (sym n) (subst (HasIts qs) e b, tt)
 
@@ -267,7 +268,7 @@ module _ {State : Type 0} (service : Machine State) (node : Node) (segment : Seg
       (subst (λ stage. AllByRecursion (HasIts qs) (places_at stage)) b a) t.all_go).0 in
       subst (λ stage. AllByRecursion (HasIts qs) (places_at stage)) (sym f)
       (subst (AllByRecursion (HasIts qs)) (sym t.places)
-      (all_append (HasIts qs) t.went (newcomers node (Packet_comes segment) opened places) here (new_source (HasIts qs) (λ n. tt) node (Packet_comes segment) opened places)))
+      (all_append (HasIts qs) t.went (newcomers node (Packet_comes segment) opened places) here (new_source (HasIts qs) (λ n s. tt) node (Packet_comes segment) opened places)))
 
 -- A trace
 
@@ -354,7 +355,7 @@ others_have key k (q ∷ qs) apart h =
 left_has : (key : Key) (qs : List Quarantined) (place : Place) → key_eq (key_of place) key ≡ false → HasIts qs place → HasIts (others (λ q. key_eq q.named.key key) qs) place
 left_has key qs (Ended k) apart h = others_have key k qs apart h
 left_has key qs (Lives p) apart h = tt
-left_has key qs (Opens n) apart h = tt
+left_has key qs (Opens n timestamping) apart h = tt
 
 stage_left : (key : Key) (qs : List Quarantined) (stage : Stage) → AllByRecursion (HasIts qs) (places_at stage)
     → AllByRecursion (HasIts (others (λ q. key_eq q.named.key key) qs)) (places_at (stage_without key stage))
@@ -380,7 +381,7 @@ early_keys wait key (q ∷ qs) =
 early_its : (wait : ℕ) (key : Key) (qs : List Quarantined) (place : Place) → HasIts qs place → HasIts (ended_early wait key qs) place
 early_its wait key qs (Ended k) h = subst (λ ks. has_key k ks ≡ true) (sym (early_keys wait key qs)) h
 early_its wait key qs (Lives p) h = tt
-early_its wait key qs (Opens n) h = tt
+early_its wait key qs (Opens n timestamping) h = tt
 
 module _ {State : Type 0} (service : Machine State) (small : HasSmallOutputs service) (wait : ℕ) where
   step_has : (before after : QuarantineWorld) (step : QuarantineStep) (sent : List Packet) → Stands service before.now → AllHave before.now before.quarantine
@@ -406,7 +407,7 @@ module _ {State : Type 0} (service : Machine State) (small : HasSmallOutputs ser
   is_held : (qs : List Quarantined) (place : Place) → HasIts qs place → IsHeld qs place
   is_held qs (Ended key) h = finds its_key key qs h
   is_held qs (Lives p) h = tt
-  is_held qs (Opens n) h = tt
+  is_held qs (Opens n timestamping) h = tt
 
   pub all_held : (start : World) (trace : List QuarantineMoment) → QuarantineJoint service wait start trace → AllAreHeld (after_moments start trace)
   all_held start trace j = λ node e.

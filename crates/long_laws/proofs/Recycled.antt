@@ -91,7 +91,7 @@ told_without key packets (Lives p) clear t = on (key_eq p.key key) refl
     on : (b : Bool) → key_eq p.key key ≡ b → WasTold (others (concerns key) packets) (Lives p)
     on true e = absurd (clear e)
     on false e = λ r. last_others key p.key packets e ∙ t r
-told_without key packets (Opens n) clear t = tt
+told_without key packets (Opens n timestamping) clear t = tt
 told_without key packets (Ended k) clear t = tt
 
 module _ {State : Type 0} (service : Machine State) (key : Key) (w : World) (o : Stands service w) (may : MayRecycle key w) where

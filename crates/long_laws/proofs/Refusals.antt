@@ -74,15 +74,15 @@ place_refuses : {State : Type 0} (service : Machine State) (node : Node) (messag
     → PlaceWent service node (Message_comes message) place now sent → AllByRecursion IsRefusal sent
 place_refuses service node message place now sent f (stayed n s) = none_sent sent s
 place_refuses service node message place now sent f (went_on news p after e i n t) = full_is_no_news node message news p f i
-place_refuses service node message place now sent f (began asked kept after e h n t) =
+place_refuses service node message place now sent f (began asked kept timestamping after e h n t) =
     absurd (true≢false (sym f ∙ ap says_full (ap (body_in message.body) h.comes ∙ h.body)))
-place_refuses service node message place now sent f (dropped asked e d n s) = ⊎_elim (λ x. none_sent sent x) (λ x. subst (AllByRecursion IsRefusal) (sym x) (refl, tt)) s
+place_refuses service node message place now sent f (dropped asked timestamping e d n s) = ⊎_elim (λ x. none_sent sent x) (λ x. subst (AllByRecursion IsRefusal) (sym x) (refl, tt)) s
 place_refuses service node message place now sent f (ended p e h n s) = none_sent sent s
 place_refuses service node message place now sent f (refused key segment e c k n s) = absurd (true≢false (ap is_message c))
 
 asks_nothing : (node : Node) (message : Message) (places : List Place) → flat_map (opens_at node (Message_comes message)) places ≡ []
 asks_nothing node message [] = refl
-asks_nothing node message (Opens numbers ∷ places) = asks_nothing node message places
+asks_nothing node message (Opens numbers timestamping ∷ places) = asks_nothing node message places
 asks_nothing node message (Lives p ∷ places) = asks_nothing node message places
 asks_nothing node message (Ended key ∷ places) = asks_nothing node message places
 

@@ -1,5 +1,6 @@
 -- No more is ever sent of a connection than may be sent: not even a probe is past all output and its FIN. So a connection is over only where the service has
 -- closed.
+use Rattle.tcp_rules.specs.declared.timestamping.Timestamping.{Timestamping}
 use Rattle.std.proofs.Common.{◌≡◌, ◌⊎◌, ℕ, zero, suc, ◌+◌, ◌≤◌, ◌<◌, Bool, true, false, ◌==◌, ◌&&◌, ◌||◌, not, nat_lt, max, min, sum, le_refl, le_trans, refl, sym, ap, ◌∙◌, subst, true≢false, inl, inr, ⊎_elim, eqb-true, ltb-true, ltb-false, append-nil, List, [], ◌∷◌, length, take, arith}
 use Rattle.std.proofs.lemmas.Bool.{and_parts}
 use Rattle.std.proofs.lemmas.List.{take_all}
@@ -189,11 +190,11 @@ entry_sends service profile e =
 pub entry_counts : {State : Type 0} (service : Machine State) (profile : Profile) (e : Entry) → sum e.lengths ≤ length e.bytes → CountsOwn (point_of service profile e)
 entry_counts service profile e enough = record { enough = enough; counts = le_refl (length e.lengths) }
 
-pub opened_sends : {State : Type 0} (service : Machine State) (profile : Profile) (n : Numbers) → Sends service (point_opened profile n)
-opened_sends service profile n = record { order = le_refl 0; within = omega arith; all = λ r. omega arith; runs = inl refl }
+pub opened_sends : {State : Type 0} (service : Machine State) (profile : Profile) (timestamping : Timestamping) (n : Numbers) → Sends service (point_opened profile timestamping n)
+opened_sends service profile timestamping n = record { order = le_refl 0; within = omega arith; all = λ r. omega arith; runs = inl refl }
 
-pub opened_counts : (profile : Profile) (n : Numbers) → CountsOwn (point_opened profile n)
-opened_counts profile n = record { enough = le_refl 0; counts = le_refl 0 }
+pub opened_counts : (profile : Profile) (timestamping : Timestamping) (n : Numbers) → CountsOwn (point_opened profile timestamping n)
+opened_counts profile timestamping n = record { enough = le_refl 0; counts = le_refl 0 }
 
 -- a connection that is over
 pub record IsClosedAt {State : Type 0} (service : Machine State) (p : Point) : Type 0 where

@@ -93,7 +93,7 @@ module _ (key : Key) (log : Log) (clients : List Client) (packets : List Packet)
   over_here : (place : Place) → PlaceOver log packets place → PlaceOver now (others (concerns key) packets) place
   over_here (Ended k) o = over_by k (key_eq k key) refl o
   over_here (Lives p) o = tt
-  over_here (Opens n) o = tt
+  over_here (Opens n timestamping) o = tt
 
   pub stage_here : (stage : Stage) → StageAnswers log clients packets stage → StageAnswers now (others (λ c. key_eq c.key key) clients) (others (concerns key) packets) stage
   stage_here (Serving opened places) k = record {
@@ -172,7 +172,7 @@ with_one w server p k = record {
 over_less : (log : Log) (xs ys : List Packet) (rst : Segment) (place : Place) → PlaceOver log ((xs ++ To_server rst ∷ []) ++ ys) place → PlaceOver log (xs ++ ys) place
 over_less log xs ys rst (Ended key) o = ⊎_elim (λ d. inl d) (λ n. inr (n.0, all_but_one (λ p. opens_key key p ≡ false) xs ys (To_server rst) n.1)) o
 over_less log xs ys rst (Lives p) o = tt
-over_less log xs ys rst (Opens n) o = tt
+over_less log xs ys rst (Opens n timestamping) o = tt
 
 stage_less : (log : Log) (clients : List Client) (xs ys : List Packet) (rst : Segment) (stage : Stage) → StageAnswers log clients ((xs ++ To_server rst ∷ []) ++ ys) stage
     → StageAnswers log clients (xs ++ ys) stage

@@ -1,4 +1,5 @@
 -- The worked run is a long trace: each equation computes.
+use Rattle.tcp_rules.specs.declared.timestamping.Timestamping.TheVariants.{Off}
 use Rattle.std.proofs.Common.{◌≡◌, ◌^◌, refl, sym, ◌∙◌, subst, true, true≢false, Some, None, [], ◌∷◌, map}
 use native.Mathlib.Bridge.{le_by_compare, IsLe}
 use Rattle.std.specs.List.{AllByRecursion}
@@ -67,11 +68,11 @@ forgets = record {
 }
 
 -- the SYN opens a connection, and Opened begins it
-turn_34 : LawfulTurn echo (run.serving 1 []) (Packet_comes run.second_syn) (to_log 1 (OpenMsg run.second_numbers) ∷ []) (run.serving 2 (Opens run.second_numbers ∷ []))
+turn_34 : LawfulTurn echo (run.serving 1 []) (Packet_comes run.second_syn) (to_log 1 (OpenMsg run.second_numbers) ∷ []) (run.serving 2 (Opens run.second_numbers Off ∷ []))
 unfolding laws
-turn_34 = record { server = refl; profile = refl; boot = refl; isn = refl; live = refl; stage = (Opens run.second_numbers ∷ [], refl, record { went = []; by_places = []; all_go = (refl, refl); places = refl; packets = refl }) }
+turn_34 = record { server = refl; profile = refl; boot = refl; isn = refl; live = refl; stage = (Opens run.second_numbers Off ∷ [], refl, record { went = []; by_places = []; all_go = (refl, refl); places = refl; packets = refl }) }
 
-turn_36 : LawfulTurn echo (run.serving 2 (Opens run.second_numbers ∷ [])) (Message_comes (record { boot = 1; body = OpenedMsg run.second_numbers })) run.moment_36.sent (run.serving 2 (Lives run.second_begun ∷ []))
+turn_36 : LawfulTurn echo (run.serving 2 (Opens run.second_numbers Off ∷ [])) (Message_comes (record { boot = 1; body = OpenedMsg run.second_numbers })) run.moment_36.sent (run.serving 2 (Lives run.second_begun ∷ []))
 unfolding laws
 turn_36 = record {
   server = refl;
@@ -85,8 +86,8 @@ turn_36 = record {
     record {
       went = Lives run.second_begun ∷ [];
       by_places = run.moment_36.sent;
-      all_go = alone (PlaceTurn echo (run.serving 2 (Opens run.second_numbers ∷ [])) (Message_comes (record { boot = 1; body = OpenedMsg run.second_numbers }))) (Opens run.second_numbers) (Lives run.second_begun ∷ []) run.moment_36.sent
-          (run.second_begun, refl, goes echo server 1 Begins (point_opened plain run.second_numbers) run.second_begun run.moment_36.sent refl refl refl refl);
+      all_go = alone (PlaceTurn echo (run.serving 2 (Opens run.second_numbers Off ∷ [])) (Message_comes (record { boot = 1; body = OpenedMsg run.second_numbers }))) (Opens run.second_numbers Off) (Lives run.second_begun ∷ []) run.moment_36.sent
+          (run.second_begun, refl, goes echo server 1 Begins (point_opened plain Off run.second_numbers) run.second_begun run.moment_36.sent refl refl refl refl);
       places = refl;
       packets = refl;
     },
@@ -124,14 +125,14 @@ passes_31 = (arrives, refl, refl, refl)
 
 passes_32 : Passes run.moment_31.world run.moment_32
 unfolding laws IsLe
-passes_32 = (record { client = run.second_client; segment = run.second_syn; later = run.second_opening; is_there = refl; move = record { move = Syn None; window = 65535; may = refl; fits = refl; segment_is = refl; after_is = refl }; sent_is = refl; after_is = refl }, refl)
+passes_32 = (record { client = run.second_client; segment = run.second_syn; later = run.second_opening; is_there = refl; move = record { move = Syn None; window = 65535; may = refl; fits = refl; timestamps = None; carries = refl; segment_is = refl; after_is = refl }; sent_is = refl; after_is = refl }, refl)
 
 passes_33 : Passes run.moment_32.world run.moment_33
 passes_33 = (forgets, refl, refl, refl)
 
 passes_34 : Passes run.moment_33.world run.moment_34
 unfolding laws IsLe
-passes_34 = ((To_server run.second_syn, refl, ((run.serving 2 (Opens run.second_numbers ∷ []), refl, turn_34), refl)), refl)
+passes_34 = ((To_server run.second_syn, refl, ((run.serving 2 (Opens run.second_numbers Off ∷ []), refl, turn_34), refl)), refl)
 
 passes_35 : Passes run.moment_34.world run.moment_35
 unfolding laws IsLe

@@ -1,5 +1,6 @@
 -- A client comes back too soon. Its first connection is reset, and the log recycles the entry; the server has not forgotten the key when the next client's
 -- SYN comes, and answers as CLOSED. The SYN comes again when the server has forgotten the key, and its connection is opened. Then the first answer arrives.
+use Rattle.tcp_rules.specs.declared.timestamping.Timestamping.TheVariants.{Off}
 use Rattle.std.specs.Prelude.{true, Some, None, List, [], ◌∷◌, ◌++◌, map}
 use Rattle.seq_arith.specs.Message.{Numbers}
 use Rattle.seq_arith.specs.Message.Body.{OpenMsg, OpenedMsg, DoneMsg, EndedMsg}
@@ -81,7 +82,7 @@ numbers = record { key = key; cisn = 9000; sisn = 70536; mss = 536 }
 
 abbrev pub moment_20 : LongMoment
 moment_20 = moment (Joint_event (Deliver 3)) (to_log 1 (OpenMsg numbers) ∷ []) past
-    (record moment_19.world.now { node = Some (node_at (Serving 2 (Opens numbers ∷ []))) })
+    (record moment_19.world.now { node = Some (node_at (Serving 2 (Opens numbers Off ∷ []))) })
 
 abbrev pub moment_21 : LongMoment
 moment_21 = moment (Joint_event (Deliver 5)) (from_log 1 (OpenedMsg numbers) ∷ []) past (record moment_20.world.now { log = log_with (new_entry numbers ∷ []) })

@@ -1,5 +1,6 @@
 -- A late refusal: a live client refuses a wrong acknowledgement of its SYN by a RST, and opens after all. When the RST comes, its number is exactly the next
 -- one: it ends the connection, which its client believes open. Fifteen events.
+use Rattle.tcp_rules.specs.declared.timestamping.Timestamping.TheVariants.{Off}
 use Rattle.std.specs.Prelude.{true, Some, List, [], ◌∷◌}
 use Rattle.tcp_rules.specs.Profile.{plain}
 use Rattle.seq_arith.specs.Message.Body.{DoneMsg, EndedMsg}
@@ -53,7 +54,7 @@ abbrev pub moment_4 : Moment
 moment_4 = moment (Begin 1 65535) (packet_3 ∷ []) (record moment_3.world { clients = live opening ∷ [] })
 
 abbrev pub moment_5 : Moment
-moment_5 = moment (Deliver 3) (packet_4 ∷ []) (record moment_4.world { node = Some (node_at (Serving 1 (Opens numbers ∷ []))) })
+moment_5 = moment (Deliver 3) (packet_4 ∷ []) (record moment_4.world { node = Some (node_at (Serving 1 (Opens numbers Off ∷ []))) })
 
 abbrev pub moment_6 : Moment
 moment_6 = moment (Deliver 4) (packet_5 ∷ []) (record moment_5.world { log = log_with (opened_entry ∷ []) })

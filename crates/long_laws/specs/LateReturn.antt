@@ -1,4 +1,5 @@
 -- A client comes back in time: its SYN comes when the server has forgotten the key, and it gets a connection.
+use Rattle.tcp_rules.specs.declared.timestamping.Timestamping.TheVariants.{Off}
 use Rattle.std.specs.Prelude.{Some, List, [], ◌∷◌, map}
 use Rattle.tcp_rules.specs.Profile.{plain}
 use Rattle.seq_arith.specs.Message.Body.{OpenMsg, OpenedMsg}
@@ -23,13 +24,13 @@ moment_18 = moment (Forgets key) [] past (forgotten key moment_17.world.now)
 
 abbrev pub moment_19 : LongMoment
 moment_19 = moment (Joint_event (Deliver 3)) (to_log 1 (OpenMsg numbers) ∷ []) past
-    (record moment_18.world.now { node = Some (node_at (Serving 2 (Opens numbers ∷ []))) })
+    (record moment_18.world.now { node = Some (node_at (Serving 2 (Opens numbers Off ∷ []))) })
 
 abbrev pub moment_20 : LongMoment
 moment_20 = moment (Joint_event (Deliver 4)) (from_log 1 (OpenedMsg numbers) ∷ []) past (record moment_19.world.now { log = log_with (new_entry numbers ∷ []) })
 
 abbrev pub begun_point : Point
-begun_point = record (point_opened plain numbers) { rest = 1 }
+begun_point = record (point_opened plain Off numbers) { rest = 1 }
 
 abbrev pub moment_21 : LongMoment
 moment_21 = moment (Joint_event (Deliver 5)) (to_client 18 70536 9001 65535 (Some 1460) [] ∷ []) past

@@ -139,6 +139,7 @@ last_rst server p = record {
     flags = RST;
     window = 0;
     mss = None;
+    timestamps = None;
   };
   payload = [];
 }
@@ -166,6 +167,7 @@ keep_alive server p = record {
     flags = ACK;
     window = window p;
     mss = None;
+    timestamps = None;
   };
   payload = [];
 }

@@ -80,7 +80,7 @@ goes_on_or_begins input None None = []
 abbrev pub quarantine_of : Node → Input → List Quarantined → Place → List Quarantined
 quarantine_of node input qs (Ended key) = goes_on_or_begins input (quarantined_at key qs) (named_in node input node.stage key)
 quarantine_of node input qs (Lives p) = []
-quarantine_of node input qs (Opens numbers) = []
+quarantine_of node input qs (Opens numbers timestamping) = []
 
 -- the quarantine after a turn: one for each place that is done then
 abbrev pub quarantine_after : Node → Input → Stage → List Quarantined → List Quarantined

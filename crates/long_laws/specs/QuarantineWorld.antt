@@ -97,7 +97,7 @@ abbrev pub has_numbers : Named → Numbers → Bool
 has_numbers n numbers = key_eq numbers.key n.key && (numbers.cisn == n.cisn && numbers.sisn == n.sisn)
 
 abbrev pub NotOpening : Named → Place → Type 0
-NotOpening n (Opens numbers) = has_numbers n numbers ≡ false
+NotOpening n (Opens numbers timestamping) = has_numbers n numbers ≡ false
 NotOpening n (Lives p) = Unit {0}
 NotOpening n (Ended key) = Unit {0}
 
@@ -285,7 +285,7 @@ pub record IsForgotten {State : Type 0} (service : Machine State) (wait : ℕ) (
 abbrev pub IsHeld : List Quarantined → Place → Type 0
 IsHeld qs (Ended key) = (q : Quarantined) × (quarantined_at key qs ≡ Some q)
 IsHeld qs (Lives p) = Unit {0}
-IsHeld qs (Opens numbers) = Unit {0}
+IsHeld qs (Opens numbers timestamping) = Unit {0}
 
 abbrev pub AllAreHeld : QuarantineWorld → Type 0
 AllAreHeld w = (node : Node) → w.now.node ≡ Some node → AllByRecursion (IsHeld w.quarantine) (places_at node.stage)

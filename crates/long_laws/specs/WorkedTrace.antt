@@ -1,6 +1,7 @@
 -- A worked run: two clients, one after the other, at one address and port. The first connection is opened and closed, and is in quarantine for two ticks. Then
 -- its entry is recycled, the second client arrives and sends its SYN, and once the server has forgotten the key this SYN opens a connection with other initial
 -- sequence numbers. It stays half-open: the server sends a keep-alive, gets no answer, and lets go of the client.
+use Rattle.tcp_rules.specs.declared.timestamping.Timestamping.TheVariants.{Off}
 use Rattle.std.specs.Prelude.{ℕ, true, Some, None, List, [], ◌∷◌, ◌++◌, map}
 use Rattle.tcp_rules.specs.Profile.{plain}
 use Rattle.seq_arith.specs.Packet.{Segment}
@@ -192,7 +193,7 @@ abbrev pub second_entry : Entry
 second_entry = new_entry second_numbers
 
 abbrev pub second_begun : Point
-second_begun = record (point_opened plain second_numbers) { rest = 1 }
+second_begun = record (point_opened plain Off second_numbers) { rest = 1 }
 
 -- a moment after the first client is gone, in which these packets are sent and the rest of the world is as given
 abbrev pub later : LongStep → List Packet → World → LongMoment
@@ -213,7 +214,7 @@ moment_33 = later (Forgets key) [] (forgotten key moment_32.world.now)
 -- of the first life only Hello and Summary are still under way, so the SYN is packet 3 again
 abbrev pub moment_34 : LongMoment
 moment_34 = later (Joint_event (Deliver 3)) (to_log 1 (OpenMsg second_numbers) ∷ [])
-    (record moment_33.world.now { node = Some (serving 2 (Opens second_numbers ∷ [])) })
+    (record moment_33.world.now { node = Some (serving 2 (Opens second_numbers Off ∷ [])) })
 
 abbrev pub moment_35 : LongMoment
 moment_35 = later (Joint_event (Deliver 4)) (from_log 1 (OpenedMsg second_numbers) ∷ []) (record moment_34.world.now { log = log_with (second_entry ∷ []) })

@@ -4,6 +4,7 @@ ghost use Rattle.std.specs.Prelude.{◌≡◌, ℕ, List, [], ◌∷◌, ◌++�
 ghost use Rattle.seq_arith.specs.Message.{Numbers};
 ghost use Rattle.seq_arith.specs.Message.Body.{FullMsg};
 ghost use Rattle.server_trait.specs.Service.{machine, silent};
+ghost use Rattle.tcp_rules.specs.declared.timestamping.Timestamping.{Timestamping};
 ghost use Rattle.ft_model.specs.World.{World, Happens};
 ghost use Rattle.long_laws.specs.LongTrace.{LongMoment, LongJoint, long_after};
 ghost use Rattle.ft_model.specs.Network.{packet_at};
@@ -59,8 +60,8 @@ pub fn early_returns_are_reset<S: Service>()
 /// Why the server must not answer Full with a RST. The Full resets the client of the opening, whatever the log has by then. It may come late, when an entry
 /// has been recycled and a repeated Open has been heard: then the client has an entry.
 pub fn late_fulls_reset<S: Service>()
-    ensures { (kind : ℕ) (w : World) (node : Node) (opened : ℕ) (numbers : Numbers) (number : ℕ) → w.node ≡ Some node
-        → node.stage ≡ Serving opened (Opens numbers ∷ [])
+    ensures { (kind : ℕ) (w : World) (node : Node) (opened : ℕ) (numbers : Numbers) (timestamping : Timestamping) (number : ℕ) → w.node ≡ Some node
+        → node.stage ≡ Serving opened (Opens numbers timestamping ∷ [])
         → packet_at w.packets number ≡ Some (From_logger (record { boot = node.boot; body = FullMsg numbers.key }))
         → Happens (machine (S.started kind) S.after S.greeting) w (Deliver number) (To_client (full_rst node.server numbers) ∷ [])
         (record w { node = Some (record node { stage = Serving opened [] }); packets = w.packets ++ To_client (full_rst node.server numbers) ∷ [] }) }

@@ -91,12 +91,12 @@ in_counts by tick m p a =
 at_counts : {State : Type 0} (by : Marker State) (boot : ℕ) (stage : Stage) (tick : Bool) (marking : Key → Marking) → ((key : Key) → AllCount by.every (marking key)) → (place : Place)
     → AllByRecursion (OutCounts boot by.every stage) (marks_at by boot tick marking place)
 at_counts by boot stage tick marking a (Lives p) = out_counts boot by.every stage p (marks_in by tick (marking p.key) p) (in_counts by tick (marking p.key) p (a p.key))
-at_counts by boot stage tick marking a (Opens n) = tt
+at_counts by boot stage tick marking a (Opens n timestamping) = tt
 at_counts by boot stage tick marking a (Ended key) = tt
 
 then_counts : {State : Type 0} (by : Marker State) (o : Option Place) (m : Marking) → AllCount by.every m → AllCount by.every (marking_then by o m)
 then_counts by (Some (Lives p)) m a = with_counts by.service by.writing by.every p m a
-then_counts by (Some (Opens n)) m a = a
+then_counts by (Some (Opens n timestamping)) m a = a
 then_counts by (Some (Ended key)) m a = a
 then_counts by None m a = a
 
@@ -219,7 +219,7 @@ answered_turn by node reads (Some (Lives p)) out later a t =
       outstanding = λ key. subst (λ (n : MarkedNode). AllCount by.every (n.marking key)) (sym t.2)
           (holds_if (AllCount by.every) (key_eq key p.key) t.0 (node.marking key) (λ e. counts) (λ e. a key));
     }
-answered_turn by node reads (Some (Opens n)) out later a t = rests by node.plain.boot node out later a t
+answered_turn by node reads (Some (Opens n timestamping)) out later a t = rests by node.plain.boot node out later a t
 answered_turn by node reads (Some (Ended key)) out later a t = rests by node.plain.boot node out later a t
 answered_turn by node reads None out later a t = rests by node.plain.boot node out later a t
 

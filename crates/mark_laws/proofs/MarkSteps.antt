@@ -210,7 +210,7 @@ answer_steps : {State : Type 0} (by : Marker State) (start u : World) (node : Ma
     → TurnSteps by start u out later
 answer_steps by start u node reads (Some (Lives p)) out later at t =
     same_plain by start u node out later at (ap without_marks t.1.sent_are ∙ without_out node.plain.boot p (new_marks by.service by.writing by.every (marking_answered reads (node.marking p.key)) p)) (ap (λ (n : MarkedNode). n.plain) t.2) (ap (λ (n : MarkedNode). n.awaits_mark) t.2)
-answer_steps by start u node reads (Some (Opens n)) out later at t = rests by start u node out later at t
+answer_steps by start u node reads (Some (Opens n timestamping)) out later at t = rests by start u node out later at t
 answer_steps by start u node reads (Some (Ended k)) out later at t = rests by start u node out later at t
 answer_steps by start u node reads None out later at t = rests by start u node out later at t
 
@@ -256,7 +256,7 @@ live_where : {State : Type 0} (by : Marker State) (node later : MarkedNode) (rea
     (λ p. (m : Marking) × MarkedTurn by.service by.writing by.every node.plain.boot reads p (node.marking p.key) m out × (later ≡ record node { marking = with_marking p.key m node.marking }))
     → later.plain ≡ node.plain
 live_where by node later reads (Some (Lives p)) out t = ap (λ (n : MarkedNode). n.plain) t.2
-live_where by node later reads (Some (Opens n)) out t = ap (λ (n : MarkedNode). n.plain) t.1
+live_where by node later reads (Some (Opens n timestamping)) out t = ap (λ (n : MarkedNode). n.plain) t.1
 live_where by node later reads (Some (Ended k)) out t = ap (λ (n : MarkedNode). n.plain) t.1
 live_where by node later reads None out t = ap (λ (n : MarkedNode). n.plain) t.1
 

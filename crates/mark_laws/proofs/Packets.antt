@@ -59,7 +59,7 @@ last_without key xs hs ys silent =
 
 place_told : (xs ys : List Packet) → ((key : Key) → last_told key xs ≡ last_told key ys) → (place : Place) → WasTold xs place → WasTold ys place
 place_told xs ys same (Lives p) t = λ r. sym (same p.key) ∙ t r
-place_told xs ys same (Opens n) t = tt
+place_told xs ys same (Opens n timestamping) t = tt
 place_told xs ys same (Ended k) t = tt
 
 stage_told : (xs ys : List Packet) → ((key : Key) → last_told key xs ≡ last_told key ys) → (stage : Stage) → StageTold xs stage → StageTold ys stage

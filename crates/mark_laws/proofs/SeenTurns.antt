@@ -198,7 +198,7 @@ answered_seen : {State : Type 0} (by : Marker State) (u : World) (node : MarkedN
     → SeenTurn by.service u node.plain (without_marks out) later.plain
 answered_seen by u node reads (Some (Lives p)) out later t =
     unseen (ap without_marks t.1.sent_are ∙ without_out node.plain.boot p (new_marks by.service by.writing by.every (marking_answered reads (node.marking p.key)) p)) (ap (λ (n : MarkedNode). n.plain) t.2)
-answered_seen by u node reads (Some (Opens n)) out later t = rests_unseen by.service u node out later t
+answered_seen by u node reads (Some (Opens n timestamping)) out later t = rests_unseen by.service u node out later t
 answered_seen by u node reads (Some (Ended k)) out later t = rests_unseen by.service u node out later t
 answered_seen by u node reads None out later t = rests_unseen by.service u node out later t
 

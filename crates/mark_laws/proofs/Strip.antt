@@ -45,7 +45,7 @@ stripped Goes marks only (place ∷ places) after sent t =
 -- the marks of a place are only marks
 pub only_marks : {State : Type 0} (by : Marker State) (boot : ℕ) (tick : Bool) (marking : Key → Marking) (place : Place) → without_marks (marks_at by boot tick marking place) ≡ []
 only_marks by boot tick marking (Lives p) = without_out boot p (marks_in by tick (marking p.key) p)
-only_marks by boot tick marking (Opens n) = refl
+only_marks by boot tick marking (Opens n timestamping) = refl
 only_marks by boot tick marking (Ended k) = refl
 
 -- .. so a turn of a server that serves is one without marks

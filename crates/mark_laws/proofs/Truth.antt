@@ -138,7 +138,7 @@ marks_at_true : {State : Type 0} (by : Marker State) (start w : World) (boot : �
     → (place : Place) → KnownPlace by start w s.joint.author.author place → AllByRecursion (OutIsTrue by boot w.log) (marks_at by boot tick marking place)
 marks_at_true by start w boot true marking laws s held (Lives q) k = marks_out_true by boot w.log q _ (point_true by start w Ticks (marking q.key) q laws s k.0 k.1 (held q.key)).0
 marks_at_true by start w boot false marking laws s held (Lives q) k = marks_out_true by boot w.log q _ (point_true by start w Begins (marking q.key) q laws s k.0 k.1 (held q.key)).0
-marks_at_true by start w boot tick marking laws s held (Opens n) k = tt
+marks_at_true by start w boot tick marking laws s held (Opens n timestamping) k = tt
 marks_at_true by start w boot tick marking laws s held (Ended e) k = tt
 
 then_true : {State : Type 0} (by : Marker State) (start w : World) (marking : Key → Marking) (places : List Place) → MarkLaws by → (s : Sound by.service start w) → OutstandingTrue by w.log marking
@@ -149,7 +149,7 @@ then_true by start w marking places laws s held known key (Some (Lives q)) found
     let same : q.key ≡ key = same_key q.key key (found_passes (λ place. key_eq (key_of place) key) places (Lives q) found) in
     subst (λ x. AreTrueMarks by w.log x (outstanding_in (with_new by.service by.writing by.every q (marking key)))) same
     (point_true by start w Begins (marking key) q laws s k.0 k.1 (subst (λ x. AreTrueMarks by w.log x (outstanding_in (marking key))) (sym same) (held key))).1
-then_true by start w marking places laws s held known key (Some (Opens n)) found = held key
+then_true by start w marking places laws s held known key (Some (Opens n timestamping)) found = held key
 then_true by start w marking places laws s held known key (Some (Ended e)) found = held key
 then_true by start w marking places laws s held known key None found = held key
 
@@ -297,7 +297,7 @@ answered_true by start w node later opened reads key places (Some (Lives p)) out
           (λ k. holds_if (λ y. AreTrueMarks by w.log k (outstanding_in y)) (key_eq k p.key) t.0 (node.marking k)
           (λ e. subst (λ z. AreTrueMarks by w.log z (outstanding_in t.0)) (sym (same_key k p.key e)) (subst (λ y. AreTrueMarks by w.log p.key (outstanding_in y)) (sym t.1.marking) x.1)) (λ e. held k));
     }
-answered_true by start w node later opened reads key places (Some (Opens n)) out laws s up held is found t = rests_true by w.log node later out held t
+answered_true by start w node later opened reads key places (Some (Opens n timestamping)) out laws s up held is found t = rests_true by w.log node later out held t
 answered_true by start w node later opened reads key places (Some (Ended k)) out laws s up held is found t = rests_true by w.log node later out held t
 answered_true by start w node later opened reads key places None out laws s up held is found t = rests_true by w.log node later out held t
 

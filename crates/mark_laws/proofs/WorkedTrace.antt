@@ -1,4 +1,5 @@
 -- Every moment of the worked run happens: each equation computes.
+use Rattle.tcp_rules.specs.declared.timestamping.Timestamping.TheVariants.{Off}
 use Rattle.std.proofs.Common.{◌≡◌, ℕ, ◌^◌, true, false, refl, sym, Option, Some, None, List, [], ◌∷◌, map, if◌then◌else◌}
 use native.Mathlib.Bridge.{le_by_compare, IsLe}
 use Rattle.ft_io.specs.declared.Key.{Key}
@@ -58,12 +59,12 @@ turn_3 : Turn (run.marks_none (booted server plain 1 5000)) (Message_comes (mess
 unfolding laws
 turn_3 = record { live = refl; turn = (Serving 0 [], [], ([], refl, (refl, refl)), refl, refl) }
 
-turn_5 : Turn (run.marks_none (path.node_at (Serving 0 []))) (Packet_comes (segment_in path.packet_3)) (Plain path.packet_4 ∷ []) (run.marks_none (path.node_at (Serving 1 (Opens numbers ∷ []))))
+turn_5 : Turn (run.marks_none (path.node_at (Serving 0 []))) (Packet_comes (segment_in path.packet_3)) (Plain path.packet_4 ∷ []) (run.marks_none (path.node_at (Serving 1 (Opens numbers Off ∷ []))))
 unfolding laws
 turn_5 = record {
   live = refl;
   turn = (
-    Opens numbers ∷ [],
+    Opens numbers Off ∷ [],
     λ k. unmarked,
     record {
       went = [];
@@ -77,11 +78,11 @@ turn_5 = record {
   );
 }
 
-goes_7 : Goes 1 (Begins) (point_opened plain numbers) path.begun_point path.moment_7.sent
+goes_7 : Goes 1 (Begins) (point_opened plain Off numbers) path.begun_point path.moment_7.sent
 unfolding laws
-goes_7 = goes echo server 1 (Begins) (point_opened plain numbers) path.begun_point path.moment_7.sent refl refl refl refl
+goes_7 = goes echo server 1 (Begins) (point_opened plain Off numbers) path.begun_point path.moment_7.sent refl refl refl refl
 
-turn_7 : Turn (run.marks_none (path.node_at (Serving 1 (Opens numbers ∷ [])))) (Message_comes (message_in path.packet_5)) (map Plain path.moment_7.sent) (run.marks_none (path.node_live path.begun_point))
+turn_7 : Turn (run.marks_none (path.node_at (Serving 1 (Opens numbers Off ∷ [])))) (Message_comes (message_in path.packet_5)) (map Plain path.moment_7.sent) (run.marks_none (path.node_live path.begun_point))
 unfolding laws
 turn_7 = record {
   live = refl;
@@ -93,7 +94,7 @@ turn_7 = record {
       by_places = map Plain path.moment_7.sent;
       all_go = (Lives path.begun_point ∷ [], [], map Plain path.moment_7.sent, [], refl, refl, record { packets = path.moment_7.sent; goes = (path.begun_point, refl, goes_7); sent_are = refl }, (refl, refl));
       places = refl;
-      marking_is = still_unmarked (path.node_at (Serving 1 (Opens numbers ∷ []))) (Message_comes (message_in path.packet_5)) (Lives path.begun_point ∷ []) (none_marked path.begun_point refl);
+      marking_is = still_unmarked (path.node_at (Serving 1 (Opens numbers Off ∷ []))) (Message_comes (message_in path.packet_5)) (Lives path.begun_point ∷ []) (none_marked path.begun_point refl);
       packets = refl;
     },
     refl,
@@ -278,11 +279,11 @@ happens_3 = (Usual path.packet_2, refl, (run.marks_none (path.node_at (Serving 0
 
 happens_4 : Happens (run.without path.moment_3.world) (run.plainly path.moment_4)
 unfolding laws answer_above answer_to_mark after_mark IsLe
-happens_4 = (path.packet_3 ∷ [], refl, record { client = client_with hello_text; segment = segment_in path.packet_3; later = path.opening; is_there = refl; move = record { move = Syn None; window = 65535; may = refl; fits = refl; segment_is = refl; after_is = refl }; sent_is = refl; after_is = refl }, refl)
+happens_4 = (path.packet_3 ∷ [], refl, record { client = client_with hello_text; segment = segment_in path.packet_3; later = path.opening; is_there = refl; move = record { move = Syn None; window = 65535; may = refl; fits = refl; timestamps = None; carries = refl; segment_is = refl; after_is = refl }; sent_is = refl; after_is = refl }, refl)
 
 happens_5 : Happens (run.without path.moment_4.world) (run.plainly path.moment_5)
 unfolding laws answer_above answer_to_mark after_mark IsLe
-happens_5 = (Usual path.packet_3, refl, (run.marks_none (path.node_at (Serving 1 (Opens numbers ∷ []))), Plain path.packet_4 ∷ [], turn_5, refl, refl))
+happens_5 = (Usual path.packet_3, refl, (run.marks_none (path.node_at (Serving 1 (Opens numbers Off ∷ []))), Plain path.packet_4 ∷ [], turn_5, refl, refl))
 
 happens_6 : Happens (run.without path.moment_5.world) (run.plainly path.moment_6)
 unfolding laws answer_above answer_to_mark after_mark IsLe
@@ -298,7 +299,7 @@ happens_8 = (Usual path.packet_6, refl, ([], refl, (refl, refl), refl))
 
 happens_9 : Happens (run.without path.moment_8.world) (run.plainly path.moment_9)
 unfolding laws answer_above answer_to_mark after_mark IsLe
-happens_9 = (path.packet_7 ∷ [], refl, record { client = path.open_client; segment = segment_in path.packet_7; later = path.open_client; is_there = refl; move = record { move = Acknowledge; window = 65535; may = refl; fits = refl; segment_is = refl; after_is = refl }; sent_is = refl; after_is = refl }, refl)
+happens_9 = (path.packet_7 ∷ [], refl, record { client = path.open_client; segment = segment_in path.packet_7; later = path.open_client; is_there = refl; move = record { move = Acknowledge; window = 65535; may = refl; fits = refl; timestamps = None; carries = refl; segment_is = refl; after_is = refl }; sent_is = refl; after_is = refl }, refl)
 
 happens_10 : Happens (run.without path.moment_9.world) (run.plainly path.moment_10)
 unfolding laws answer_above answer_to_mark after_mark IsLe
@@ -306,7 +307,7 @@ happens_10 = (Usual path.packet_7, refl, (run.marks_none (path.node_live path.op
 
 happens_11 : Happens (run.without path.moment_10.world) (run.plainly path.moment_11)
 unfolding laws answer_above answer_to_mark after_mark IsLe
-happens_11 = (path.packet_8 ∷ [], refl, record { client = path.open_client; segment = segment_in path.packet_8; later = path.told_client; is_there = refl; move = record { move = Text 0 5; window = 65535; may = refl; fits = refl; segment_is = refl; after_is = refl }; sent_is = refl; after_is = refl }, refl)
+happens_11 = (path.packet_8 ∷ [], refl, record { client = path.open_client; segment = segment_in path.packet_8; later = path.told_client; is_there = refl; move = record { move = Text 0 5; window = 65535; may = refl; fits = refl; timestamps = None; carries = refl; segment_is = refl; after_is = refl }; sent_is = refl; after_is = refl }, refl)
 
 happens_12 : Happens (run.without path.moment_11.world) (run.plainly path.moment_12)
 unfolding laws answer_above answer_to_mark after_mark IsLe
@@ -334,7 +335,7 @@ happens_17 = (Usual path.packet_15, refl, ([], refl, (refl, refl), refl))
 
 happens_18 : Happens (run.without path.moment_17.world) run.moment_18
 unfolding laws answer_above answer_to_mark after_mark IsLe
-happens_18 = (from_client 16 1006 5006 65535 [] ∷ [], refl, record { client = path.served_client; segment = client_segment 16 1006 5006 65535 []; later = run.acked_client; is_there = refl; move = record { move = Acknowledge; window = 65535; may = refl; fits = refl; segment_is = refl; after_is = refl }; sent_is = refl; after_is = refl }, refl)
+happens_18 = (from_client 16 1006 5006 65535 [] ∷ [], refl, record { client = path.served_client; segment = client_segment 16 1006 5006 65535 []; later = run.acked_client; is_there = refl; move = record { move = Acknowledge; window = 65535; may = refl; fits = refl; timestamps = None; carries = refl; segment_is = refl; after_is = refl }; sent_is = refl; after_is = refl }, refl)
 
 happens_19 : Happens run.moment_18.world run.moment_19
 unfolding laws answer_above answer_to_mark after_mark IsLe

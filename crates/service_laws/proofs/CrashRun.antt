@@ -1,4 +1,5 @@
 -- The run with a crash, whole: each moment happens and is allowed.
+use Rattle.std.specs.Prelude.{None}
 use Rattle.std.proofs.Common.{ℕ, zero, suc, ◌^◌, refl, List, [], ◌∷◌}
 use native.Mathlib.Bridge.{le_by_compare, IsLe}
 use Rattle.tcp_rules.specs.Profile.{plain}
@@ -79,7 +80,7 @@ nth (suc n) (packet ∷ packets) = nth n packets
 -- what happens
 happens_11 : Follows first.moment_10 first.moment_11
 unfolding laws IsLe
-happens_11 = record { client = first.open_client; segment = segment_in first.packet_8; later = first.told_client; is_there = refl; move = record { move = Text 0 5; window = 65535; may = refl; fits = refl; segment_is = refl; after_is = refl }; sent_is = refl; after_is = refl }
+happens_11 = record { client = first.open_client; segment = segment_in first.packet_8; later = first.told_client; is_there = refl; move = record { move = Text 0 5; window = 65535; may = refl; fits = refl; timestamps = None; carries = refl; segment_is = refl; after_is = refl }; sent_is = refl; after_is = refl }
 
 happens_12 : Follows first.moment_11 first.moment_12
 unfolding laws IsLe
@@ -139,7 +140,7 @@ happens_25 = (nth 0 run.moment_24.sent, refl, (refl, refl))
 
 happens_26 : Follows run.moment_25 run.moment_26
 unfolding laws IsLe
-happens_26 = record { client = run.heard; segment = turn.room; later = run.heard; is_there = refl; move = record { move = Acknowledge; window = 65535; may = refl; fits = refl; segment_is = refl; after_is = refl }; sent_is = refl; after_is = refl }
+happens_26 = record { client = run.heard; segment = turn.room; later = run.heard; is_there = refl; move = record { move = Acknowledge; window = 65535; may = refl; fits = refl; timestamps = None; carries = refl; segment_is = refl; after_is = refl }; sent_is = refl; after_is = refl }
 
 happens_27 : Follows run.moment_26 run.moment_27
 unfolding laws IsLe
@@ -151,7 +152,7 @@ happens_28 = (nth 0 run.moment_27.sent, refl, (refl, refl))
 
 happens_29 : Follows run.moment_28 run.moment_29
 unfolding laws IsLe
-happens_29 = record { client = run.echoed; segment = run.last_ack; later = run.served; is_there = refl; move = record { move = Acknowledge; window = 65535; may = refl; fits = refl; segment_is = refl; after_is = refl }; sent_is = refl; after_is = refl }
+happens_29 = record { client = run.echoed; segment = run.last_ack; later = run.served; is_there = refl; move = record { move = Acknowledge; window = 65535; may = refl; fits = refl; timestamps = None; carries = refl; segment_is = refl; after_is = refl }; sent_is = refl; after_is = refl }
 
 happens_30 : Follows run.moment_29 run.moment_30
 unfolding laws IsLe

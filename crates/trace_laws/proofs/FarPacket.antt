@@ -1,4 +1,5 @@
 -- The trace with the far packet: by the law no move sends it.
+use Rattle.std.specs.Prelude.{None}
 use Rattle.std.proofs.Common.{◌^◌, pos, negsuc, ◌-ℤ◌, ◌≤ℤ◌, refl, [], ◌∷◌, ◌++◌, arith}
 use Rattle.std.proofs.lemmas.Int.{ints}
 use native.Mathlib.Bridge.{IsLe}
@@ -26,7 +27,7 @@ not_near n =
 
 lawful : Happens echo path.moment_10.world row.wrong.event (path.packet_7 ∷ []) (record path.moment_10.world { packets = path.moment_10.world.packets ++ path.packet_7 ∷ [] })
 unfolding laws IsLe
-lawful = record { client = path.open_client; segment = segment_in path.packet_7; later = path.open_client; is_there = refl; move = record { move = Acknowledge; window = 65535; may = refl; fits = refl; segment_is = refl; after_is = refl }; sent_is = refl; after_is = refl }
+lawful = record { client = path.open_client; segment = segment_in path.packet_7; later = path.open_client; is_there = refl; move = record { move = Acknowledge; window = 65535; may = refl; fits = refl; timestamps = None; carries = refl; segment_is = refl; after_is = refl }; sent_is = refl; after_is = refl }
 
 pub wrong_once : IsWrongOnce echo path.start [] row.wrong path.opening_trace
 wrong_once = record {

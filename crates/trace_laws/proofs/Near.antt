@@ -270,13 +270,13 @@ near_to server script isn log segment first ack (Lives p) f = λ ours k.
           let one : x.0 ≡ f.1.entry = some_is x.0 f.1.entry (sym x.1 ∙ (ap (λ y. entry_of y log) same ∙ f.1.found)) in
           subst (λ n. IsNearOffset (ack_of n segment)) (ap (λ e. e.sisn) one ∙ f.1.sisn) x.2;
     }
-near_to server script isn log segment first ack (Opens n) f = tt
+near_to server script isn log segment first ack (Opens n timestamping) f = tt
 near_to server script isn log segment first ack (Ended k) f = tt
 
 -- a packet for another address
 other_near : (server : Addr) (segment : Segment) → is_for server segment ≡ false → (place : Place) → IsNearTo server segment place
 other_near server segment e (Lives p) = λ ours k. absurd (true≢false (sym ours ∙ e))
-other_near server segment e (Opens n) = tt
+other_near server segment e (Opens n timestamping) = tt
 other_near server segment e (Ended k) = tt
 
 pub others_near : (server : Addr) (segment : Segment) (stage : Stage) → is_for server segment ≡ false → AreNear server segment stage

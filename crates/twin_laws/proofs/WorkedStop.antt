@@ -1,4 +1,5 @@
 -- The worked run with a stop is legal: each equation computes. A head that answers while it is paired, and a second stop, don't happen.
+use Rattle.tcp_rules.specs.declared.timestamping.Timestamping.TheVariants.{Off}
 use Rattle.std.proofs.Common.{◌≡◌, ℕ, ◌^◌, ◌==◌, false, true≢false, refl, sym, ap, ◌∙◌, subst, None, [], ◌∷◌, length}
 use native.Mathlib.Bridge.{le_by_compare, IsLe}
 use Rattle.seq_arith.specs.Message.{is_answer}
@@ -63,14 +64,14 @@ unfolding laws
 happens_6 service = (
   path.packet_3 ∷ [],
   refl,
-  record { client = client_with hello_text; segment = segment_in path.packet_3; later = path.opening; is_there = refl; move = record { move = Syn None; window = 65535; may = refl; fits = refl; segment_is = refl; after_is = refl }; sent_is = refl; after_is = refl },
+  record { client = client_with hello_text; segment = segment_in path.packet_3; later = path.opening; is_there = refl; move = record { move = Syn None; window = 65535; may = refl; fits = refl; timestamps = None; carries = refl; segment_is = refl; after_is = refl }; sent_is = refl; after_is = refl },
   refl,
   refl,
 )
 
 happens_7 : {State : Type 0} (service : Machine State) → Happens (quiet service) run.moment_6.world run.moment_7
 unfolding laws
-happens_7 service = (Outside path.packet_3, refl, (path.packet_4 ∷ [], refl, ((path.node_at (Serving 1 (Opens numbers ∷ [])), refl, turn_5 service), refl), refl, refl))
+happens_7 service = (Outside path.packet_3, refl, (path.packet_4 ∷ [], refl, ((path.node_at (Serving 1 (Opens numbers Off ∷ [])), refl, turn_5 service), refl), refl, refl))
 
 happens_8 : {State : Type 0} (service : Machine State) → Happens (quiet service) run.moment_7.world run.moment_8
 unfolding laws
@@ -81,7 +82,7 @@ unfolding laws
 happens_9 service = (refl, refl, refl, refl)
 
 -- the server asks again
-ticks : {State : Type 0} (service : Machine State) → LawfulTurn (quiet service) (path.node_at (Serving 1 (Opens numbers ∷ []))) Tick_comes (path.packet_4 ∷ []) (path.node_at (Serving 1 (Opens numbers ∷ [])))
+ticks : {State : Type 0} (service : Machine State) → LawfulTurn (quiet service) (path.node_at (Serving 1 (Opens numbers Off ∷ []))) Tick_comes (path.packet_4 ∷ []) (path.node_at (Serving 1 (Opens numbers Off ∷ [])))
 unfolding laws
 ticks service = record {
   server = refl;
@@ -90,12 +91,12 @@ ticks service = record {
   isn = refl;
   live = refl;
   stage = (
-    Opens numbers ∷ [],
+    Opens numbers Off ∷ [],
     refl,
     record {
-      went = Opens numbers ∷ [];
+      went = Opens numbers Off ∷ [];
       by_places = [];
-      all_go = alone (PlaceTurn (quiet service) (path.node_at (Serving 1 (Opens numbers ∷ []))) Tick_comes) (Opens numbers) (Opens numbers ∷ []) [] (refl, refl);
+      all_go = alone (PlaceTurn (quiet service) (path.node_at (Serving 1 (Opens numbers Off ∷ []))) Tick_comes) (Opens numbers Off) (Opens numbers Off ∷ []) [] (refl, refl);
       places = refl;
       packets = refl;
     },
@@ -104,7 +105,7 @@ ticks service = record {
 
 happens_10 : {State : Type 0} (service : Machine State) → Happens (quiet service) run.moment_9.world run.moment_10
 unfolding laws
-happens_10 service = (path.packet_4 ∷ [], refl, (refl, ((path.node_at (Serving 1 (Opens numbers ∷ [])), refl, ticks service), refl)), refl, refl)
+happens_10 service = (path.packet_4 ∷ [], refl, (refl, ((path.node_at (Serving 1 (Opens numbers Off ∷ [])), refl, ticks service), refl)), refl, refl)
 
 happens_11 : {State : Type 0} (service : Machine State) → Happens (quiet service) run.moment_10.world run.moment_11
 unfolding laws

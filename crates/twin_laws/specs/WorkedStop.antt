@@ -1,5 +1,6 @@
 -- A worked run in which the tail stops. The head has taken a client's Open and forwarded it, and the tail stops before it applies it. At the next tick the
 -- server asks again, and the head, which serves alone, answers: the entry was in its log already.
+use Rattle.tcp_rules.specs.declared.timestamping.Timestamping.TheVariants.{Off}
 use Rattle.std.specs.Prelude.{Some, None, true, List, [], ◌∷◌, ◌++◌}
 use Rattle.tcp_rules.specs.Profile.{plain}
 use Rattle.tcp_rules.specs.declared.profile.Profile.TheVariants.{Plain}
@@ -75,7 +76,7 @@ moment_6 = moment (Usual (events.Begin 1 65535)) (Outside path.packet_3 ∷ []) 
 
 abbrev pub moment_7 : TwinMoment
 moment_7 = moment (Usual (events.Deliver 5)) (Outside path.packet_4 ∷ [])
-    (record moment_6.world { node = Some (path.node_at (Serving 1 (Opens numbers ∷ []))) })
+    (record moment_6.world { node = Some (path.node_at (Serving 1 (Opens numbers Off ∷ []))) })
 
 abbrev pub moment_8 : TwinMoment
 moment_8 = moment (Usual (events.Deliver 6)) (Inside (Forward 2 opening) ∷ []) (record moment_7.world { pair = head_has (Asks opening) moment_7.world.pair })

@@ -1,6 +1,7 @@
 -- Both sides close. The client's FIN is logged and read before it is acknowledged and before the server's own answers it. After a crash the server retransmits
 -- its FIN, and at the fourth end tick the connection is done.
 use Rattle.std.specs.Prelude.{ℕ, pos, true, false, Some, None, List, [], ◌∷◌}
+use Rattle.tcp_rules.specs.declared.timestamping.Timestamping.TheVariants.{Off}
 use Rattle.tcp_rules.specs.Profile.{plain}
 use Rattle.seq_arith.specs.Packet.{Segment}
 use Rattle.seq_arith.specs.Message.{EntryHead}
@@ -28,7 +29,7 @@ last_ack = client_segment 16 1002 5002 65535 []
 
 -- the connection when it begins, is open, has the FIN, learns that it is logged, sends its own, and is over
 abbrev pub begun : Point
-begun = record (point_opened plain numbers) { rest = 1 }
+begun = record (point_opened plain Off numbers) { rest = 1 }
 
 abbrev pub opened : Point
 opened = record begun { syn_acked = true; edge = 65535; rest = 0 }

@@ -2,6 +2,7 @@
 use Rattle.std.specs.Prelude.{ℕ, Bool, true, false, ◌==◌, Option, None, List, [], ◌∷◌, length}
 use Rattle.ft_io.specs.declared.Addr.{Addr}
 use Rattle.ft_io.specs.declared.Key.{Key}
+use Rattle.tcp_rules.specs.declared.timestamping.Timestamping.TheVariants.{Off}
 use Rattle.tcp_rules.specs.Congestion.{Congestion}
 use Rattle.seq_arith.specs.Packet.{Segment}
 use Rattle.seq_arith.specs.Message.{Numbers, Kept, EntryHead, Part, Body}
@@ -53,7 +54,18 @@ start_with script = start_in plain script
 -- a segment of client 1. Flags: FIN 1, SYN 2, RST 4, ACK 16
 abbrev pub client_segment : (flags seq ack window : ℕ) → List ℕ → Segment
 client_segment flags seq ack window payload = record {
-  head = record { src = key.ip; dst = server.ip; sport = key.port; dport = server.port; seq = seq; ack = ack; flags = flags; window = window; mss = None };
+  head = record {
+    src = key.ip;
+    dst = server.ip;
+    sport = key.port;
+    dport = server.port;
+    seq = seq;
+    ack = ack;
+    flags = flags;
+    window = window;
+    mss = None;
+    timestamps = None;
+  };
   payload = payload;
 }
 
@@ -63,7 +75,18 @@ from_client flags seq ack window payload = To_server (client_segment flags seq a
 -- a packet to client 1
 abbrev pub to_client : (flags seq ack window : ℕ) → Option ℕ → List ℕ → Packet
 to_client flags seq ack window mss payload = To_client (record {
-  head = record { src = server.ip; dst = key.ip; sport = server.port; dport = key.port; seq = seq; ack = ack; flags = flags; window = window; mss = mss };
+  head = record {
+    src = server.ip;
+    dst = key.ip;
+    sport = server.port;
+    dport = key.port;
+    seq = seq;
+    ack = ack;
+    flags = flags;
+    window = window;
+    mss = mss;
+    timestamps = None;
+  };
   payload = payload;
 })
 
@@ -106,7 +129,7 @@ abbrev pub idle : (boot isn : ℕ) → Node
 idle boot isn = record { server = server; profile = plain; boot = boot; isn = isn; stage = Serving 0 [] }
 
 abbrev pub opening_at : (boot isn : ℕ) → Node
-opening_at boot isn = record { server = server; profile = plain; boot = boot; isn = isn; stage = Serving 1 (Opens numbers ∷ []) }
+opening_at boot isn = record { server = server; profile = plain; boot = boot; isn = isn; stage = Serving 1 (Opens numbers Off ∷ []) }
 
 -- an incarnation that fetches a log with one entry
 abbrev pub fetching : (boot isn : ℕ) → List Fetched → Node

@@ -2,6 +2,7 @@
 -- Two duplicates of it allow none. At the third the missing segment is retransmitted, and as much new text is sent as the window then has room for.
 -- Twenty-five events, twenty-seven packets.
 use Rattle.std.specs.Prelude.{ℕ, codes, zero, suc, ◌+◌, ◌*◌, ◌%◌, ◌==◌, min, false, None, Some, List, [], ◌∷◌, ◌++◌, length, pos}
+use Rattle.tcp_rules.specs.declared.timestamping.Timestamping.TheVariants.{Off}
 use Rattle.tcp_rules.specs.Profile.{plain}
 use Rattle.tcp_rules.specs.declared.profile.Profile.TheVariants.{Plain}
 use Rattle.seq_arith.specs.Message.Body.{DataMsg, StableMsg, ReadMsg, ReadsMsg}
@@ -151,7 +152,7 @@ abbrev pub moment_4 : Moment
 moment_4 = moment (Begin 1 65535) (packet_3 ∷ []) (record moment_3.world { clients = opening ∷ [] })
 
 abbrev pub moment_5 : Moment
-moment_5 = moment (Deliver 3) (packet_4 ∷ []) (record moment_4.world { node = Some (node_at (Serving 1 (Opens numbers ∷ []))) })
+moment_5 = moment (Deliver 3) (packet_4 ∷ []) (record moment_4.world { node = Some (node_at (Serving 1 (Opens numbers Off ∷ []))) })
 
 abbrev pub moment_6 : Moment
 moment_6 = moment (Deliver 4) (packet_5 ∷ []) (record moment_5.world { log = log_with (opened_entry ∷ []) })

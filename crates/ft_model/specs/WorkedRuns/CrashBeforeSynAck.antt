@@ -1,5 +1,6 @@
 -- A crash after the opening is logged and before the SYN-ACK is sent: the second incarnation answers the client's SYN with the logged numbers.
 use Rattle.std.specs.Prelude.{true, false, Some, None, List, [], ◌∷◌}
+use Rattle.tcp_rules.specs.declared.timestamping.Timestamping.TheVariants.{Off}
 use Rattle.tcp_rules.specs.Profile.{plain}
 use Rattle.seq_arith.specs.Packet.{Segment}
 use Rattle.seq_arith.specs.Message.{EntryHead}
@@ -19,7 +20,7 @@ head = head_with 0 false 0 0
 
 -- the connection after the restart
 abbrev pub restarted : Point
-restarted = record (point_opened plain numbers) { syn_acked = true }
+restarted = record (point_opened plain Off numbers) { syn_acked = true }
 
 abbrev pub restart_1 : Turn
 restart_1 = on_message 2 (SummaryMsg 1) (to_log 2 (ListMsg 0) ∷ []) (fetching 2 900000 [])

@@ -1,6 +1,7 @@
 -- The first path with the profile for wide-area networks: while the text isn't logged it gets no ACK, and the log's answer makes one due. So the client gets no
 -- duplicate. Seventeen events, fourteen packets.
 use Rattle.std.specs.Prelude.{codes, true, false, None, Some, List, [], ◌∷◌, ℕ}
+use Rattle.tcp_rules.specs.declared.timestamping.Timestamping.TheVariants.{Off}
 use Rattle.tcp_rules.specs.Profile.{wan}
 use Rattle.tcp_rules.specs.Timing.{Timing, initial_timing}
 use Rattle.tcp_rules.specs.declared.profile.Profile.TheVariants.{Wan}
@@ -44,7 +45,7 @@ timing_of ahead = record (initial_timing true) { timed = true; ahead = ahead }
 -- the connection when it begins, when the SYN is acknowledged, when the text is taken and read, when it is logged, and when the read is. The first unit of the
 -- output is timed
 abbrev pub begun_point : Point
-begun_point = record (point_opened wan numbers) { rest = 10 }
+begun_point = record (point_opened wan Off numbers) { rest = 10 }
 
 abbrev pub open_point : Point
 open_point = record begun_point { syn_acked = true; edge = 65535; rest = 0 }
@@ -77,7 +78,7 @@ abbrev pub moment_4 : Moment
 moment_4 = moment (Begin 1 65535) (packet_3 ∷ []) (record moment_3.world { clients = opening ∷ [] })
 
 abbrev pub moment_5 : Moment
-moment_5 = moment (Deliver 3) (packet_4 ∷ []) (record moment_4.world { node = Some (node_at (Serving 1 (Opens numbers ∷ []))) })
+moment_5 = moment (Deliver 3) (packet_4 ∷ []) (record moment_4.world { node = Some (node_at (Serving 1 (Opens numbers Off ∷ []))) })
 
 abbrev pub moment_6 : Moment
 moment_6 = moment (Deliver 4) (packet_5 ∷ []) (record moment_5.world { log = log_with (opened_entry ∷ []) })

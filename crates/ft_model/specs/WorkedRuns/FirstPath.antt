@@ -1,5 +1,6 @@
 -- The first path: a client opens, sends five bytes, and gets them back after they are logged. Seventeen events, fifteen packets.
 use Rattle.std.specs.Prelude.{true, false, Some, None, List, [], ◌∷◌, ◌++◌}
+use Rattle.tcp_rules.specs.declared.timestamping.Timestamping.TheVariants.{Off}
 use Rattle.tcp_rules.specs.Profile.{plain}
 use Rattle.seq_arith.specs.Message.Body.{HelloMsg, SummaryMsg, OpenMsg, OpenedMsg, DataMsg, StableMsg, ReadMsg, ReadsMsg}
 use Rattle.ft_model.specs.Client.{Client}
@@ -99,7 +100,7 @@ log_with entries = record { boot = 1; entries = entries }
 
 -- the connection when it begins, when the SYN is acknowledged, when the text is taken and read, when it is logged, and when the read is
 abbrev pub begun_point : Point
-begun_point = record (point_opened plain numbers) { rest = 1 }
+begun_point = record (point_opened plain Off numbers) { rest = 1 }
 
 abbrev pub open_point : Point
 open_point = record begun_point { syn_acked = true; edge = 65535; rest = 0 }
@@ -132,7 +133,7 @@ abbrev pub moment_4 : Moment
 moment_4 = moment (Begin 1 65535) (packet_3 ∷ []) (record moment_3.world { clients = opening ∷ [] })
 
 abbrev pub moment_5 : Moment
-moment_5 = moment (Deliver 3) (packet_4 ∷ []) (record moment_4.world { node = Some (node_at (Serving 1 (Opens numbers ∷ []))) })
+moment_5 = moment (Deliver 3) (packet_4 ∷ []) (record moment_4.world { node = Some (node_at (Serving 1 (Opens numbers Off ∷ []))) })
 
 abbrev pub moment_6 : Moment
 moment_6 = moment (Deliver 4) (packet_5 ∷ []) (record moment_5.world { log = log_with (opened_entry ∷ []) })

@@ -2,6 +2,7 @@
 -- it. The second counts as lost at the third duplicate. At a partial acknowledgement the third is retransmitted at once, and once more when the timer expires,
 -- which doubles its interval. At the next partial acknowledgement the fourth is. After a crash a restart measures anew. Forty-nine events, thirty-nine packets.
 use Rattle.std.specs.Prelude.{ℕ, codes, ◌+◌, ◌-◌, true, false, None, Some, List, [], ◌∷◌, pos}
+use Rattle.tcp_rules.specs.declared.timestamping.Timestamping.TheVariants.{Off, Awaited}
 use Rattle.tcp_rules.specs.Profile.{wan}
 use Rattle.tcp_rules.specs.Timing.{Timing}
 use Rattle.tcp_rules.specs.declared.profile.Profile.TheVariants.{Wan}
@@ -135,6 +136,7 @@ restarted = record (blank_point wan key 1000 5000 536) {
   reads_answered = 1;
   wl1 = pos 4;
   syn_acked = true;
+  timestamping = Awaited;
   rest = 10;
 }
 
@@ -195,7 +197,7 @@ abbrev pub moment_4 : Moment
 moment_4 = moment (Begin 1 65535) (packet_3 ∷ []) (record moment_3.world { clients = opening ∷ [] })
 
 abbrev pub moment_5 : Moment
-moment_5 = moment (Deliver 3) (packet_4 ∷ []) (record moment_4.world { node = Some (node_at (Serving 1 (Opens numbers ∷ []))) })
+moment_5 = moment (Deliver 3) (packet_4 ∷ []) (record moment_4.world { node = Some (node_at (Serving 1 (Opens numbers Off ∷ []))) })
 
 abbrev pub moment_6 : Moment
 moment_6 = moment (Deliver 4) (packet_5 ∷ []) (record moment_5.world { log = log_with (opened_entry ∷ []) })

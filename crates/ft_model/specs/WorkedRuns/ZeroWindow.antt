@@ -1,5 +1,6 @@
 -- A client without room: the server probes with one byte, at intervals that double, and sends the rest when there is room.
 use Rattle.std.specs.Prelude.{ℕ, pos, true, false, Some, None, List, [], ◌∷◌}
+use Rattle.tcp_rules.specs.declared.timestamping.Timestamping.TheVariants.{Off}
 use Rattle.tcp_rules.specs.Profile.{plain}
 use Rattle.seq_arith.specs.Packet.{Segment}
 use Rattle.seq_arith.specs.Message.Body.{SummaryMsg, OpenMsg, OpenedMsg, DataMsg, StableMsg, ReadMsg, ReadsMsg}
@@ -25,7 +26,7 @@ room = client_segment 16 1006 5001 5 []
 
 -- the connection when it begins, is open, has the text, learns that it is logged, has output waiting, has probed, and has room
 abbrev pub begun : Point
-begun = record (point_opened plain numbers) { rest = 1 }
+begun = record (point_opened plain Off numbers) { rest = 1 }
 
 abbrev pub opened : Point
 opened = record begun { syn_acked = true; rest = 0 }

@@ -3,4 +3,4 @@ use Rattle.server_trait.specs.Service.{machine}
 use Rattle.long_laws.proofs.LateFull.{late_full}
 
 pub returns : goal.returns
-returns g c = λ kind w node opened numbers number up is at. late_full (machine (g.S.Service.started kind) g.S.Service.after g.S.Service.greeting) node opened numbers is w number up at
+returns g c = λ kind w node opened numbers timestamping number up is at. late_full (machine (g.S.Service.started kind) g.S.Service.after g.S.Service.greeting) node opened numbers timestamping is w number up at
