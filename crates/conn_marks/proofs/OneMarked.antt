@@ -148,7 +148,7 @@ four_off : (a b c d : Bool) → c ≡ false → (a && b && c && d) ≡ false
 four_off a b c d h = grind (arith, h)
 
 other_asks : (node : Node) (segment : Segment) (place : Place) → key_eq (key_of place) (source_of segment) ≡ false → opens_at node (Packet_comes segment) place ≡ []
-other_asks node segment (Opens n) h =
+other_asks node segment (Opens n timestamping) h =
     if_false (is_asked node (Packet_comes segment) n) _ []
     (four_off (is_for node.server segment) (is_syn segment) (key_eq (source_of segment) n.key) (segment.head.seq == n.cisn) (key_eq_turns n.key (source_of segment) h))
 other_asks node segment (Lives p) h = refl

@@ -22,7 +22,7 @@ use Rattle.ft_model.specs.News.News.{Comes, Logged, Ticks, Begins}
 use Rattle.ft_model.specs.Node.{Node, Place, Input, key_of, place_at, is_for, is_known, pending_count}
 use Rattle.ft_model.specs.Node.Place.{Opens, Lives, Ended}
 use Rattle.ft_model.specs.Node.Input.{Packet_comes, Message_comes, Noise_comes, Tick_comes}
-use Rattle.ft_model.specs.Opening.{is_syn, point_opened, numbers_for}
+use Rattle.ft_model.specs.Opening.{is_syn, point_opened, numbers_for, timestamping_for}
 use Rattle.ft_model.specs.Point.{Point}
 use Rattle.ft_model.specs.Refusal.{as_listen}
 use Rattle.ft_model.specs.ServingTurn.{PlaceTurn, ServingTurn, concerns, newcomers, refusals, opens_at, is_strange}
@@ -82,13 +82,13 @@ news_bytes node input Begins p n bytes = absurd n
 
 pub quiet_message : (node : Node) (message : Message) (places : List Place) → flat_map (opens_at node (Message_comes message)) places ≡ []
 quiet_message node message [] = refl
-quiet_message node message (Opens n ∷ places) = quiet_message node message places
+quiet_message node message (Opens n timestamping ∷ places) = quiet_message node message places
 quiet_message node message (Lives p ∷ places) = quiet_message node message places
 quiet_message node message (Ended k ∷ places) = quiet_message node message places
 
 quiet_noise : (node : Node) (places : List Place) → flat_map (opens_at node Noise_comes) places ≡ []
 quiet_noise node [] = refl
-quiet_noise node (Opens n ∷ places) = quiet_noise node places
+quiet_noise node (Opens n timestamping ∷ places) = quiet_noise node places
 quiet_noise node (Lives p ∷ places) = quiet_noise node places
 quiet_noise node (Ended k ∷ places) = quiet_noise node places
 
@@ -101,12 +101,12 @@ new_rests by grammar node Tick_comes boot key opened places was now old new m = 
 new_rests by grammar node (Packet_comes segment) boot key opened places was now old new m =
     go (is_strange node segment places && is_syn segment && nat_lt (pending_count places) 64) m
   where
-    one : (b : Bool) → MarksPlace by grammar boot key 0 (if b then Some (Opens (numbers_for node.isn opened segment)) else None) was now old new → (now ≡ was) × (new ≡ old)
+    one : (b : Bool) → MarksPlace by grammar boot key 0 (if b then Some (Opens (numbers_for node.profile node.isn opened segment) (timestamping_for node.profile segment)) else None) was now old new → (now ≡ was) × (new ≡ old)
     one true m = m
     one false m = m
 
-    go : (b : Bool) → MarksPlace by grammar boot key 0 (place_at key (if b then Opens (numbers_for node.isn opened segment) ∷ [] else [])) was now old new → (now ≡ was) × (new ≡ old)
-    go true m = one (key_eq (key_of (Opens (numbers_for node.isn opened segment))) key) m
+    go : (b : Bool) → MarksPlace by grammar boot key 0 (place_at key (if b then Opens (numbers_for node.profile node.isn opened segment) (timestamping_for node.profile segment) ∷ [] else [])) was now old new → (now ≡ was) × (new ≡ old)
+    go true m = one (key_eq (key_of (Opens (numbers_for node.profile node.isn opened segment) (timestamping_for node.profile segment))) key) m
     go false m = m
 
 -- so nothing but the packets of the places is sent
@@ -124,7 +124,7 @@ rest_none node (Packet_comes segment) key opened before went later q still on d 
     let strange : is_strange node segment before ≡ false =
     ap (λ k. is_for node.server segment && not (is_known k before)) same ∙ (ap (λ b. is_for node.server segment && not b) known ∙ and_false (is_for node.server segment)) in
     let none_new : newcomers node (Packet_comes segment) opened before ≡ [] =
-    ap (λ b. if b && is_syn segment && nat_lt (pending_count before) 64 then Opens (numbers_for node.isn opened segment) ∷ [] else []) strange in
+    ap (λ b. if b && is_syn segment && nat_lt (pending_count before) 64 then Opens (numbers_for node.profile node.isn opened segment) (timestamping_for node.profile segment) ∷ [] else []) strange in
     let none_refused : refusals node (Packet_comes segment) before ≡ [] = if_false (is_strange node segment before) (map To_client (as_listen node.server segment)) [] strange in
     let later_is : later ≡ went = is ∙ (ap (λ l. went ++ l) none_new ∙ append-nil went) in
     ap₂ ◌++◌ none_refused (ap (flat_map (opens_at node (Packet_comes segment))) later_is
@@ -154,7 +154,7 @@ module _ {State : Type 0} (by : Marker State) (node : MarkedNode) (input : Input
   kept_after (Lives p) s =
       holds_if (λ m. IsSettledPoint by m p) (concerns node.plain input p.key) (with_new by.service by.writing by.every p (node.marking p.key)) (node.marking p.key)
       (λ on. settled_new by (node.marking p.key) p s) (λ off. s)
-  kept_after (Opens n) s = tt
+  kept_after (Opens n timestamping) s = tt
   kept_after (Ended k) s = tt
 
   turned_after : (news : News) (p q : Point) (sent : List Packet) → concerns node.plain input q.key ≡ true → NewsBytes news → HasBytes p
@@ -171,11 +171,11 @@ module _ {State : Type 0} (by : Marker State) (node : MarkedNode) (input : Input
       let same : q.key ≡ key_of place = turn_key by node.plain news p q sent t ∙ sym (ap key_of e) in
       subst (AllByRecursion After) (sym n)
       (turned_after news p q sent (ap (concerns node.plain input) same ∙ on) (news_bytes node.plain input news p i bytes) (record { taken = at.taken; held = at.held }) t, tt)
-  went_after place now sent on s (began asked kept q e h n t) =
-      let same : q.key ≡ key_of place = turn_key by node.plain Begins (point_opened node.plain.profile kept) q sent t ∙ (h.key ∙ sym (ap key_of e)) in
+  went_after place now sent on s (began asked kept timestamping q e h n t) =
+      let same : q.key ≡ key_of place = turn_key by node.plain Begins (point_opened node.plain.profile timestamping kept) q sent t ∙ (h.key ∙ sym (ap key_of e)) in
       subst (AllByRecursion After) (sym n)
-      (turned_after Begins (point_opened node.plain.profile kept) q sent (ap (concerns node.plain input) same ∙ on) tt (record { taken = tt; held = tt }) t, tt)
-  went_after place now sent on s (dropped asked e d n _) = subst (AllByRecursion After) (sym n) tt
+      (turned_after Begins (point_opened node.plain.profile timestamping kept) q sent (ap (concerns node.plain input) same ∙ on) tt (record { taken = tt; held = tt }) t, tt)
+  went_after place now sent on s (dropped asked timestamping e d n _) = subst (AllByRecursion After) (sym n) tt
   went_after place now sent on s (ended p e h n _) = subst (AllByRecursion After) (sym n) (tt, tt)
   went_after place now sent on s (refused k segment e c same n _) = subst (AllByRecursion After) (sym n) (tt, tt)
 
@@ -198,7 +198,7 @@ module _ {State : Type 0} (by : Marker State) (node : MarkedNode) (input : Input
   settled_there : (went : List Place) (x : Place) → After x → place_at (key_of x) went ≡ Some x → IsSettledPlace by (then_in went) x
   settled_there went (Lives q) a f =
       subst (λ o. IsSettledPoint by (if concerns node.plain input q.key then marking_then by o (node.marking q.key) else node.marking q.key) q) (sym f) a
-  settled_there went (Opens n) a f = tt
+  settled_there went (Opens n timestamping) a f = tt
   settled_there went (Ended k) a f = tt
 
   all_settled : (went : List Place) → AreDistinct (map key_of went) → AllByRecursion After went → AllSettled by (then_in went) went
@@ -211,7 +211,7 @@ module _ {State : Type 0} (by : Marker State) (node : MarkedNode) (input : Input
       of_input : (i : Input) → AllSettled by m (newcomers node.plain i opened before)
       of_input (Packet_comes segment) =
           holds_if (AllSettled by m) (is_strange node.plain segment before && is_syn segment && nat_lt (pending_count before) 64)
-          (Opens (numbers_for node.plain.isn opened segment) ∷ []) [] (λ t. (tt, tt)) (λ t. tt)
+          (Opens (numbers_for node.plain.profile node.plain.isn opened segment) (timestamping_for node.plain.profile segment) ∷ []) [] (λ t. (tt, tt)) (λ t. tt)
       of_input (Message_comes message) = tt
       of_input Noise_comes = tt
       of_input Tick_comes = tt
@@ -387,9 +387,9 @@ module _ {State : Type 0} (by : Marker State) (node : MarkedNode) (input : Input
         go (Some (Lives q)) e =
             serves_live q e was now mid new sent_is spelled keeps
             (subst (λ o. MarksPlace by (grammar_of node.plain.profile) node.plain.boot key 0 o was now mid new) (later_at (Some (Lives q)) e ∙ found_in key t.went (newcomers node.plain input opened before) (Lives q) e) m (taken_bytes q e))
-        go (Some (Opens n)) e =
-            serves_quiet was now mid new sent_is spelled keeps (dead_place (Opens n) refl e) (quiet_then (λ x. ap (λ o. marking_then by o x) e))
-            (subst (λ o. MarksPlace by (grammar_of node.plain.profile) node.plain.boot key 0 o was now mid new) (later_at (Some (Opens n)) e ∙ found_in key t.went (newcomers node.plain input opened before) (Opens n) e) m)
+        go (Some (Opens n timestamping)) e =
+            serves_quiet was now mid new sent_is spelled keeps (dead_place (Opens n timestamping) refl e) (quiet_then (λ x. ap (λ o. marking_then by o x) e))
+            (subst (λ o. MarksPlace by (grammar_of node.plain.profile) node.plain.boot key 0 o was now mid new) (later_at (Some (Opens n timestamping)) e ∙ found_in key t.went (newcomers node.plain input opened before) (Opens n timestamping) e) m)
         go (Some (Ended k)) e =
             serves_quiet was now mid new sent_is spelled keeps (dead_place (Ended k) refl e) (quiet_then (λ x. ap (λ o. marking_then by o x) e))
             (subst (λ o. MarksPlace by (grammar_of node.plain.profile) node.plain.boot key 0 o was now mid new) (later_at (Some (Ended k)) e ∙ found_in key t.went (newcomers node.plain input opened before) (Ended k) e) m)

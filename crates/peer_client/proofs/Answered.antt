@@ -135,6 +135,7 @@ refuses l c p h from fits wrong =
           flags = refl;
           window = refl;
           mss = refl;
+          timestamps = refl;
         },
       );
       edge = w.edge;

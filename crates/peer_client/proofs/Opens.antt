@@ -132,6 +132,7 @@ supplied_waits l c h =
         flags = h.1.flags;
         window = h.1.window;
         mss = h.1.mss;
+        timestamps = h.1.timestamps;
       },
     )
 
@@ -172,6 +173,8 @@ refuse_move l c head h opening r =
       window = 0;
       may = (λ i. is_live (h.agrees.same.kind i) && opening i && (nat_lt head.seq.0 (2 ^ 32) && not (r.wrong i))) ∙ in_range head.seq.0 r.seq;
       fits = refl;
+      timestamps = None;
+      carries = refl;
       segment_is = λ i. record {
         head = record {
           src = (r.src ∙ sym h.agrees.same.ip) i;
@@ -183,6 +186,7 @@ refuse_move l c head h opening r =
           flags = r.flags i;
           window = r.window i;
           mss = r.mss i;
+          timestamps = r.timestamps i;
         };
         payload = [];
       };
@@ -211,6 +215,8 @@ syn_move l c h =
       window = window r;
       may = λ i. (is_live (h.agrees.same.kind i) && true) && may_begin c.phase h.phase i && true;
       fits = below_is (window r) (omega (arith));
+      timestamps = None;
+      carries = refl;
       segment_is = λ i. record {
         head = record {
           src = (ap (λ (a : Addr). a.ip) h.agrees.same.local ∙ sym h.agrees.same.ip) i;
@@ -222,6 +228,7 @@ syn_move l c h =
           flags = 2;
           window = window r;
           mss = Some 1460;
+          timestamps = None;
         };
         payload = [];
       };

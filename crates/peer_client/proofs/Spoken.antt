@@ -69,6 +69,8 @@ text_move u c written edge h place n s x after behind some small fits is low =
           && (nat_le (h.una i) start && nat_le start s && nat_le 1 n && nat_le n 1460 && nat_le (start + n) (length c.script)))
           ∙ may_text una start s n (length c.script) (omega arith) behind some small (omega (arith, fits, h.within));
       fits = below_is (window u.receiving) (2 ^ 16) h.small;
+      timestamps = None;
+      carries = refl;
       segment_is = λ i. record {
         head = record {
           src = h.ip i;
@@ -80,6 +82,7 @@ text_move u c written edge h place n s x after behind some small fits is low =
           flags = 16;
           window = window u.receiving;
           mss = None;
+          timestamps = None;
         };
         payload = payload i;
       };
@@ -98,6 +101,8 @@ fin_move u c written edge h place s x after at whole sent is low =
       may = (λ i. true && (h.stands i && nat_le (h.una i) (length c.script)) && nat_le (length c.script) s)
           ∙ may_fin una s (length c.script) (omega (arith, at, whole)) (omega (arith, whole, sent));
       fits = below_is (window u.receiving) (2 ^ 16) h.small;
+      timestamps = None;
+      carries = refl;
       segment_is = λ i. record {
         head = record {
           src = h.ip i;
@@ -109,6 +114,7 @@ fin_move u c written edge h place s x after at whole sent is low =
           flags = 17;
           window = window u.receiving;
           mss = None;
+          timestamps = None;
         };
         payload = [];
       };
@@ -125,6 +131,8 @@ bare_move u c written edge h place s x at low =
       window = window u.receiving;
       may = λ i. true && h.stands i && true;
       fits = below_is (window u.receiving) (2 ^ 16) h.small;
+      timestamps = None;
+      carries = refl;
       segment_is = λ i. record {
         head = record {
           src = h.ip i;
@@ -136,6 +144,7 @@ bare_move u c written edge h place s x at low =
           flags = 16;
           window = window u.receiving;
           mss = None;
+          timestamps = None;
         };
         payload = [];
       };

@@ -173,6 +173,7 @@ answers_seen l c n (Some head) h = (
     flags = h.1.flags;
     window = h.1.window;
     mss = h.1.mss;
+    timestamps = h.1.timestamps;
   },
 )
 

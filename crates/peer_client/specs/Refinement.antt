@@ -94,6 +94,7 @@ pub record Refuses (l : LiveState) (c : Client) (head : Head) : Type 0 where
   pub flags : head.flags ≡ 4
   pub window : head.window ≡ 0
   pub mss : head.mss ≡ None
+  pub timestamps : head.timestamps ≡ None
 
 abbrev pub AnswersBy : LiveState → Client → Option Head → Type 0
 AnswersBy l c None = Unit {0}

@@ -217,6 +217,7 @@ impl Client {
     fn head(&self, made: Move, window: u16) -> Head
         ensures fields { said result ≡ (segment_of self.now (move_value made) window).head }
         ensures option { result.mss ≡ None }
+        ensures timestamps { result.timestamps ≡ None }
     {
         Head {
             src: self.key.ip,
@@ -228,6 +229,7 @@ impl Client {
             flags: flags(made),
             window,
             mss: None,
+            timestamps: None,
         }
     }
 

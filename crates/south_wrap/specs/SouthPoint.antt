@@ -16,4 +16,5 @@ south_at delta p = record {
   read = bytes_read p;
   una = p.una;
   sent = p.sent;
+  timestamping = p.timestamping;
 }

@@ -3,6 +3,8 @@
 use Rattle.limits.specs.Limits.{buffer_size, longest_stream}
 use Rattle.std.specs.Prelude.{ℕ, Bool, false, pos, ◌+◌, ◌-◌, ◌%◌, ◌^◌, ◌&&◌, not, max, min, int_lt, nat_abs, if◌then◌else◌}
 use Rattle.tcp_rules.specs.Arrival.{is_beyond}
+use Rattle.tcp_rules.specs.declared.timestamping.Timestamping.{Timestamping}
+use Rattle.tcp_rules.specs.declared.timestamping.Timestamping.TheVariants.{Off}
 use Rattle.seq_arith.specs.Number.{number_at, distance, offset_of}
 use Rattle.seq_arith.specs.Offset.{one_if}
 
@@ -18,6 +20,7 @@ pub record SouthState : Type 0 where
   pub read : ℕ  -- the bytes that the service has read
   pub una : ℕ  -- the units of output that the client acknowledged
   pub sent : ℕ  -- where this TCP's sent output ends, in units
+  pub timestamping : Timestamping  -- whether segments to the client carry timestamps, and which value they echo
 
 abbrev pub taken_units : SouthState → ℕ
 taken_units s = s.taken + one_if s.fin
@@ -62,7 +65,7 @@ inner_ack s ack = lowered s (if is_high s ack then number_at s.sisn s.sent else 
 abbrev pub inner_window : SouthState → (ack window : ℕ) → ℕ
 inner_window s ack window = if is_high s ack then min 65535 (window + (nat_abs (offset_of s.sisn ack) - s.sent)) else window
 
--- the wrapper in the incarnation that opened the connection ..
+-- the wrapper in the incarnation that opened the connection, without timestamps ..
 abbrev pub first_south : (cisn sisn : ℕ) → SouthState
 first_south cisn sisn = record {
   cisn = cisn;
@@ -76,6 +79,7 @@ first_south cisn sisn = record {
   read = 0;
   una = 0;
   sent = 0;
+  timestamping = Off;
 }
 
 -- .. and the wrapper at the end of a restart, with this much logged, where the logged reads make this much output. TCP's output begins after the units that the
@@ -93,7 +97,12 @@ resumed_south cisn sisn length fetched_output fin acked inner = record {
   read = 0;
   una = acked;
   sent = acked;
+  timestamping = Off;
 }
+
+-- RCV.WND: TCP's room
+abbrev pub room : SouthState → ℕ
+room s = receive_edge s + one_if s.fin - taken_units s
 
 -- what is known to be logged never falls
 abbrev pub with_stable : ℕ → SouthState → SouthState

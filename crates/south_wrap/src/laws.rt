@@ -7,7 +7,9 @@ ghost use Rattle.ft_model.specs.Copy.{copy_start, copied_text, copies_fin};
 ghost use Rattle.ft_model.specs.Taken.{acknowledges_unsent};
 ghost use Rattle.ft_model.specs.Segments as model;
 ghost use Rattle.south_wrap.specs.SouthState.{acknowledged, acknowledges_unsent as is_unsent, window, with_stable};
-ghost use Rattle.south_wrap.specs.Translation.{repeats_syn, copied};
+ghost use Rattle.ft_model.specs.News.News.{Comes};
+ghost use Rattle.ft_model.specs.Timestamps.{is_timely as timely_by_law, timestamping_after};
+ghost use Rattle.south_wrap.specs.Translation.{repeats_syn, copied, is_timely, with_value_of};
 ghost use Rattle.south_wrap.specs.SouthPoint.{south_at};
 
 /// It acknowledges and advertises what the laws Acknowledgement and Window say.
@@ -37,4 +39,12 @@ pub fn it_knows_what_was_never_sent()
 /// What is known to be logged rises as the law Answered says.
 pub fn it_hears_what_is_logged()
     ensures { (delta : ℕ) (p : Point) (units : ℕ) → with_stable units (south_at delta p) ≡ south_at delta (record p { answered = max p.answered units }) }
+{}
+
+/// It notes which value of the client is echoed as the law Timestamps says, and its segments then carry what the law has them carry.
+#[tactic(auto, unfolding(ft_model::specs::Timestamps::is_timely, ft_model::specs::Taken::accepts))]
+pub fn it_echoes_what_the_law_says()
+    ensures timely { (delta : ℕ) (p : Point) (segment : Segment) → is_timely (south_at delta p) segment ≡ timely_by_law p segment }
+    ensures value { (delta : ℕ) (p : Point) (segment : Segment)
+        → with_value_of segment (south_at delta p) ≡ south_at delta (record p { timestamping = timestamping_after (Comes segment) p }) }
 {}

@@ -1,6 +1,6 @@
 //! The south wrapper, between a client and an unchanged TCP (FT-TCP, INFOCOM 2001: the south side wrapper). It shifts sequence numbers by a delta, so that a
-//! restarted TCP continues in the client's numbers, and acknowledges only what is known to be logged. It patches each segment in place, makes no new ones,
-//! allocates nothing, and withholds only TCP's RSTs and the client's repeated SYNs.
+//! restarted TCP continues in the client's numbers, and acknowledges only what is known to be logged. It patches each segment in place, or writes it again with
+//! timestamps, makes no new ones, allocates nothing, and withholds only TCP's RSTs and the client's repeated SYNs.
 #![tactic(auto)]
 
 pub use answers::{AckOut, CopyPart, Inward};
@@ -15,3 +15,4 @@ pub mod laws;
 mod passing;
 mod patching;
 mod south;
+mod stamping;

@@ -34,7 +34,8 @@ impl South {
     }
 
     /// Changes a segment of TCP into the one for the client, and returns whether it is to be sent. A RST isn't, and stays unchanged. In every other segment
-    /// SEG.SEQ is raised by delta, SEG.ACK acknowledges what is both taken and known to be logged, and SEG.WND is the window from there.
+    /// SEG.SEQ is raised by delta, SEG.ACK acknowledges what is both taken and known to be logged, and SEG.WND is the window from there. It adds no timestamps:
+    /// see `outward_with_timestamps`.
     pub fn outward(&mut self, packet: &mut [u8]) -> bool
         requires { IsOk (reading packet.old) }
         ensures answer { IfOk (reading packet.old) (λ segment. result ≡ not (has_rst segment)) }

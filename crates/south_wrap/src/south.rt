@@ -3,10 +3,11 @@
 ghost use Rattle.limits.specs.Limits.{longest_stream, most_units};
 ghost use Rattle.std.specs.Prelude.{◌≡◌, ◌≤◌, ◌<◌, ◌+◌, ◌^◌, ◌&&◌, ℕ, List, pos, nat_abs, is_some, ◌-◌, nat_le, IfNone, IfSome};
 ghost use Rattle.tcp_rules.specs.Arrival.{int_eq};
+ghost use Rattle.tcp_rules.specs.Timestamping.{echo_after};
 ghost use Rattle.segment_codec.specs.Value.{said};
 ghost use Rattle.seq_arith.specs.Number.{number_at, offset_of};
 ghost use Rattle.seq_arith.specs.Offset.{one_if};
-ghost use Rattle.south_wrap.specs.SouthState.{acknowledged, receive_edge, window, first_south, resumed_south, with_stable};
+ghost use Rattle.south_wrap.specs.SouthState.{acknowledged, receive_edge, window, room, taken_units, first_south, resumed_south, with_stable};
 ghost use Rattle.south_wrap.specs.SouthState.{most, acknowledges_unsent, is_high, inner_ack, inner_window};
 ghost use Rattle.south_wrap.specs.Translation.{repeats_syn};
 
@@ -14,8 +15,9 @@ use crate::answers::AckOut;
 use crate::fetched::Fetched;
 use limits::{BUFFER, STREAM};
 use segment_codec::Head;
-use seq_arith::{ACK, RST, SYN, Seq, has};
+use seq_arith::{ACK, RST, SYN, Seq, Timestamps, has};
 use std::marker::Model;
+use tcp_rules::Timestamping;
 
 /// The south wrapper of one connection. Lengths are in bytes; units are bytes and one more for a FIN.
 #[derive(Drop)]
@@ -42,6 +44,8 @@ pub struct South {
     una: u32,
     /// Where this TCP's sent output ends, in units from the connection's start.
     sent: u32,
+    /// Whether segments to the client carry timestamps, and which value they echo.
+    timestamping: Timestamping,
 }
 
 impl Model for South {
@@ -64,6 +68,7 @@ impl Model for South {
       read = s.read;
       una = s.una;
       sent = s.sent;
+      timestamping = s.timestamping;
     } };
 
     ghost invariant = { λ s. (s.fetched ≤ longest_stream) × (s.fetched_output ≤ most_units) × (s.taken ≤ longest_stream) × (s.answered ≤ most_units)
@@ -87,6 +92,7 @@ impl South {
             read: 0,
             una: 0,
             sent: 0,
+            timestamping: Timestamping::Off,
         }
     }
 
@@ -146,6 +152,17 @@ impl South {
             read: 0,
             una: acked,
             sent: acked,
+            timestamping: Timestamping::Off,
+        }
+    }
+
+    /// The same wrapper, of a connection with these timestamps.
+    pub fn with_timestamps(self, timestamping: Timestamping) -> South
+        ensures { result ≡ record self { timestamping = timestamping } }
+    {
+        South {
+            timestamping,
+            ..self
         }
     }
 
@@ -215,7 +232,7 @@ impl South {
     }
 
     /// The units that may be acknowledged.
-    fn acknowledged(&self) -> u32
+    pub(crate) fn acknowledged(&self) -> u32
         ensures value { result ≡ acknowledged self.now }
         ensures most { result ≤ most_units }
     {
@@ -228,6 +245,35 @@ impl South {
     {
         let edge = (self.fetched.max(self.read) + BUFFER).min(STREAM) + u32::from(self.fin);
         edge.saturating_sub(self.acknowledged()).min(BUFFER) as u16
+    }
+
+    /// Whether segments to the client carry timestamps, and which value they echo.
+    pub fn timestamping(&self) -> Timestamping
+        ensures { result ≡ self.now.timestamping }
+    {
+        self.timestamping
+    }
+
+    /// Notes a value of the client, if it is in time.
+    pub(crate) fn echo(&mut self, timely: bool, timestamps: Option<Timestamps>)
+        ensures { self.new ≡ record self.old { timestamping = echo_after self.old.timestamping timely timestamps } }
+    {
+        self.timestamping = self.timestamping.after(timely, timestamps);
+    }
+
+    /// The units taken.
+    pub(crate) fn taken_units(&self) -> u32
+        ensures { result ≡ taken_units self.now }
+    {
+        self.taken + u32::from(self.fin)
+    }
+
+    /// TCP's room.
+    pub(crate) fn room(&self) -> u32
+        ensures { result ≡ room self.now }
+    {
+        let edge = (self.fetched.max(self.read) + BUFFER).min(STREAM) + u32::from(self.fin);
+        edge.saturating_sub(self.taken_units())
     }
 
     /// The client's sequence number for output less TCP's, modulo 2^32.

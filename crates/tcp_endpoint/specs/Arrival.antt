@@ -37,6 +37,7 @@ rst e p seq ack flags = record {
   flags = flags;
   window = 0;
   mss = None;
+  timestamps = None;
 }
 
 -- <SEQ=SEG.ACK><CTL=RST>

@@ -25,6 +25,7 @@ head_at e seq flags = record {
   flags = flags;
   window = window e.receiving;
   mss = None;
+  timestamps = None;
 }
 
 -- the SYN, which acknowledges nothing, or the SYN-ACK

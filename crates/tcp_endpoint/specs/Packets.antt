@@ -22,9 +22,9 @@ ClimbsTo start (place ∷ places) end = (start ≤ place) × ClimbsTo place plac
 -- the invariant of an outbox's two vectors: their room is allocated at the start
 pub record Stores (bytes ends : List ℕ) (byte_room packet_room : ℕ) : Type 0 where
   pub climbs : ClimbsTo 0 ends (length bytes)
-  pub bytes_reserved : 120000 ≤ byte_room
+  pub bytes_reserved : 124000 ≤ byte_room
   pub ends_reserved : 1100 ≤ packet_room
-  pub bytes_held : length bytes ≤ 120000
+  pub bytes_held : length bytes ≤ 124000
   pub packets_held : length ends ≤ 1100
 
 -- a string, cut into packets of the same lengths as these

@@ -122,6 +122,7 @@ impl Endpoint {
             flags: RST,
             window: 0,
             mss: None,
+            timestamps: None,
         });
     }
 
@@ -141,6 +142,7 @@ impl Endpoint {
             flags: RST | ACK,
             window: 0,
             mss: None,
+            timestamps: None,
         });
     }
 

@@ -1,10 +1,10 @@
 //! The end of a turn: what is sent, in order (RFC 9293, 3.7, 3.8.1, 3.8.6.1 and 3.10.7.4), and the timer.
 
 ghost use Rattle.limits.specs.Limits.{largest_segment, longest_packet};
-ghost use Rattle.std.specs.Prelude.{◌≡◌, ℕ, ◌+◌, ◌*◌, ◌-◌, ◌<◌, ◌≤◌, ◌==◌, ◌&&◌, ◌||◌, Bool, true, false, None, Some, List, [], ◌∷◌, ◌++◌, length};
+ghost use Rattle.std.specs.Prelude.{◌≡◌, ℕ, ◌+◌, ◌*◌, ◌-◌, ◌<◌, ◌≤◌, ◌==◌, ◌&&◌, ◌||◌, Bool, true, false, Some, List, [], ◌∷◌, ◌++◌, length};
 ghost use Rattle.std.specs.Prelude.{if◌then◌else◌};
 ghost use Rattle.seq_arith.specs.Packet.{Segment};
-ghost use Rattle.seq_arith.specs.PacketGrammar.{spelling};
+ghost use Rattle.seq_arith.specs.PacketGrammar.{options_of, spelling};
 ghost use Rattle.segment_codec.specs.Value.{said};
 ghost use Rattle.segment_codec.specs.Spelling.{segment_with};
 ghost use Rattle.tcp_endpoint.specs.Packets.{byte_count, IsReadable, AreReadable};
@@ -47,7 +47,7 @@ impl Endpoint {
     #[tactic(auto, unfolding(crate::specs::Output::head_at))]
     fn head(&self, seq: Seq, flags: u8) -> Head
         ensures head { said result ≡ head_at self.now seq.0 flags }
-        ensures size { result.mss ≡ None }
+        ensures size { length (options_of (said result)) ≡ 0 }
     {
         Head {
             src: self.local.ip,
@@ -59,6 +59,7 @@ impl Endpoint {
             flags,
             window: self.receiver.window(),
             mss: None,
+            timestamps: None,
         }
     }
 
@@ -83,12 +84,12 @@ impl Endpoint {
     }
 
     /// Sends the RST in reply to a segment, where one is due.
-    #[tactic(auto, using(seq_arith::proofs::Units::mss_option_short, crate::proofs::Spelled::packets_one, crate::proofs::Spelled::packets_none), unfolding(crate::specs::Output::reset_reply_out))]
+    #[tactic(auto, using(seq_arith::proofs::Units::options_short, crate::proofs::Spelled::packets_one, crate::proofs::Spelled::packets_none), unfolding(crate::specs::Output::reset_reply_out))]
     fn send_reset_reply(&self, out: &mut Outbox)
         requires { out.old ≡ [] }
         ensures sent { out.new ≡ packets (reset_reply_out self.now) }
         ensures count { length out.new ≤ 1 }
-        ensures bytes { byte_count out.new ≤ 44 }
+        ensures bytes { byte_count out.new ≤ 56 }
         ensures readable { AreReadable (reset_reply_out self.now) }
     {
         if let Some(head) = self.reset_reply {
@@ -128,10 +129,10 @@ impl Endpoint {
     }
 
     /// Sends the first unacknowledged segment, where it is due.
-    #[tactic(auto, using(seq_arith::proofs::Units::mss_option_short, crate::proofs::Spelled::packets_one, crate::proofs::Spelled::nothing_more), unfolding(crate::specs::Output::retransmission_out, crate::specs::Output::retransmitted_segment))]
+    #[tactic(auto, using(seq_arith::proofs::Units::options_short, crate::proofs::Spelled::packets_one, crate::proofs::Spelled::nothing_more), unfolding(crate::specs::Output::retransmission_out, crate::specs::Output::retransmitted_segment))]
     fn retransmit(&self, out: &mut Outbox)
         requires count { length out.old ≤ 1 }
-        requires bytes { byte_count out.old ≤ 44 }
+        requires bytes { byte_count out.old ≤ 56 }
         ensures sent { out.new ≡ out.old ++ packets (retransmission_out self.now) }
         ensures count { length out.new ≤ length out.old + 1 }
         ensures bytes { byte_count out.new ≤ byte_count out.old + longest_packet }
@@ -153,7 +154,7 @@ impl Endpoint {
     #[tactic(auto, using(crate::proofs::Spelled::packets_one, crate::proofs::Spelled::nothing_more), unfolding(crate::specs::Output::probe_out, crate::specs::Output::with_probe))]
     fn send_probe(&mut self, out: &mut Outbox)
         requires count { length out.old ≤ 2 }
-        requires bytes { byte_count out.old ≤ 1544 }
+        requires bytes { byte_count out.old ≤ 1556 }
         ensures state { self.new ≡ with_probe self.old }
         ensures sent { out.new ≡ out.old ++ packets (probe_out self.old) }
         ensures count { length out.new ≤ length out.old + 1 }
@@ -194,7 +195,7 @@ impl Endpoint {
     #[tactic(auto, unfolding(crate::specs::Output::text_out, crate::specs::Output::with_text_sent))]
     fn send_text(&mut self, out: &mut Outbox)
         requires count { length out.old ≤ 3 }
-        requires bytes { byte_count out.old ≤ 1585 }
+        requires bytes { byte_count out.old ≤ 1597 }
         ensures state { self.new ≡ with_text_sent self.old }
         ensures sent { out.new ≡ out.old ++ packets (text_out self.old) }
         ensures count { length out.new ≤ length out.old + 1024 }
@@ -212,7 +213,7 @@ impl Endpoint {
         requires near { place ≤ 65536 }
         requires short { left ≤ 65535 }
         requires count { length out.old ≤ 3 }
-        requires bytes { byte_count out.old ≤ 1585 }
+        requires bytes { byte_count out.old ≤ 1597 }
         ensures sent { out.new ≡ out.old ++ packets (texts left self.now place left) }
         ensures count { length out.new ≤ length out.old + 1024 }
         ensures bytes { byte_count out.new ≤ byte_count out.old + 106495 }
@@ -230,7 +231,7 @@ impl Endpoint {
     #[tactic(auto, using(crate::proofs::Spelled::packets_one, crate::proofs::Spelled::nothing_more), unfolding(crate::specs::Output::fin_out, crate::specs::Output::with_fin_out))]
     fn send_fin(&mut self, out: &mut Outbox)
         requires count { length out.old ≤ 1027 }
-        requires bytes { byte_count out.old ≤ 108080 }
+        requires bytes { byte_count out.old ≤ 108092 }
         ensures state { self.new ≡ with_fin_out self.old }
         ensures sent { out.new ≡ out.old ++ packets (fin_out self.old) }
         ensures count { length out.new ≤ length out.old + 1 }
@@ -280,7 +281,7 @@ impl Endpoint {
     #[tactic(auto, unfolding(crate::specs::Output::bare_segment))]
     fn send_pending_ack(&self, out: &mut Outbox)
         requires count { length out.old ≤ 1028 }
-        requires bytes { byte_count out.old ≤ 108120 }
+        requires bytes { byte_count out.old ≤ 108132 }
         ensures sent { out.new ≡ or_bare (is_ack_pending self.now) (spelling (bare_segment self.now)) out.old }
         ensures count { length out.new ≤ length out.old + 1 }
         ensures bytes { byte_count out.new ≤ byte_count out.old + 40 }

@@ -5,13 +5,15 @@ ghost use Rattle.std.specs.Prelude.{◌≡◌, ℕ, ◌+◌, ◌-◌, ◌<◌, �
 ghost use Rattle.std.specs.Prelude.{slice_index, slice_set, take, drop, replicate, vec_capacity};
 ghost use Rattle.std.specs.Borrow.{sem};
 ghost use Rattle.std.specs.Bool.{OnTrue, OnFalse};
-ghost use Rattle.seq_arith.specs.PacketGrammar.{mss_option, packet_length, spelling};
+ghost use Rattle.seq_arith.specs.PacketGrammar.{mss_option, timestamps_option, options_of, packet_length, spelling};
+ghost use Rattle.segment_codec.specs.Value.{said};
 ghost use Rattle.segment_codec.specs.Spelling.{segment_with};
 ghost use Rattle.tcp_endpoint.specs.Packets.{byte_count, with_bytes_at, IsReadable};
 ghost use Rattle.tcp_endpoint.specs.Loan.{LendsPacket};
 
 use ft_io::NoMemory;
 use segment_codec::{Head, write_header};
+use seq_arith::Timestamps;
 use std::alloc::Global;
 use std::marker::Model;
 
@@ -21,7 +23,11 @@ const PACKET_ROOM: usize = 1_100;
 /// The most bytes that these packets have in all.
 const BYTE_ROOM: usize = 120_000;
 
-/// The packets that a turn sends: at most 1,100, of at most 120,000 bytes in all. In contracts an outbox is the list of its packets.
+/// The same where timestamps make the packets longer.
+const LONG_ROOM: usize = 124_000;
+
+/// The packets that a turn sends: at most 1,100, of at most 120,000 bytes in all, or 124,000 with timestamps. In contracts an outbox is the list of its
+/// packets.
 #[derive(Drop)]
 pub struct Outbox {
     /// The bytes of all packets, one packet after another.
@@ -46,7 +52,7 @@ impl Outbox {
     pub fn new(alloc: Global) -> Result<Outbox, NoMemory>
         ensures { IfOk result (λ out. out ≡ []) }
     {
-        let bytes = Vec::with_capacity(alloc, BYTE_ROOM)?;
+        let bytes = Vec::with_capacity(alloc, LONG_ROOM)?;
         let ends = Vec::with_capacity(alloc, PACKET_ROOM)?;
         Ok(Outbox { bytes, ends })
     }
@@ -91,13 +97,26 @@ impl Outbox {
     }
 
     /// Appends a packet. Returns false, and changes nothing, where there would be more than 1,100 packets or more than 120,000 bytes.
-    #[tactic(auto, using(crate::proofs::Pieces::length_pieces, crate::proofs::Pieces::byte_count_pieces, crate::proofs::Pieces::climbs_push, crate::proofs::Pieces::pieces_push))]
+    #[tactic(auto, using(crate::proofs::Pieces::length_pieces, crate::proofs::Pieces::byte_count_pieces))]
     pub fn push(&mut self, packet: &[u8]) -> bool
         ensures fits { IsTrue result ↔ (length self.old < PACKET_ROOM) × (byte_count self.old + length packet.now ≤ BYTE_ROOM) }
         ensures pushed { OnTrue result (self.new ≡ self.old ++ packet.now ∷ []) }
         ensures refused { OnFalse result (self.new ≡ self.old) }
     {
-        if self.ends.len() == PACKET_ROOM || packet.len() > BYTE_ROOM - self.bytes.len() {
+        if BYTE_ROOM < self.bytes.len() || packet.len() > BYTE_ROOM - self.bytes.len() {
+            return false;
+        }
+        self.push_longer(packet)
+    }
+
+    /// Does the same for a packet with timestamps: at most 124,000 bytes in all.
+    #[tactic(auto, using(crate::proofs::Pieces::length_pieces, crate::proofs::Pieces::byte_count_pieces, crate::proofs::Pieces::climbs_push, crate::proofs::Pieces::pieces_push))]
+    pub fn push_longer(&mut self, packet: &[u8]) -> bool
+        ensures fits { IsTrue result ↔ (length self.old < PACKET_ROOM) × (byte_count self.old + length packet.now ≤ LONG_ROOM) }
+        ensures pushed { OnTrue result (self.new ≡ self.old ++ packet.now ∷ []) }
+        ensures refused { OnFalse result (self.new ≡ self.old) }
+    {
+        if self.ends.len() == PACKET_ROOM || packet.len() > LONG_ROOM - self.bytes.len() {
             return false;
         }
         self.bytes.extend_from_slice(packet).unwrap();
@@ -157,25 +176,35 @@ fn append_segment(head: &Head, front: &[u8], back: &[u8], bytes: &mut Vec<u8>)
     ensures readable { IsReadable (segment_with head.now (front.now ++ back.now)) }
 {
     let start = bytes.len();
-    append_text(head.mss, front, back, bytes);
+    append_text(head, front, back, bytes);
     write_header(head, &mut bytes[start..]);
 }
 
 /// Appends room for headers, and a text after it.
-fn append_text(mss: Option<u16>, front: &[u8], back: &[u8], bytes: &mut Vec<u8>)
-    requires room { length bytes.old.items + (40 + length (mss_option mss)) + length (front.now ++ back.now) ≤ vec_capacity bytes.old }
+fn append_text(head: &Head, front: &[u8], back: &[u8], bytes: &mut Vec<u8>)
+    requires room { length bytes.old.items + (40 + length (options_of (said head.now))) + length (front.now ++ back.now) ≤ vec_capacity bytes.old }
     ensures begins { take (length bytes.old.items) bytes.new.items ≡ bytes.old.items }
-    ensures text { drop (length bytes.old.items + (40 + length (mss_option mss))) bytes.new.items ≡ front.now ++ back.now }
-    ensures length { length bytes.new.items ≡ length bytes.old.items + (40 + length (mss_option mss)) + length (front.now ++ back.now) }
+    ensures text { drop (length bytes.old.items + (40 + length (options_of (said head.now)))) bytes.new.items ≡ front.now ++ back.now }
+    ensures length { length bytes.new.items ≡ length bytes.old.items + (40 + length (options_of (said head.now))) + length (front.now ++ back.now) }
     ensures capacity { vec_capacity bytes.old ≤ vec_capacity bytes.new }
 {
-    append_blank(mss, bytes);
+    append_blank(head, bytes);
     bytes.extend_from_slice(front).unwrap();
     append_some(back, bytes);
 }
 
 /// Appends room for headers.
-fn append_blank(mss: Option<u16>, bytes: &mut Vec<u8>)
+fn append_blank(head: &Head, bytes: &mut Vec<u8>)
+    requires { length bytes.old.items + (40 + length (options_of (said head.now))) ≤ vec_capacity bytes.old }
+    ensures items { bytes.new.items ≡ bytes.old.items ++ replicate (40 + length (options_of (said head.now))) 0 }
+    ensures capacity { vec_capacity bytes.old ≤ vec_capacity bytes.new }
+{
+    append_blank_to_size(head.mss, bytes);
+    append_blank_timestamps(head.timestamps, bytes);
+}
+
+/// Appends room for headers up to the segment size, with it.
+fn append_blank_to_size(mss: Option<u16>, bytes: &mut Vec<u8>)
     requires { length bytes.old.items + (40 + length (mss_option mss)) ≤ vec_capacity bytes.old }
     ensures items { bytes.new.items ≡ bytes.old.items ++ replicate (40 + length (mss_option mss)) 0 }
     ensures capacity { vec_capacity bytes.old ≤ vec_capacity bytes.new }
@@ -183,6 +212,19 @@ fn append_blank(mss: Option<u16>, bytes: &mut Vec<u8>)
     match mss {
         Some(_) => bytes.extend_from_slice(&[0; 44]).unwrap(),
         None => bytes.extend_from_slice(&[0; 40]).unwrap(),
+    }
+}
+
+/// Appends room for timestamps.
+#[tactic(auto, unfolding(seq_arith::specs::Bytes::four))]
+fn append_blank_timestamps(timestamps: Option<Timestamps>, bytes: &mut Vec<u8>)
+    requires { length bytes.old.items + length (timestamps_option timestamps) ≤ vec_capacity bytes.old }
+    ensures items { bytes.new.items ≡ bytes.old.items ++ replicate (length (timestamps_option timestamps)) 0 }
+    ensures capacity { vec_capacity bytes.old ≤ vec_capacity bytes.new }
+{
+    match timestamps {
+        Some(_) => bytes.extend_from_slice(&[0; 12]).unwrap(),
+        None => {}
     }
 }
 

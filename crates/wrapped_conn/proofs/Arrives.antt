@@ -34,6 +34,7 @@ enters e t name listens g = record {
   limit = g.limit;
   more = g.more;
   iss = g.iss;
+  mss = g.mss;
   closed = g.closed;
   sent = g.sent;
   held = g.held;
@@ -57,6 +58,7 @@ text_goes e t p g =
       limit = k.limit ∙ g.limit;
       more = omega (arith, k.more, g.more);
       iss = g.iss;
+      mss = g.mss;
       closed = g.closed;
       sent = g.sent;
       held = g.held;
@@ -74,7 +76,7 @@ no_fin true false h k = absurd (false≢true (h refl))
 no_fin false c h k = refl
 
 needs_ack : (e t : Tcb) (b : Bool) → GoesOnFrom e t → GoesOnFrom e (with_ack_pending_if b t)
-needs_ack e t b g = record { sound = record { bounds = g.sound.bounds; buffered = g.sound.buffered; begun = g.sound.begun; fin_last = g.sound.fin_last }; read = g.read; limit = g.limit; more = g.more; iss = g.iss; closed = g.closed; sent = g.sent; held = g.held }
+needs_ack e t b g = record { sound = record { bounds = g.sound.bounds; buffered = g.sound.buffered; begun = g.sound.begun; fin_last = g.sound.fin_last }; read = g.read; limit = g.limit; more = g.more; iss = g.iss; mss = g.mss; closed = g.closed; sent = g.sent; held = g.held }
 
 later_used : (e : Tcb) (p : Segment) → IsSoundTcp e → HasFieldsInRange p → IsNearFirst (first e p) → e.sending.syn_acked ≡ true
     → GoesOnFrom e (record e { sending = acknowledged e.sending p.head.seq (ack_at e p) p.head.window })
@@ -92,6 +94,7 @@ later_used e p s fits near is_syn_acked =
       limit = refl;
       more = omega arith;
       iss = kept.0;
+      mss = kept.4;
       closed = kept.1;
       sent = omega (arith, kept.3);
       held = λ open_still. held (omega (arith, s.bounds.flight, no_fin e.sending.fin_sent e.sending.closed s.fin_last open_still));
@@ -106,6 +109,7 @@ counts_again e used true again retransmission_due g = record {
   limit = refl;
   more = g.more;
   iss = g.iss;
+  mss = g.mss;
   closed = g.closed;
   sent = g.sent;
   held = g.held;
@@ -116,6 +120,7 @@ counts_again e used false again retransmission_due g = record {
   limit = refl;
   more = g.more;
   iss = g.iss;
+  mss = g.mss;
   closed = g.closed;
   sent = g.sent;
   held = g.held;
@@ -136,11 +141,11 @@ later_goes e p s fits near is_syn_acked =
 
 refuses : (e : Tcb) (p : Segment) → IsSoundTcp e → GoesOnFrom e (with_reset_reply e p)
 unfolding with_reset_reply
-refuses e p s = let g = stays e s in record { sound = record { bounds = s.bounds; buffered = s.buffered; begun = s.begun; fin_last = s.fin_last }; read = refl; limit = refl; more = g.more; iss = refl; closed = refl; sent = g.sent; held = g.held }
+refuses e p s = let g = stays e s in record { sound = record { bounds = s.bounds; buffered = s.buffered; begun = s.begun; fin_last = s.fin_last }; read = refl; limit = refl; more = g.more; iss = refl; mss = refl; closed = refl; sent = g.sent; held = g.held }
 
 refuses_bare : (e : Tcb) (p : Segment) → IsSoundTcp e → GoesOnFrom e (with_reset_reply_without_ack e p)
 unfolding with_reset_reply_without_ack
-refuses_bare e p s = let g = stays e s in record { sound = record { bounds = s.bounds; buffered = s.buffered; begun = s.begun; fin_last = s.fin_last }; read = refl; limit = refl; more = g.more; iss = refl; closed = refl; sent = g.sent; held = g.held }
+refuses_bare e p s = let g = stays e s in record { sound = record { bounds = s.bounds; buffered = s.buffered; begun = s.begun; fin_last = s.fin_last }; read = refl; limit = refl; more = g.more; iss = refl; mss = refl; closed = refl; sent = g.sent; held = g.held }
 
 first_goes : (e : Tcb) (p : Segment) → IsSoundTcp e → HasFieldsInRange p → IsNearFirst (first e p) → e.sending.syn_acked ≡ false → GoesOnFrom e (with_first_ack e p)
 unfolding with_first_ack
@@ -157,6 +162,7 @@ first_goes e p s fits near syn_unacked =
       limit = refl;
       more = omega arith;
       iss = refl;
+      mss = refl;
       closed = refl;
       sent = omega (arith, s.bounds.syn_unacked syn_unacked);
       held = λ open_still. omega arith;
@@ -164,7 +170,7 @@ first_goes e p s fits near syn_unacked =
     goes_if (int_eq (ack_at e p) (pos 0)) e _ _ (text_goes e opening p goes) (refuses e p s)
 
 from_pending : (e : Tcb) (b : Bool) (t : Tcb) → GoesOnFrom (with_ack_pending_if b e) t → GoesOnFrom e t
-from_pending e b t g = record { sound = g.sound; read = g.read; limit = g.limit; more = g.more; iss = g.iss; closed = g.closed; sent = g.sent; held = g.held }
+from_pending e b t g = record { sound = g.sound; read = g.read; limit = g.limit; more = g.more; iss = g.iss; mss = g.mss; closed = g.closed; sent = g.sent; held = g.held }
 
 -- a segment that is looked at further begins near to the window
 one_of : (a z b : Bool) → (a || (z && b)) ≡ true → (a || z) ≡ true
@@ -195,11 +201,11 @@ checked e p s fits near =
     (needs_ack e e _ g)))
   where
     closes : (x : Tcb) → IsSoundTcp x → GoesOnFrom x (with_reset x)
-    closes x s = let g = stays x s in record { sound = record { bounds = s.bounds; buffered = s.buffered; begun = refl; fin_last = s.fin_last }; read = refl; limit = refl; more = g.more; iss = refl; closed = refl; sent = g.sent; held = g.held }
+    closes x s = let g = stays x s in record { sound = record { bounds = s.bounds; buffered = s.buffered; begun = refl; fin_last = s.fin_last }; read = refl; limit = refl; more = g.more; iss = refl; mss = refl; closed = refl; sent = g.sent; held = g.held }
 
 from_waiting : (e : Tcb) (p : Segment) (t : Tcb) → GoesOnFrom (with_time_wait_restarted e p) t → GoesOnFrom e t
 unfolding with_time_wait_restarted
-from_waiting e p t g = record { sound = g.sound; read = g.read; limit = g.limit; more = g.more; iss = g.iss; closed = g.closed; sent = g.sent; held = g.held }
+from_waiting e p t g = record { sound = g.sound; read = g.read; limit = g.limit; more = g.more; iss = g.iss; mss = g.mss; closed = g.closed; sent = g.sent; held = g.held }
 
 others_go : (e : Tcb) (p : Segment) → IsSoundTcp e → HasFieldsInRange p → GoesOnFrom e (in_others e p)
 unfolding in_others check_sequence with_time_wait_restarted

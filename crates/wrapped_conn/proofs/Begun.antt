@@ -1,20 +1,24 @@
 -- A new connection is sound.
-use Rattle.std.proofs.Common.{◌≡◌, ℕ, Bool, ◌<◌, ◌≤◌, ◌+◌, ◌-◌, ◌%◌, ◌^◌, refl, sym, ap, ◌∙◌, List, [], length, arith}
+use Rattle.tcp_rules.specs.declared.timestamping.Timestamping.{Timestamping}
+use Rattle.std.proofs.Common.{◌≡◌, ℕ, Bool, ◌<◌, ◌≤◌, ◌+◌, ◌-◌, ◌%◌, ◌^◌, max, min, refl, sym, ap, subst, ◌∙◌, List, [], length, arith}
 use Rattle.ft_io.specs.declared.Addr.{Addr}
 use Rattle.ft_io.specs.declared.Key.{Key}
 use Rattle.seq_arith.specs.Number.{distance, number_at}
 use Rattle.seq_arith.specs.Offset.{one_if}
 use Rattle.seq_arith.specs.Packet.{Segment}
 use Rattle.tcp_rules.specs.Profile.{Profile}
-use Rattle.south_wrap.specs.SouthState.{SouthState, first_south}
+use Rattle.south_wrap.specs.SouthState.{SouthState}
 use Rattle.north_wrap.specs.NorthState.{NorthState, fresh_north}
 use Rattle.tcp_endpoint.specs.Arrival.{received, in_listen, begun}
 use Rattle.tcp_endpoint.specs.Tcb.{Tcb, listening, listening_measuring}
 use Rattle.endpoint_laws.proofs.Bounding.{bounded_at_listen_measuring, bounded_in_listen}
+use Rattle.connection_laws.proofs.Spliced.{size_stays}
 use Rattle.wrapped_conn.specs.ConnState.{ConnState}
-use Rattle.wrapped_conn.specs.NewConnection.{joined_conn_in, first_conn_in, syn}
+use Rattle.wrapped_conn.specs.NewConnection.{joined_conn_in, first_conn_in, south_opened, syn}
 use Rattle.wrapped_conn.specs.Numbers.{has_fin}
-use Rattle.wrapped_conn.specs.Sound.{IsSoundTcp, IsSound}
+use Rattle.tcp_rules.specs.Timestamping.{fitting}
+use Rattle.wrapped_conn.specs.Sound.{IsSoundTcp, IsSound, LeavesRoom}
+use Rattle.wrapped_conn.proofs.SoundAgain.{fitting_leaves}
 
 syn_sound : (measures : Bool) (key : Key) (local : Addr) (cisn sisn mss : ℕ) → IsSoundTcp (received (listening_measuring measures local sisn (2 ^ 24)) (syn key local cisn mss))
 unfolding received in_listen begun listening_measuring listening
@@ -27,8 +31,9 @@ syn_sound measures key local cisn sisn mss = record {
 
 syn_fields : (measures : Bool) (key : Key) (local : Addr) (cisn sisn mss : ℕ) → let e = received (listening_measuring measures local sisn (2 ^ 24)) (syn key local cisn mss) in
     (e.receiving.read ≡ 0) × (e.receiving.limit ≡ 2 ^ 24) × (e.receiving.unread ≡ []) × (e.sending.iss ≡ sisn) × (e.sending.una ≡ 0) × (e.sending.held ≡ [])
+    × (e.sending.mss ≡ max 64 (min 1460 mss))
 unfolding received in_listen begun listening_measuring listening
-syn_fields measures key local cisn sisn mss = (refl, refl, refl, refl, refl, refl)
+syn_fields measures key local cisn sisn mss = (refl, refl, refl, refl, refl, refl, refl)
 
 pub nothing_fetched : (cisn f : ℕ) → distance (number_at cisn 0) ((cisn + 1) % 2 ^ 32) - f ≡ 0
 nothing_fetched cisn f = omega arith
@@ -36,18 +41,18 @@ nothing_fetched cisn f = omega arith
 nothing_swallowed : (sisn : ℕ) → sisn < 2 ^ 32 → distance ((sisn + 0) % 2 ^ 32) sisn ≡ 0
 nothing_swallowed sisn fits = omega (arith, fits)
 
-pub first_is : {S : Type 0} (profile : Profile) (boot : ℕ) (key : Key) (local : Addr) (cisn sisn mss : ℕ) (service : S) (greeting : List ℕ) (south : SouthState) (e t : Tcb) (north : NorthState S) (seen : Segment) (c : ConnState S)
-    → c ≡ joined_conn_in profile boot key local south t north → south ≡ first_south cisn sisn → north ≡ fresh_north service greeting → t ≡ received e seen → e ≡ listening_measuring profile.measures local sisn (2 ^ 24)
-    → seen ≡ syn key local cisn mss → c ≡ first_conn_in profile boot key local cisn sisn mss service greeting
+pub first_is : {S : Type 0} (profile : Profile) (timestamping : Timestamping) (boot : ℕ) (key : Key) (local : Addr) (cisn sisn mss : ℕ) (service : S) (greeting : List ℕ) (south : SouthState) (e t : Tcb) (north : NorthState S) (seen : Segment) (c : ConnState S)
+    → c ≡ joined_conn_in profile boot key local south t north → south ≡ south_opened timestamping cisn sisn mss → north ≡ fresh_north service greeting → t ≡ received e seen → e ≡ listening_measuring profile.measures local sisn (2 ^ 24)
+    → seen ≡ syn key local cisn mss → c ≡ first_conn_in profile timestamping boot key local cisn sisn mss service greeting
 unfolding first_conn_in
-first_is profile boot key local cisn sisn mss service greeting south e t north seen c is so nn te li se =
+first_is profile timestamping boot key local cisn sisn mss service greeting south e t north seen c is so nn te li se =
     let tcp : t ≡ received (listening_measuring profile.measures local sisn (2 ^ 24)) (syn key local cisn mss) = te ∙ (λ j. received (li j) (se j)) in
     is ∙ (λ j. joined_conn_in profile boot key local (so j) (tcp j) (nn j))
 
-pub first_sound : {S : Type 0} (profile : Profile) (boot : ℕ) (key : Key) (local : Addr) (cisn sisn mss : ℕ) (service : S) (greeting : List ℕ) → length greeting ≤ 65535 → 1 ≤ boot → sisn < 2 ^ 32
-    → IsSound (first_conn_in profile boot key local cisn sisn mss service greeting)
+pub first_sound : {S : Type 0} (profile : Profile) (timestamping : Timestamping) (boot : ℕ) (key : Key) (local : Addr) (cisn sisn mss : ℕ) (service : S) (greeting : List ℕ) → length greeting ≤ 65535 → 1 ≤ boot → sisn < 2 ^ 32 → 64 ≤ mss → mss ≤ 1460
+    → IsSound (first_conn_in profile timestamping boot key local cisn sisn mss service greeting)
 unfolding first_conn_in
-first_sound profile boot key local cisn sisn mss service greeting few live fits =
+first_sound profile timestamping boot key local cisn sisn mss service greeting few live fits least most =
     let e : Tcb = received (listening_measuring profile.measures local sisn (2 ^ 24)) (syn key local cisn mss) in
     let f = syn_fields profile.measures key local cisn sisn mss in
     let fetched : distance (number_at cisn 0) ((cisn + 1) % 2 ^ 32) - one_if (has_fin e.name) ≡ 0 = nothing_fetched cisn (one_if (has_fin e.name)) in
@@ -73,4 +78,5 @@ first_sound profile boot key local cisn sisn mss service greeting few live fits 
       begins = omega (arith, behind);
       sent = omega arith;
       answered = omega arith;
+      roomy = subst (λ m. LeavesRoom m (fitting timestamping mss)) (size_stays mss least most ∙ sym f.6) (fitting_leaves timestamping mss);
     }

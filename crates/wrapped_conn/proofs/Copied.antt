@@ -18,7 +18,7 @@ use Rattle.south_wrap.specs.Translation.{copied, is_some_copied, IsPart, passed_
 use Rattle.wrapped_conn.specs.declared.stage.Before.{Before}
 use Rattle.wrapped_conn.specs.ConnState.{ConnState}
 use Rattle.wrapped_conn.specs.Numbers.{has_fin, bytes_taken, logged_units, una_units}
-use Rattle.wrapped_conn.specs.Arrival.{reached, noted, arrived}
+use Rattle.wrapped_conn.specs.Arrival.{reached, noted, stamped, arrived}
 use Rattle.wrapped_conn.specs.LoggerMessages.{spelled, own_data, end_of, further_start, unread_from, takes_held_fin, datas_of, further_data, or_una, copies, part_of, acked_part, in_batch, followed, follows}
 use Rattle.wrapped_conn.proofs.Datas.{has_some, datas_has, batch_behind}
 use Rattle.ft_io.proofs.Choices.{holds_if}
@@ -53,13 +53,13 @@ same_copies before s segment c = holds_if (λ x. copies before x c ≡ copies be
 
 pub same_boot : {S : Type 0} (segment : Segment) (c : ConnState S) → (arrived segment c).boot ≡ c.boot
 unfolding arrived
-same_boot segment c = holds_if (λ (x : ConnState _). x.boot ≡ c.boot) (repeats_syn c.south segment) c _ (λ h. refl) (λ h. refl)
+same_boot segment c = holds_if (λ (x : ConnState _). x.boot ≡ c.boot) (repeats_syn c.south segment) (stamped segment c) _ (λ h. refl) (λ h. refl)
 
 pub same_batches : {S : Type 0} (segment : Segment) (c : ConnState S) → (arrived segment c).batches ≡ c.batches
 unfolding arrived
-same_batches segment c = holds_if (λ (x : ConnState _). x.batches ≡ c.batches) (repeats_syn c.south segment) c _ (λ h. refl) (λ h. refl)
+same_batches segment c = holds_if (λ (x : ConnState _). x.batches ≡ c.batches) (repeats_syn c.south segment) (stamped segment c) _ (λ h. refl) (λ h. refl)
 
-pub arrived_is : {S : Type 0} (segment : Segment) (old mid new : ConnState S) → mid ≡ reached segment old → new ≡ noted mid → new ≡ arrived segment old
+pub arrived_is : {S : Type 0} (segment : Segment) (old mid new : ConnState S) → mid ≡ reached segment (stamped segment old) → new ≡ noted mid → new ≡ arrived segment old
 unfolding arrived
 arrived_is segment old mid new reach note = note ∙ ap noted reach
 
@@ -73,16 +73,45 @@ told_arrived old new s segment before told is e =
 pub of_read : (bytes : List ℕ) (P : Segment → Type 0) → IsOk (reading bytes) → P (segment_in bytes) → IfOk (reading bytes) P
 of_read bytes P ok p = subst (λ r. IfOk r P) (sym (is_read bytes ok)) p
 
-pub told_by : {S : Type 0} (old mid new : ConnState S) (bytes after : List ℕ) (before : Before) (told : List (List ℕ)) → IsOk (reading bytes) → IfOk (reading bytes) (λ segment. mid ≡ reached segment old) → new ≡ noted mid
+pub told_by : {S : Type 0} (old mid new : ConnState S) (bytes after : List ℕ) (before : Before) (told : List (List ℕ)) → IsOk (reading bytes)
+    → IfOk (reading bytes) (λ segment. mid ≡ reached segment (stamped segment old)) → new ≡ noted mid
     → reading after ≡ changed (passed_in old.south) (reading bytes) → IfOk (reading after) (λ segment. told ≡ spelled new.batches new.boot (copies before segment new))
     → IfOk (reading bytes) (λ segment. told ≡ spelled old.batches old.boot (copies before segment (arrived segment old)))
 told_by old mid new bytes after before told ok reach note read copy =
     let seg : Segment = segment_in bytes in
     let is : reading bytes ≡ Ok seg = is_read bytes ok in
-    let reached_now : mid ≡ reached seg old = IfOk-at_ok (λ x. mid ≡ reached x old) is reach in
+    let reached_now : mid ≡ reached seg (stamped seg old) = IfOk-at_ok (λ x. mid ≡ reached x (stamped x old)) is reach in
     let passed : reading after ≡ Ok (passed_in old.south seg) = read ∙ ap (changed (passed_in old.south)) is in
     let said : told ≡ spelled new.batches new.boot (copies before (passed_in old.south seg) new) = IfOk-at_ok (λ x. told ≡ spelled new.batches new.boot (copies before x new)) passed copy in
     of_read bytes _ ok (told_arrived old new old.south seg before told (arrived_is seg old mid new reached_now note) said)
+
+-- from the step in which the wrapper notes the segment's timestamps
+pub reached_stamped : {S : Type 0} (old stamp mid : ConnState S) (bytes : List ℕ) → IsOk (reading bytes) → IfOk (reading bytes) (λ segment. stamp ≡ stamped segment old)
+    → IfOk (reading bytes) (λ segment. mid ≡ reached segment stamp) → IfOk (reading bytes) (λ segment. mid ≡ reached segment (stamped segment old))
+reached_stamped old stamp mid bytes ok noting reach =
+    let seg : Segment = segment_in bytes in
+    let is : reading bytes ≡ Ok seg = is_read bytes ok in
+    let noted_now : stamp ≡ stamped seg old = IfOk-at_ok (λ x. stamp ≡ stamped x old) is noting in
+    let reached_now : mid ≡ reached seg stamp = IfOk-at_ok (λ x. mid ≡ reached x stamp) is reach in
+    of_read bytes _ ok (reached_now ∙ ap (λ (x : ConnState _). reached seg x) noted_now)
+
+pub repeats_stamped : {S : Type 0} (old stamp : ConnState S) (b : Bool) (bytes : List ℕ) → IsOk (reading bytes) → IfOk (reading bytes) (λ segment. stamp ≡ stamped segment old)
+    → IfOk (reading bytes) (λ segment. b ≡ repeats_syn stamp.south segment) → IfOk (reading bytes) (λ segment. b ≡ repeats_syn old.south segment)
+repeats_stamped old stamp b bytes ok noting is_repeat =
+    let seg : Segment = segment_in bytes in
+    let is : reading bytes ≡ Ok seg = is_read bytes ok in
+    let noted_now : stamp ≡ stamped seg old = IfOk-at_ok (λ x. stamp ≡ stamped x old) is noting in
+    let repeats_now : b ≡ repeats_syn stamp.south seg = IfOk-at_ok (λ x. b ≡ repeats_syn stamp.south x) is is_repeat in
+    of_read bytes _ ok (repeats_now ∙ ap (λ (x : ConnState _). repeats_syn x.south seg) noted_now)
+
+pub passed_stamped : {S : Type 0} (old stamp : ConnState S) (bytes after : List ℕ) → IsOk (reading bytes) → IfOk (reading bytes) (λ segment. stamp ≡ stamped segment old)
+    → reading after ≡ changed (passed_in stamp.south) (reading bytes) → reading after ≡ changed (passed_in old.south) (reading bytes)
+passed_stamped old stamp bytes after ok noting read =
+    let seg : Segment = segment_in bytes in
+    let is : reading bytes ≡ Ok seg = is_read bytes ok in
+    let noted_now : stamp ≡ stamped seg old = IfOk-at_ok (λ x. stamp ≡ stamped x old) is noting in
+    let same : changed (passed_in stamp.south) (Ok seg) ≡ changed (passed_in old.south) (Ok seg) = λ j. changed (passed_in (noted_now j).south) (Ok seg) in
+    read ∙ ap (changed (passed_in stamp.south)) is ∙ same ∙ sym (ap (changed (passed_in old.south)) is)
 
 -- where the further text begins, as it is counted
 pub start_from : {S : Type 0} (before : Before) (segment : Segment) (c : ConnState S) (logged taken end own inner start : ℕ) → end ≡ min (from_start (end_of segment c)) (2 ^ 24 + 1)

@@ -28,6 +28,7 @@ delay_goes e s = record {
   limit = refl;
   more = omega arith;
   iss = refl;
+  mss = refl;
   closed = refl;
   sent = omega arith;
   held = λ o. omega arith;

@@ -1,4 +1,6 @@
 -- From the parts after a turn to the connection: its numbers, and what leaves.
+use Rattle.ft_model.specs.Timestamps.{timestamping_after}
+use Rattle.tcp_rules.specs.Timestamping.{timestamps_sent}
 use Rattle.std.proofs.Common.{◌≡◌, ℕ, ◌≤◌, ◌+◌, ◌%◌, ◌^◌, Bool, false, not, Option, None, Some, List, [], ◌∷◌, ◌++◌, append-nil, length, drop, sum, map, min, suc, refl, sym, ap, subst, arith, ◌∙◌}
 use Rattle.std.specs.Prelude.{◌==◌, ◌&&◌, ◌||◌, if◌then◌else◌}
 use Rattle.std.specs.Bool.{MatchBool}
@@ -59,6 +61,7 @@ south_after delta news p = record (south_at delta p) {
   fin = fin_after news p;
   answered = answered_after news p;
   una = acknowledged_after news p;
+  timestamping = timestamping_after news p;
 }
 
 -- the connection where the news have come, before the north wrapper's turn
@@ -95,6 +98,7 @@ south_ends service server boot news p q sent n reads c h l tell read few =
     let fin : c.south.fin ≡ q.fin = ap (λ (s : SouthState). s.fin) h.south ∙ sym l.fin in
     let answered : c.south.answered ≡ q.answered = ap (λ (s : SouthState). s.answered) h.south ∙ sym l.answered in
     let una : c.south.una ≡ q.una = ap (λ (s : SouthState). s.una) h.south ∙ sym l.una in
+    let timestamping : c.south.timestamping ≡ q.timestamping = ap (λ (s : SouthState). s.timestamping) h.south ∙ sym l.timestamping in
     λ j. record {
       cisn = cisn j;
       sisn = sisn j;
@@ -107,6 +111,7 @@ south_ends service server boot news p q sent n reads c h l tell read few =
       read = read j;
       una = una j;
       sent = units j;
+      timestamping = timestamping j;
     }
 
 -- a segment of the connection itself, as a function of what it is made of
@@ -122,6 +127,7 @@ own local key s seq flags mss = record {
     flags = flags;
     window = window s;
     mss = mss;
+    timestamps = timestamps_sent s.timestamping;
   };
   payload = [];
 }

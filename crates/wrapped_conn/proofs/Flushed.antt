@@ -21,8 +21,9 @@ use Rattle.ft_io.proofs.Booleans.{left_true, right_true}
 use Rattle.seq_arith.proofs.Units.{one_at_most}
 
 -- what a flush leaves of the sending half
-record Leaves (s t : Sending) : Type 0 where
+pub record Leaves (s t : Sending) : Type 0 where
   pub iss : t.iss ≡ s.iss
+  pub mss : t.mss ≡ s.mss
   pub una : t.una ≡ s.una
   pub held : t.held ≡ s.held
   pub closed : t.closed ≡ s.closed
@@ -30,13 +31,13 @@ record Leaves (s t : Sending) : Type 0 where
   pub fin_last : (s.fin_sent ≡ true → s.closed ≡ true) → t.fin_sent ≡ true → t.closed ≡ true
 
 as_before : (s : Sending) → Leaves s s
-as_before s = record { iss = refl; una = refl; held = refl; closed = refl; sent = omega arith; fin_last = λ h. h }
+as_before s = record { iss = refl; mss = refl; una = refl; held = refl; closed = refl; sent = omega arith; fin_last = λ h. h }
 
 more_sent : (s : Sending) (n : ℕ) → Leaves s (with_sent s n)
-more_sent s n = record { iss = refl; una = refl; held = refl; closed = refl; sent = omega arith; fin_last = λ h. h }
+more_sent s n = record { iss = refl; mss = refl; una = refl; held = refl; closed = refl; sent = omega arith; fin_last = λ h. h }
 
 fin_more : (s : Sending) → s.closed ≡ true → Leaves s (with_fin_sent s)
-fin_more s c = record { iss = refl; una = refl; held = refl; closed = refl; sent = omega arith; fin_last = λ h k. c }
+fin_more s c = record { iss = refl; mss = refl; una = refl; held = refl; closed = refl; sent = omega arith; fin_last = λ h k. c }
 
 leaves_when : (b : Bool) (s x y : Sending) → (b ≡ true → Leaves s x) → (b ≡ false → Leaves s y) → Leaves s (if b then x else y)
 leaves_when true s x y p q = p refl
@@ -45,6 +46,7 @@ leaves_when false s x y p q = q refl
 on_and : (s t u : Sending) → Leaves s t → Leaves t u → Leaves s u
 on_and s t u p q = record {
   iss = q.iss ∙ p.iss;
+  mss = q.mss ∙ p.mss;
   una = q.una ∙ p.una;
   held = q.held ∙ p.held;
   closed = q.closed ∙ p.closed;
@@ -53,7 +55,7 @@ on_and s t u p q = record {
 }
 
 -- a FIN goes out only of a user who has closed
-probe_leaves : (e : Tcb) → Leaves e.sending (with_probe e).sending
+pub probe_leaves : (e : Tcb) → Leaves e.sending (with_probe e).sending
 unfolding with_probe
 probe_leaves e =
     leaves_when (probes_text e) e.sending _ _ (λ h. more_sent e.sending 1)
@@ -74,12 +76,12 @@ fin_leaves e =
 timed_leaves : (runs : Bool) (s : Sending) → Leaves s (timed runs s)
 timed_leaves runs s =
     leaves_when runs s _ _
-    (λ h. leaves_when (s.rest == 0) s _ _ (λ k. record { iss = refl; una = refl; held = refl; closed = refl; sent = omega arith; fin_last = λ f. f }) (λ k. as_before s))
-    (λ h. record { iss = refl; una = refl; held = refl; closed = refl; sent = omega arith; fin_last = λ f. f })
+    (λ h. leaves_when (s.rest == 0) s _ _ (λ k. record { iss = refl; mss = refl; una = refl; held = refl; closed = refl; sent = omega arith; fin_last = λ f. f }) (λ k. as_before s))
+    (λ h. record { iss = refl; mss = refl; una = refl; held = refl; closed = refl; sent = omega arith; fin_last = λ f. f })
 
 unit_leaves : (place : ℕ) (e : Tcb) → Leaves e.sending (with_timed place e).sending
 unfolding with_timed
-unit_leaves place e = record { iss = refl; una = refl; held = refl; closed = refl; sent = omega arith; fin_last = λ h. h }
+unit_leaves place e = record { iss = refl; mss = refl; una = refl; held = refl; closed = refl; sent = omega arith; fin_last = λ h. h }
 
 flush_leaves : (e : Tcb) → Leaves e.sending (flushed e).sending
 unfolding flushed with_turn_ended with_advertised after_full
@@ -114,6 +116,7 @@ flush_goes e s =
       limit = ap (λ (r : Receiving). r.limit) same.1;
       more = subst (λ r. length e.receiving.unread ≤ length r.unread) (sym same.1) (omega arith);
       iss = l.iss;
+      mss = l.mss;
       closed = l.closed;
       sent = l.sent;
       held = λ o. omega (arith, l.una, ap length l.held);
@@ -123,8 +126,8 @@ flush_goes e s =
 ticked_leaves : (s : Sending) → Leaves s (ticked s)
 ticked_leaves s =
     leaves_when (expires s) s _ _
-    (λ h. record { iss = refl; una = refl; held = refl; closed = refl; sent = omega arith; fin_last = λ f. f })
-    (λ h. record { iss = refl; una = refl; held = refl; closed = refl; sent = omega arith; fin_last = λ f. f })
+    (λ h. record { iss = refl; mss = refl; una = refl; held = refl; closed = refl; sent = omega arith; fin_last = λ f. f })
+    (λ h. record { iss = refl; mss = refl; una = refl; held = refl; closed = refl; sent = omega arith; fin_last = λ f. f })
 
 waited_name : (b : Bool) (name : StateName) → has_peer name ≡ true → has_peer (if b then Closed else name) ≡ true
 waited_name true name h = refl
@@ -145,6 +148,7 @@ tick_goes e s =
       limit = refl;
       more = omega arith;
       iss = l.iss;
+      mss = l.mss;
       closed = l.closed;
       sent = l.sent;
       held = λ o. omega (arith, l.una, ap length l.held);
@@ -188,4 +192,5 @@ sound_again c s =
       begins = f.begins;
       sent = omega (arith, sent_is (with_endpoint_flushed c) f);
       answered = f.answered;
+      roomy = f.roomy;
     }

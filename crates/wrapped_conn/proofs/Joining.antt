@@ -1,6 +1,7 @@
 -- How a connection begins: by its client's SYN, or at the point of its entry.
+use Rattle.tcp_rules.specs.declared.timestamping.Timestamping.{Timestamping}
 use Rattle.std.proofs.Common.{◌≡◌, ℕ, ◌<◌, ◌≤◌, ◌+◌, ◌-◌, ◌%◌, ◌^◌, Bool, true, false, Some, List, [], length, min, refl, sym, ap, subst, arith, ◌∙◌}
-use Rattle.std.specs.Prelude.{nat_lt, pos, negsuc, if◌then◌else◌}
+use Rattle.std.specs.Prelude.{nat_lt, pos, negsuc, if◌then◌else◌, None}
 use Rattle.ft_io.specs.declared.Addr.{Addr}
 use Rattle.ft_io.specs.declared.Key.{Key}
 use Rattle.tcp_rules.specs.Profile.{Profile}
@@ -19,7 +20,6 @@ use Rattle.north_wrap.specs.declared.read_record.ReadRecord.{ReadRecord}
 use Rattle.north_wrap.specs.NorthState.{NorthState, lengths_of, fresh_north, Turns as NorthTurns}
 use Rattle.north_wrap.specs.Refinement.{HasReplayed}
 use Rattle.north_wrap.proofs.Offline.{begins_here}
-use Rattle.south_wrap.specs.SouthState.{first_south}
 use Rattle.south_wrap.specs.SouthPoint.{south_at}
 use Rattle.tcp_endpoint.specs.Arrival.{received, in_listen, begun}
 use Rattle.tcp_endpoint.specs.Tcb.{Tcb, listening, listening_measuring}
@@ -32,7 +32,7 @@ use Rattle.connection_laws.proofs.Spliced.{splices_parts}
 use Rattle.connection_laws.proofs.NewParts.{starts_together}
 use Rattle.connection_laws.proofs.PointNumbers.{parts_tell}
 use Rattle.wrapped_conn.specs.ConnState.{ConnState}
-use Rattle.wrapped_conn.specs.NewConnection.{joined_conn_in, syn, first_conn_in}
+use Rattle.wrapped_conn.specs.NewConnection.{joined_conn_in, south_opened, syn, first_conn_in}
 use Rattle.connection_laws.specs.OutputFeed.{tcp_reader, tcp_writer}
 use Rattle.wrapped_conn.specs.Numbers.{has_fin, una_units}
 use Rattle.wrapped_conn.specs.Turn.{Starts, new_reads, tcp_used}
@@ -44,9 +44,9 @@ use Rattle.wrapped_conn.proofs.Hearing.{begins_with}
 use Rattle.wrapped_conn.proofs.Begun.{nothing_fetched}
 
 -- a fresh service stands at the opened point
-fresh_replayed : {S : Type 0} (service : Machine S) (profile : Profile) (numbers : Numbers) → HasReplayed service (point_opened profile numbers) 0 (fresh_north service.fresh service.greeting)
+fresh_replayed : {S : Type 0} (service : Machine S) (profile : Profile) (timestamping : Timestamping) (numbers : Numbers) → HasReplayed service (point_opened profile timestamping numbers) 0 (fresh_north service.fresh service.greeting)
 unfolding reference
-fresh_replayed service profile numbers = record {
+fresh_replayed service profile timestamping numbers = record {
   run = record { service = refl; closed = refl; made = refl; pending = refl; within = omega arith };
   rest = refl;
   last = (refl, refl);
@@ -76,6 +76,7 @@ syn_is local numbers h = λ j. record {
     flags = 2;
     window = 0;
     mss = Some numbers.mss;
+    timestamps = None;
   };
   payload = [];
 }
@@ -92,22 +93,22 @@ none_before sisn fits =
     λ j. from_start (if nat_lt (d j) (2 ^ 31) then pos (d j) else negsuc (2 ^ 32 - 1 - d j))
 
 -- the connection with the SYN, out of its parts
-abbrev new_conn : {S : Type 0} → Profile → (boot : ℕ) → Addr → Numbers → S → (greeting : List ℕ) → ConnState S
-new_conn profile boot local numbers service greeting =
-    joined_conn_in profile boot numbers.key local (first_south numbers.cisn numbers.sisn) (received (listening_measuring profile.measures local numbers.sisn (2 ^ 24)) (syn numbers.key local numbers.cisn numbers.mss)) (fresh_north service greeting)
+abbrev new_conn : {S : Type 0} → Profile → Timestamping → (boot : ℕ) → Addr → Numbers → S → (greeting : List ℕ) → ConnState S
+new_conn profile timestamping boot local numbers service greeting =
+    joined_conn_in profile boot numbers.key local (south_opened timestamping numbers.cisn numbers.sisn numbers.mss) (received (listening_measuring profile.measures local numbers.sisn (2 ^ 24)) (syn numbers.key local numbers.cisn numbers.mss)) (fresh_north service greeting)
 
-new_una : {S : Type 0} (profile : Profile) (boot : ℕ) (local : Addr) (numbers : Numbers) (service : S) (greeting : List ℕ) → numbers.sisn < 2 ^ 32
-    → una_units (new_conn profile boot local numbers service greeting) ≡ 0
-new_una profile boot local numbers service greeting fits =
+new_una : {S : Type 0} (profile : Profile) (timestamping : Timestamping) (boot : ℕ) (local : Addr) (numbers : Numbers) (service : S) (greeting : List ℕ) → numbers.sisn < 2 ^ 32
+    → una_units (new_conn profile timestamping boot local numbers service greeting) ≡ 0
+new_una profile timestamping boot local numbers service greeting fits =
     (λ j. min (from_start (offset_of numbers.sisn ((unacked profile.measures numbers.key local numbers.cisn numbers.sisn numbers.mss j + 0) % 2 ^ 32))) (2 ^ 24 + 1))
     ∙ (λ j. min (none_before numbers.sisn fits j) (2 ^ 24 + 1))
 
-new_keeps : {S : Type 0} (profile : Profile) (boot : ℕ) (local : Addr) (numbers : Numbers) (service : S) (greeting : List ℕ)
-    → Keeps (point_opened profile numbers) (new_conn profile boot local numbers service greeting)
-new_keeps profile boot local numbers service greeting = record {
+new_keeps : {S : Type 0} (profile : Profile) (timestamping : Timestamping) (boot : ℕ) (local : Addr) (numbers : Numbers) (service : S) (greeting : List ℕ)
+    → Keeps (point_opened profile timestamping numbers) (new_conn profile timestamping boot local numbers service greeting)
+new_keeps profile timestamping boot local numbers service greeting = record {
   key = refl;
   south = refl;
-  fetched = nothing_fetched numbers.cisn (one_if (has_fin (new_conn profile boot local numbers service greeting).endpoint.name));
+  fetched = nothing_fetched numbers.cisn (one_if (has_fin (new_conn profile timestamping boot local numbers service greeting).endpoint.name));
   end_ticks = refl;
   four = omega arith;
   reset = refl;
@@ -120,22 +121,22 @@ pub listening_local : (measures : Bool) (local : Addr) (iss limit : ℕ) → (li
 unfolding listening_measuring listening
 listening_local measures local iss limit = refl
 
-pub new_starts : {S : Type 0} (service : Machine S) (profile : Profile) (boot : ℕ) (local : Addr) (numbers : Numbers) (new : ConnState S) (out messages : List (List ℕ)) → MayOpen numbers → IsSound new
-    → Starts service.after (first_conn_in profile boot numbers.key local numbers.cisn numbers.sisn numbers.mss service.fresh service.greeting) new out messages
-    → Leads service local boot Begins (point_opened profile numbers) new out messages
+pub new_starts : {S : Type 0} (service : Machine S) (profile : Profile) (timestamping : Timestamping) (boot : ℕ) (local : Addr) (numbers : Numbers) (new : ConnState S) (out messages : List (List ℕ)) → MayOpen numbers → IsSound new
+    → Starts service.after (first_conn_in profile timestamping boot numbers.key local numbers.cisn numbers.sisn numbers.mss service.fresh service.greeting) new out messages
+    → Leads service local boot Begins (point_opened profile timestamping numbers) new out messages
 unfolding first_conn_in
-new_starts service profile boot local numbers new out messages may sound k =
-    let c : ConnState _ = new_conn profile boot local numbers service.fresh service.greeting in
-    let p : Point = point_opened profile numbers in
+new_starts service profile timestamping boot local numbers new out messages may sound k =
+    let c : ConnState _ = new_conn profile timestamping boot local numbers service.fresh service.greeting in
+    let p : Point = point_opened profile timestamping numbers in
     let reads : List ReadRecord = new_reads c new in
     let t : Tcb = tcp_used c reads in
-    let una : una_units c ≡ 0 = new_una profile boot local numbers service.fresh service.greeting may.sisn in
+    let una : una_units c ≡ 0 = new_una profile timestamping boot local numbers service.fresh service.greeting may.sisn in
     let turns : NorthTurns service.after tcp_reader tcp_writer 0 c.north (received (listens_with profile.measures local numbers) (opened_syn local numbers)) reads new.north t =
     subst (λ (s : Segment). NorthTurns service.after tcp_reader tcp_writer 0 c.north (received (listens_with profile.measures local numbers) s) reads new.north t) (syn_is local numbers may.cisn)
     (subst (λ n. NorthTurns service.after tcp_reader tcp_writer n c.north c.endpoint reads new.north t) una k.north) in
     let turn : PartsTurn service local boot 0 numbers.sisn 0 Begins p (lengths_of reads) new.north t =
-    starts_together service profile boot local numbers c.north new.north reads t may (begins_here service p 0 c.north (fresh_replayed service profile numbers)) refl turns sound.parts.made in
-    begins_with service 0 numbers.sisn p c new out messages (new_keeps profile boot local numbers service.fresh service.greeting)
+    starts_together service profile timestamping boot local numbers c.north new.north reads t may (begins_here service p 0 c.north (fresh_replayed service profile timestamping numbers)) refl turns sound.parts.made in
+    begins_with service 0 numbers.sisn p c new out messages (new_keeps profile timestamping boot local numbers service.fresh service.greeting)
     (received_local (listening_measuring profile.measures local numbers.sisn (2 ^ 24)) (syn numbers.key local numbers.cisn numbers.mss) ∙ listening_local profile.measures local numbers.sisn (2 ^ 24)) refl sound.parts.made turn k
 
 -- at the entry

@@ -31,12 +31,13 @@ pub record GoesOnFrom (e t : Tcb) : Type 0 where
   pub limit : t.receiving.limit ≡ e.receiving.limit
   pub more : length e.receiving.unread ≤ length t.receiving.unread
   pub iss : t.sending.iss ≡ e.sending.iss
+  pub mss : t.sending.mss ≡ e.sending.mss
   pub closed : t.sending.closed ≡ e.sending.closed
   pub sent : e.sending.sent ≤ t.sending.sent
   pub held : e.sending.closed ≡ false → t.sending.una + length t.sending.held ≤ e.sending.una + length e.sending.held
 
 pub stays : (e : Tcb) → IsSoundTcp e → GoesOnFrom e e
-stays e s = record { sound = s; read = refl; limit = refl; more = omega arith; iss = refl; closed = refl; sent = omega arith; held = λ h. omega arith }
+stays e s = record { sound = s; read = refl; limit = refl; more = omega arith; iss = refl; mss = refl; closed = refl; sent = omega arith; held = λ h. omega arith }
 
 pub goes_if : (b : Bool) (e x y : Tcb) → GoesOnFrom e x → GoesOnFrom e y → GoesOnFrom e (if b then x else y)
 goes_if true e x y p q = p
@@ -218,9 +219,9 @@ held_stays s seq window z order flight = omega (arith, held_field s.una s.sent z
 
 -- and what an acknowledgement doesn't touch
 pub kept_fields : (s : Sending) (seq window : ℕ) (z : ℤ) → ((acknowledged s seq z window).iss ≡ s.iss) × ((acknowledged s seq z window).closed ≡ s.closed)
-    × ((acknowledged s seq z window).fin_sent ≡ s.fin_sent) × ((acknowledged s seq z window).sent ≡ s.sent)
+    × ((acknowledged s seq z window).fin_sent ≡ s.fin_sent) × ((acknowledged s seq z window).sent ≡ s.sent) × ((acknowledged s seq z window).mss ≡ s.mss)
 unfolding acknowledged
-kept_fields s seq window z = (refl, refl, refl, refl)
+kept_fields s seq window z = (refl, refl, refl, refl, refl)
 
 -- the first acknowledgement
 pub first_bounds : (r : Receiving) (s : Sending) (seq window : ℕ) → Bounds r s → IsNearFirst (offset_of r.irs seq) → seq < 2 ^ 32 → window ≤ 65535 → s.syn_acked ≡ false

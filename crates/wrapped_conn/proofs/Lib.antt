@@ -25,6 +25,8 @@ pub mod Datas
 pub mod Batches
 pub mod ResetTurn
 pub mod Receiving
+pub mod RoomLeft
+pub mod Stamping
 pub mod Hearing
 pub mod Ticking
 pub mod Joining

@@ -26,12 +26,13 @@ use Rattle.connection_laws.proofs.Fed.{room_none}
 pub record ServedOn {S : Type 0} (fetched : ℕ) (n : NorthState S) (e : Tcb) (m : NorthState S) (t : Tcb) : Type 0 where
   pub sound : AreSound fetched m t
   pub iss : t.sending.iss ≡ e.sending.iss
+  pub mss : t.sending.mss ≡ e.sending.mss
   pub sent : t.sending.sent ≡ e.sending.sent
   pub bytes : max fetched m.read + length t.receiving.unread ≡ max fetched n.read + length e.receiving.unread
   pub rises : n.read ≤ m.read
 
 on_and : {S : Type 0} (fetched : ℕ) (n : NorthState S) (e : Tcb) (m : NorthState S) (t : Tcb) (o : NorthState S) (u : Tcb) → ServedOn fetched n e m t → ServedOn fetched m t o u → ServedOn fetched n e o u
-on_and fetched n e m t o u a b = record { sound = b.sound; iss = b.iss ∙ a.iss; sent = b.sent ∙ a.sent; bytes = b.bytes ∙ a.bytes; rises = omega (arith, a.rises, b.rises) }
+on_and fetched n e m t o u a b = record { sound = b.sound; iss = b.iss ∙ a.iss; mss = b.mss ∙ a.mss; sent = b.sent ∙ a.sent; bytes = b.bytes ∙ a.bytes; rises = omega (arith, a.rises, b.rises) }
 
 -- what is known of a next read
 ends_once : (a b : Bool) → (a && not b) ≡ true → b ≡ false
@@ -124,6 +125,7 @@ rest_step fetched k n e run s r a none =
         });
       };
       iss = refl;
+      mss = refl;
       sent = refl;
       bytes = omega (arith, s.read, s.rest, few);
       rises = omega arith;
@@ -160,6 +162,7 @@ tcp_step fetched k n e run s r a none =
         });
       };
       iss = refl;
+      mss = refl;
       sent = refl;
       bytes = omega (arith, s.read, s.rest, none, unread, there);
       rises = omega arith;
@@ -185,7 +188,7 @@ read_step after una fetched k n e short s next =
 all_reads : {S : Type 0} (after : S → List ℕ → Served S) (una fetched : ℕ) (n : NorthState S) (e : Tcb) (ks : List ℕ) (m : NorthState S) (t : Tcb)
     → ((s : S) (c : List ℕ) → length c ≤ 2048 → length (after s c).output ≤ 2 ^ 20) → AreSound fetched n e → Reads after tcp_reader una n e ks m t → ServedOn fetched n e m t
 all_reads after una fetched n e [] m t short s reads =
-    subst (λ x. ServedOn fetched n e x t) (sym reads.1) (subst (λ x. ServedOn fetched n e n x) (sym reads.2) (record { sound = s; iss = refl; sent = refl; bytes = refl; rises = omega arith }))
+    subst (λ x. ServedOn fetched n e x t) (sym reads.1) (subst (λ x. ServedOn fetched n e n x) (sym reads.2) (record { sound = s; iss = refl; mss = refl; sent = refl; bytes = refl; rises = omega arith }))
 all_reads after una fetched n e (k ∷ ks) m t short s reads =
     let one = read_step after una fetched k n e short s reads.0 in
     on_and fetched n e _ _ m t one (all_reads after una fetched (read_on after e.receiving.unread k n) (socket_on tcp_reader k n e) ks m t short one.sound reads.1)
@@ -262,6 +265,7 @@ shut_on fetched n e s = holds_if (λ t. ServedOn fetched n e (shut_north n) t) (
         tellable = s.tellable;
       };
       iss = refl;
+      mss = refl;
       sent = refl;
       bytes = refl;
       rises = omega arith;
@@ -269,6 +273,7 @@ shut_on fetched n e s = holds_if (λ t. ServedOn fetched n e (shut_north n) t) (
     (λ h. record {
       sound = record { tcp = s.tcp; limit = s.limit; read = s.read; rest = s.rest; made = s.made; written = s.written; count = s.count; tellable = s.tellable };
       iss = refl;
+      mss = refl;
       sent = refl;
       bytes = refl;
       rises = omega arith;
@@ -281,7 +286,7 @@ turn_serves after una fetched n e news m t short s turn =
     let given : AreSound fetched (given_north tcp_writer n e) (given_socket tcp_writer n e) = given_on fetched n e s in
     let shut = shut_on fetched (given_north tcp_writer n e) (given_socket tcp_writer n e) given in
     let read = all_reads after una fetched _ _ (lengths_of news) m t short shut.sound turn.reads in
-    record { sound = read.sound; iss = read.iss ∙ shut.iss; sent = read.sent ∙ shut.sent; bytes = read.bytes ∙ shut.bytes; rises = omega (arith, read.rises, shut.rises) }
+    record { sound = read.sound; iss = read.iss ∙ shut.iss; mss = read.mss ∙ shut.mss; sent = read.sent ∙ shut.sent; bytes = read.bytes ∙ shut.bytes; rises = omega (arith, read.rises, shut.rises) }
 
 -- the new reads are among those that aren't known to be logged
 all_behind : (P : ReadRecord → Type 0) (xs ys : List ReadRecord) → AllByRecursion P (xs ++ ys) → AllByRecursion P ys

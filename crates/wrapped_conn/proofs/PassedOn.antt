@@ -1,14 +1,16 @@
 -- The packets of a turn, of which the first so many have gone through the south wrapper.
 use Rattle.std.proofs.Common.{◌≡◌, ℕ, zero, suc, ◌+◌, Bool, true, false, true≢false, not, refl, sym, ap, ◌∙◌, arith, List, [], ◌∷◌, length, drop, Some, if◌then◌else◌}
-use Rattle.std.specs.Prelude.{◌||◌, map, slice_get, Ok, IfOk}
+use Rattle.std.specs.Prelude.{◌||◌, None, map, slice_get, Ok, IfOk}
 use Rattle.std.specs.List.{list_any}
+use Rattle.std.specs.Option.{option_or}
 use Rattle.std.proofs.Math.ListN.{set}
 use Rattle.std.proofs.lemmas.Result.{IfOk-at_ok}
-use Rattle.seq_arith.specs.Packet.{Segment, has_rst}
+use Rattle.seq_arith.specs.Packet.{Segment, has_rst, with_timestamps}
 use Rattle.seq_arith.specs.PacketGrammar.{reading, spelling}
 use Rattle.ft_model.proofs.Lists.{some_is, none_is_some}
 use Rattle.south_wrap.specs.SouthState.{SouthState}
-use Rattle.south_wrap.specs.Translation.{outward, passed_out}
+use Rattle.south_wrap.specs.Translation.{outward, passed_out, patched}
+use Rattle.tcp_rules.specs.Timestamping.{timestamps_sent}
 use Rattle.tcp_endpoint.specs.Output.{packets}
 use Rattle.tcp_endpoint.specs.Packets.{AreReadable, byte_count}
 use Rattle.wrapped_conn.specs.Output.{passed}
@@ -42,34 +44,38 @@ not_false false e = e
 answer_at : (s : SouthState) (old packet : List ℕ) (answer : Bool) (segment : Segment) → Passes s old packet answer → old ≡ spelling segment → reading (spelling segment) ≡ Ok segment → answer ≡ not (has_rst segment)
 answer_at s old packet answer segment p is read = IfOk-at_ok (λ x. answer ≡ not (has_rst x)) (ap reading is ∙ read) p.answered
 
-one_on : (s : SouthState) (old packet : List ℕ) (segment : Segment) → Passes s old packet true → old ≡ spelling segment → reading (spelling segment) ≡ Ok segment
-    → (packet ≡ spelling (outward s segment)) × (has_rst segment ≡ false)
-one_on s old packet segment p is read =
-    let kept : has_rst segment ≡ false = not_true (has_rst segment) (answer_at s old packet true segment p is read) in
-    (p.canonical segment (ap reading is ∙ read) is ∙ ap spelling (off_if (has_rst segment) segment (outward s segment) kept), kept)
+-- where the connection's segments carry no timestamps, patching is all
+patched_is : (s : SouthState) (segment : Segment) → timestamps_sent s.timestamping ≡ None → patched s segment ≡ outward s segment
+patched_is s segment off = λ j. with_timestamps (option_or (sym off j) segment.head.timestamps) (patched s segment)
 
-pub goes_on : (s : SouthState) (i : ℕ) (segments : List Segment) (out : List (List ℕ)) (old packet : List ℕ) → IsPassedOn s i segments out → AreReadable segments
-    → slice_get out i ≡ Some old → Passes s old packet true → IsPassedOn s (suc i) segments (set out i packet)
+one_on : (s : SouthState) (old packet : List ℕ) (segment : Segment) → timestamps_sent s.timestamping ≡ None → Passes s old packet true → old ≡ spelling segment
+    → reading (spelling segment) ≡ Ok segment → (packet ≡ spelling (outward s segment)) × (has_rst segment ≡ false)
+one_on s old packet segment off p is read =
+    let kept : has_rst segment ≡ false = not_true (has_rst segment) (answer_at s old packet true segment p is read) in
+    (p.canonical segment (ap reading is ∙ read) is ∙ ap spelling (off_if (has_rst segment) segment (patched s segment) kept ∙ patched_is s segment off), kept)
+
+pub goes_on : (s : SouthState) (i : ℕ) (segments : List Segment) (out : List (List ℕ)) (old packet : List ℕ) → timestamps_sent s.timestamping ≡ None
+    → IsPassedOn s i segments out → AreReadable segments → slice_get out i ≡ Some old → Passes s old packet true → IsPassedOn s (suc i) segments (set out i packet)
 unfolding packets
-goes_on s zero [] [] old packet h all get p = none_is_some old get
-goes_on s zero [] (x ∷ out) old packet h all get p = absurd (true≢false (ap (λ l. is_cons l) h))
+goes_on s zero [] [] old packet off h all get p = none_is_some old get
+goes_on s zero [] (x ∷ out) old packet off h all get p = absurd (true≢false (ap (λ l. is_cons l) h))
   where
     is_cons : List (List ℕ) → Bool
     is_cons [] = false
     is_cons (x ∷ xs) = true
-goes_on s zero (segment ∷ segments) [] old packet h all get p = none_is_some old get
-goes_on s zero (segment ∷ segments) (x ∷ out) old packet h all get p =
+goes_on s zero (segment ∷ segments) [] old packet off h all get p = none_is_some old get
+goes_on s zero (segment ∷ segments) (x ∷ out) old packet off h all get p =
     let both = heads x (spelling segment) out (packets segments) h in
-    let one = one_on s old packet segment p (sym (some_is x old get) ∙ both.0) all.0 in
+    let one = one_on s old packet segment off p (sym (some_is x old get) ∙ both.0) all.0 in
     (one.0, one.1, both.1)
-goes_on s (suc i) [] [] old packet h all get p = none_is_some old get
-goes_on s (suc i) [] (x ∷ out) old packet h all get p = absurd (true≢false (ap (λ l. is_cons l) h))
+goes_on s (suc i) [] [] old packet off h all get p = none_is_some old get
+goes_on s (suc i) [] (x ∷ out) old packet off h all get p = absurd (true≢false (ap (λ l. is_cons l) h))
   where
     is_cons : List (List ℕ) → Bool
     is_cons [] = false
     is_cons (x ∷ xs) = true
-goes_on s (suc i) (segment ∷ segments) [] old packet h all get p = h
-goes_on s (suc i) (segment ∷ segments) (x ∷ out) old packet h all get p = (h.0, h.1, goes_on s i segments out old packet h.2 all.1 get p)
+goes_on s (suc i) (segment ∷ segments) [] old packet off h all get p = h
+goes_on s (suc i) (segment ∷ segments) (x ∷ out) old packet off h all get p = (h.0, h.1, goes_on s i segments out old packet off h.2 all.1 get p)
 
 -- all have gone through
 pub ends : (s : SouthState) (i : ℕ) (segments : List Segment) (out : List (List ℕ)) → IsPassedOn s i segments out → i ≡ length segments

@@ -15,10 +15,13 @@ use Rattle.ft_model.specs.News.News.{Comes, Begins}
 use Rattle.ft_model.specs.PendingAck.{is_ack_due, is_delayed as is_delayed_by_law, needs_ack as needs_ack_by_law}
 use Rattle.ft_model.specs.Point.{Point, taken_units, advertised_edge, is_over}
 use Rattle.ft_model.specs.Sending.{acknowledged_after}
+use Rattle.ft_model.specs.Taken.{accepts}
+use Rattle.ft_model.specs.Timestamps.{is_timely as timely_by_law}
+use Rattle.tcp_rules.specs.Timestamping.{echo_after}
 use Rattle.north_wrap.specs.declared.read_record.ReadRecord.{ReadRecord}
 use Rattle.north_wrap.specs.NorthState.{lengths_of, Turns as NorthTurns}
 use Rattle.south_wrap.specs.SouthState.{SouthState}
-use Rattle.south_wrap.specs.Translation.{repeats_syn, inward}
+use Rattle.south_wrap.specs.Translation.{repeats_syn, inward, is_timely}
 use Rattle.south_wrap.specs.SouthPoint.{south_at}
 use Rattle.tcp_endpoint.specs.Arrival.{received}
 use Rattle.tcp_endpoint.specs.Output.{flushed, packets}
@@ -35,7 +38,7 @@ use Rattle.endpoint_laws.proofs.EndingLaw.{flushed_name}
 use Rattle.wrapped_conn.specs.ConnState.{ConnState}
 use Rattle.connection_laws.specs.OutputFeed.{tcp_reader, tcp_writer}
 use Rattle.wrapped_conn.specs.Numbers.{una_units, logged_units, resets, needs_ack}
-use Rattle.wrapped_conn.specs.Arrival.{arrived, reached, noted, before_segment}
+use Rattle.wrapped_conn.specs.Arrival.{arrived, reached, noted, stamped, before_segment}
 use Rattle.wrapped_conn.specs.Output.{is_ack_pending, is_delayed, tcp_out, leaves, turn_ended}
 use Rattle.wrapped_conn.specs.LoggerMessages.{copies, spelled}
 use Rattle.wrapped_conn.specs.Turn.{CompletesTurn, Rests, TellsDone, Receives, served, tcp_used, new_reads}
@@ -59,10 +62,11 @@ reached_by : {S : Type 0} (b : Bool) (s : SouthState) (segment : Segment) (c : C
 reached_by true s segment c = refl
 reached_by false s segment c = refl
 
-reached_is : {S : Type 0} (segment : Segment) (p : Point) (c : ConnState S) → c.south ≡ south_at c.south.delta p → reached segment c ≡ record c { endpoint = tcp_reached segment p c }
+reached_is : {S : Type 0} (segment : Segment) (p : Point) (c : ConnState S) → c.south ≡ south_at c.south.delta p
+    → reached segment (stamped segment c) ≡ record (stamped segment c) { endpoint = tcp_reached segment p c }
 reached_is segment p c south =
-    reached_by (repeats_syn c.south segment) c.south segment c
-    ∙ (λ j. record c { endpoint = endpoint.arrived (if repeats_syn (south j) segment then Begins else Comes (inward (south j) segment)) c.endpoint })
+    reached_by (repeats_syn c.south segment) c.south segment (stamped segment c)
+    ∙ (λ j. record (stamped segment c) { endpoint = endpoint.arrived (if repeats_syn (south j) segment then Begins else Comes (inward (south j) segment)) c.endpoint })
 
 arrived_local : (b : Bool) (segment : Segment) (e : Tcb) → (endpoint.arrived (if b then Begins else Comes segment) e).local ≡ e.local
 arrived_local true segment e = refl
@@ -76,20 +80,28 @@ reset_is service p c segment n cisn unreset =
 
 -- where the segment has come
 abbrev come : {S : Type 0} → Segment → Point → ConnState S → ConnState S
-come segment p c = noted (record c { endpoint = tcp_reached segment p c })
+come segment p c = noted (record (stamped segment c) { endpoint = tcp_reached segment p c })
+
+-- its value counts for the wrapper where it does for the law
+timely_is : (delta : ℕ) (p : Point) (segment : Segment) → is_timely (south_at delta p) segment ≡ timely_by_law p segment
+unfolding timely_by_law accepts
+timely_is delta p segment = refl
 
 has_come : {S : Type 0} (service : Machine S) (p : Point) (c : ConnState S) (segment : Segment) → Keeps p c → StandsLive service p c → p.reset ≡ false
     → NewsTell c.south.delta (Comes segment) p c.north (tcp_reached segment p c) → c.north.run.made ≤ 2 ^ 24 → HasNews (Comes segment) p (come segment p c)
 unfolding answered_after
 has_come service p c segment keeps live unreset tell made =
     let m : Tcb = tcp_reached segment p c in
-    let there : ConnState _ = record c { endpoint = m } in
+    let there : ConnState _ = record (stamped segment c) { endpoint = m } in
     record {
       key = keeps.key;
       south = λ j. record (keeps.south j) {
         taken = ((λ k. max (keeps.fetched k) c.north.read + length m.receiving.unread) ∙ sym tell.taken) j;
         fin = (has_fin_is m.name ∙ sym tell.fin) j;
         una = news_una_is (Comes segment) p there tell (ap (λ (s : SouthState). s.sisn) keeps.south) made j;
+        timestamping =
+            ((λ k. echo_after (keeps.south k).timestamping (is_timely (keeps.south k) segment) segment.head.timestamps)
+            ∙ ap (λ b. echo_after p.timestamping b segment.head.timestamps) (timely_is c.south.delta p segment)) j;
       };
       fetched = keeps.fetched;
       end_ticks = keeps.end_ticks;
@@ -136,7 +148,7 @@ live_turn service p c new segment out messages sound sound_new keeps live unrese
     let sisn : c.south.sisn ≡ p.sisn = ap (λ (s : SouthState). s.sisn) keeps.south in
     let cisn : c.south.cisn ≡ p.cisn = ap (λ (s : SouthState). s.cisn) keeps.south in
     let h : HasNews news p there = has_come service p c segment keeps live unreset told made in
-    let una : una_units there ≡ acknowledged_after news p = news_una_is news p (record c { endpoint = tcp_reached segment p c }) told sisn made in
+    let una : una_units there ≡ acknowledged_after news p = news_una_is news p (record (stamped segment c) { endpoint = tcp_reached segment p c }) told sisn made in
     let turns : NorthTurns service.after tcp_reader tcp_writer (acknowledged_after news p) c.north (tcp_reached segment p c) reads new.north t =
     subst (λ n. NorthTurns service.after tcp_reader tcp_writer n c.north (tcp_reached segment p c) reads new.north t) una k.north in
     let turn : PartsTurn service c.endpoint.local c.boot live.u live.i c.south.delta news p (lengths_of reads) new.north t =

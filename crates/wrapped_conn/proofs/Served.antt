@@ -17,7 +17,7 @@ use Rattle.connection_laws.specs.OutputFeed.{tcp_reader, tcp_writer}
 use Rattle.wrapped_conn.specs.Calls.{reads_of, calls_of}
 use Rattle.wrapped_conn.specs.LoggerMessages.{AreTellable}
 use Rattle.wrapped_conn.specs.Turn.{tcp_used, served}
-use Rattle.wrapped_conn.specs.Sound.{IsSound, swallowed}
+use Rattle.wrapped_conn.specs.Sound.{IsSound, LeavesRoom, swallowed}
 use Rattle.wrapped_conn.proofs.NorthSoundness.{ServedOn, turn_serves, news_tellable}
 
 -- the endpoint after a turn of the north wrapper is that after its calls
@@ -71,6 +71,7 @@ served_sound after short c una news m t south s turn is =
       begins = omega (arith, same, s.begins);
       sent = omega (arith, same, s.sent, k.sent);
       answered = s.answered;
+      roomy = subst (λ n. LeavesRoom n c.south.timestamping) (sym k.mss) s.roomy;
     })
 
 pub north_is : {S : Type 0} (after : S → List ℕ → Served S) (c : ConnState S) (una : ℕ) (news : List ReadRecord) (m : NorthState S) (t : Tcb) → una ≡ una_units c

@@ -62,6 +62,7 @@ south_ends service p q c keeps l lengths tell few =
     let answered : c.south.answered ≡ q.answered = ap (λ (s : SouthState). s.answered) keeps.south ∙ sym l.answered in
     let read : c.south.read ≡ sum q.lengths = ap (λ (s : SouthState). s.read) keeps.south ∙ sym (ap sum (lengths ∙ append-nil p.lengths)) in
     let una : c.south.una ≡ q.una = ap (λ (s : SouthState). s.una) keeps.south ∙ sym l.una in
+    let timestamping : c.south.timestamping ≡ q.timestamping = ap (λ (s : SouthState). s.timestamping) keeps.south ∙ sym l.timestamping in
     λ j. record {
       cisn = cisn j;
       sisn = sisn j;
@@ -74,6 +75,7 @@ south_ends service p q c keeps l lengths tell few =
       read = read j;
       una = una j;
       sent = units j;
+      timestamping = timestamping j;
     }
 
 -- what leaves is what TCP sends

@@ -1,7 +1,7 @@
 -- What news does to a connection, before the north wrapper's turn.
 use Rattle.std.specs.Prelude.{Bool, ◌&&◌, not, if◌then◌else◌}
 use Rattle.seq_arith.specs.Packet.{Segment, has_rst}
-use Rattle.south_wrap.specs.Translation.{repeats_syn, inward}
+use Rattle.south_wrap.specs.Translation.{repeats_syn, inward, with_value_of}
 use Rattle.tcp_endpoint.specs.Arrival.{received}
 use Rattle.wrapped_conn.specs.declared.stage.Before.{Before}
 use Rattle.wrapped_conn.specs.ConnState.{ConnState}
@@ -41,5 +41,9 @@ noted c = record c { south = record c.south { taken = bytes_taken c; fin = has_f
 abbrev pub reached : {S : Type 0} → Segment → ConnState S → ConnState S
 reached segment c = if repeats_syn c.south segment then c else record c { endpoint = received c.endpoint (inward c.south segment) }
 
+-- first the south wrapper notes its timestamps
+abbrev pub stamped : {S : Type 0} → Segment → ConnState S → ConnState S
+stamped segment c = record c { south = with_value_of segment c.south }
+
 unfoldable pub arrived : {S : Type 0} → Segment → ConnState S → ConnState S
-arrived segment c = noted (reached segment c)
+arrived segment c = noted (reached segment (stamped segment c))

@@ -1,13 +1,15 @@
 -- The segments that a turn sends: TCP's, each through the south wrapper, and those that the connection adds.
-use Rattle.limits.specs.Limits.{largest_segment}
-use Rattle.std.specs.Prelude.{ℕ, Bool, ◌+◌, ◌-◌, ◌==◌, nat_lt, is_none, min, length, ◌&&◌, ◌||◌, not, Option, Some, None, List, [], ◌∷◌, ◌++◌, map}
+use Rattle.limits.specs.Limits.{largest_segment, longest_packet}
+use Rattle.std.specs.Prelude.{ℕ, Bool, ◌≤◌, ◌+◌, ◌-◌, ◌==◌, nat_lt, is_none, min, length, ◌&&◌, ◌||◌, not, Option, Some, None, List, [], ◌∷◌, ◌++◌, map}
 use Rattle.std.specs.Prelude.{if◌then◌else◌}
-use Rattle.std.specs.List.{list_any}
+use Rattle.std.specs.List.{AllByRecursion, list_any}
 use Rattle.seq_arith.specs.Number.{number_at}
 use Rattle.seq_arith.specs.Offset.{one_if}
 use Rattle.seq_arith.specs.Packet.{Segment, has_rst}
+use Rattle.seq_arith.specs.PacketGrammar.{packet_length}
 use Rattle.south_wrap.specs.SouthState.{SouthState, acknowledged, window}
 use Rattle.south_wrap.specs.Translation.{outward}
+use Rattle.tcp_rules.specs.Timestamping.{timestamps_sent}
 use Rattle.tcp_endpoint.specs.States.{is_closed}
 use Rattle.tcp_endpoint.specs.Output.{full_out, leaving, flushed, or_bare}
 use Rattle.wrapped_conn.specs.declared.stage.Before.{Before}
@@ -17,6 +19,10 @@ use Rattle.wrapped_conn.specs.Numbers.{units_taken, advertised, acknowledgeable,
 -- what TCP sends is passed to the client. A RST, which is sent alone, isn't
 abbrev pub passed : SouthState → List Segment → List Segment
 passed s segments = if list_any has_rst segments then [] else map (outward s) segments
+
+-- each of these segments fits a packet as the one for the client
+abbrev pub AllFit : SouthState → List Segment → Type 0
+AllFit s segments = AllByRecursion (λ segment. packet_length (outward s segment) ≤ longest_packet) segments
 
 -- TCP's turn has ended
 abbrev pub with_endpoint_flushed : {S : Type 0} → ConnState S → ConnState S
@@ -50,6 +56,7 @@ own_segment c seq flags mss = record {
     flags = flags;
     window = window c.south;
     mss = mss;
+    timestamps = timestamps_sent c.south.timestamping;
   };
   payload = [];
 }

@@ -1,5 +1,8 @@
 -- The invariant of a connection from its beginning on, whatever arrives.
-use Rattle.limits.specs.Limits.{longest_stream, most_units}
+use Rattle.seq_arith.specs.Packet.{timestamps_length}
+use Rattle.tcp_rules.specs.declared.timestamping.Timestamping.{Timestamping}
+use Rattle.tcp_rules.specs.declared.timestamping.Timestamping.TheVariants.{Off, Awaited, Echoes}
+use Rattle.limits.specs.Limits.{largest_segment, longest_stream, most_units}
 use Rattle.std.specs.Prelude.{◌≡◌, ℕ, Bool, true, false, ◌+◌, ◌≤◌, ◌<◌, ◌%◌, ◌^◌, max, length}
 use Rattle.seq_arith.specs.Number.{distance}
 use Rattle.seq_arith.specs.Offset.{one_if}
@@ -37,6 +40,21 @@ pub record AreSound {S : Type 0} (fetched : ℕ) (n : NorthState S) (e : Tcb) : 
   pub count : n.count ≤ n.read + one_if n.ended
   pub tellable : AreTellable n.reads
 
+-- whether segments may carry timestamps, and the value that they echo; 0 where none is
+abbrev pub may_stamp : Timestamping → Bool
+may_stamp Off = false
+may_stamp Awaited = true
+may_stamp (Echoes recent) = true
+
+abbrev pub echoed : Timestamping → ℕ
+echoed Off = 0
+echoed Awaited = 0
+echoed (Echoes recent) = recent
+
+-- segments leave room for timestamps where they may carry them
+abbrev pub LeavesRoom : (mss : ℕ) → Timestamping → Type 0
+LeavesRoom mss timestamping = may_stamp timestamping ≡ true → mss + timestamps_length ≤ largest_segment
+
 -- the units of output that earlier incarnations sent and the client acknowledged
 abbrev pub swallowed : {S : Type 0} → ConnState S → ℕ
 swallowed c = distance ((c.endpoint.sending.iss + c.south.delta) % 2 ^ 32) c.south.sisn
@@ -51,3 +69,4 @@ pub record IsSound {S : Type 0} (c : ConnState S) : Type 0 where
   pub begins : swallowed c ≤ longest_stream
   pub sent : c.south.sent ≤ swallowed c + c.endpoint.sending.sent
   pub answered : c.south.answered ≤ most_units
+  pub roomy : LeavesRoom c.endpoint.sending.mss c.south.timestamping

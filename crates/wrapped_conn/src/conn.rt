@@ -7,6 +7,7 @@ ghost use Rattle.server_trait.specs.Service.{machine};
 ghost use Rattle.ft_model.specs.Point.{Point, whole_run};
 ghost use Rattle.wrapped_conn.specs.NewConnection.{first_conn, first_conn_in, joined_conn, joined_conn_in, syn};
 ghost use Rattle.wrapped_conn.specs.Numbers.{has_fin as has_fin_lem, is_over as is_over_lem};
+ghost use Rattle.tcp_rules.specs.Profile.{plain};
 ghost use Rattle.tcp_rules.specs.Profiles.{profile_of};
 ghost use Rattle.wrapped_conn.specs.Sound.{IsSound};
 ghost use Rattle.wrapped_conn.specs.Refinement.{Stands};
@@ -22,7 +23,7 @@ use south_wrap::South;
 use std::alloc::Global;
 use std::marker::Model;
 use tcp_endpoint::{Endpoint, StateName};
-use tcp_rules::Profile;
+use tcp_rules::{Profile, Timestamping};
 
 /// What the log keeps of a connection's opening, as its Opened says.
 #[derive(Clone, Copy)]
@@ -35,6 +36,8 @@ pub struct Opened {
     pub sisn: Seq,
     /// The segment size, 64 to 1,460 bytes.
     pub mss: u16,
+    /// The timestamps that the client's SYN asked for. The log doesn't keep them.
+    pub timestamping: Timestamping,
 }
 
 /// One wrapped connection with the client `key` at the server's address `local`.
@@ -111,6 +114,7 @@ impl<S: Service> Conn<S> {
             cisn,
             sisn,
             mss,
+            timestamping: Timestamping::Off,
         };
         Conn::open(alloc, boot, local, opened, kind)
     }
@@ -127,7 +131,7 @@ impl<S: Service> Conn<S> {
         requires boot { 1 ≤ boot }
         requires least { 64 ≤ opened.mss }
         requires most { opened.mss ≤ largest_segment }
-        ensures state { IfOk result (λ c. c ≡ first_conn boot opened.key local opened.cisn.0 opened.sisn.0 opened.mss
+        ensures state { IfOk result (λ c. c ≡ first_conn_in plain opened.timestamping boot opened.key local opened.cisn.0 opened.sisn.0 opened.mss
             (S.started kind) (S.greeting (S.started kind))) }
         ensures sound { IfOk result (λ c. IsSound c) }
     {
@@ -146,8 +150,8 @@ impl<S: Service> Conn<S> {
         requires boot { 1 ≤ boot }
         requires least { 64 ≤ opened.mss }
         requires most { opened.mss ≤ largest_segment }
-        ensures state { IfOk result (λ c. c ≡ first_conn_in (profile_of profile) boot opened.key local opened.cisn.0 opened.sisn.0 opened.mss
-            (S.started kind) (S.greeting (S.started kind))) }
+        ensures state { IfOk result (λ c. c ≡ first_conn_in (profile_of profile) opened.timestamping boot opened.key local opened.cisn.0 opened.sisn.0
+            opened.mss (S.started kind) (S.greeting (S.started kind))) }
         ensures sound { IfOk result (λ c. IsSound c) }
     {
         let Opened {
@@ -155,6 +159,7 @@ impl<S: Service> Conn<S> {
             cisn,
             sisn,
             mss,
+            timestamping,
         } = opened;
         let mut endpoint = Endpoint::listen_measuring(
             alloc,
@@ -167,7 +172,7 @@ impl<S: Service> Conn<S> {
             head: syn_of(key, local, cisn, mss),
             payload: &[],
         });
-        let south = South::new(cisn, sisn);
+        let south = South::new(cisn, sisn).with_timestamps(timestamping.fitting(mss));
         let north = North::new(alloc, kind)?;
         Ok(Conn::joined_in(profile, boot, key, local, south, endpoint, north))
     }
@@ -275,6 +280,7 @@ fn syn_of(key: Key, local: Addr, cisn: Seq, mss: u16) -> Head
         flags: SYN,
         window: 0,
         mss: Some(mss),
+        timestamps: None,
     }
 }
 

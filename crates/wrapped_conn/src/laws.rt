@@ -6,6 +6,7 @@ ghost use Rattle.seq_arith.specs.Message.{Numbers};
 ghost use Rattle.seq_arith.specs.Packet.{Segment};
 ghost use Rattle.server_trait.specs.Service.{machine};
 ghost use Rattle.tcp_rules.specs.Profile.{Profile};
+ghost use Rattle.tcp_rules.specs.declared.timestamping.Timestamping.{Timestamping};
 ghost use Rattle.ft_model.specs.Log.{Entry};
 ghost use Rattle.ft_model.specs.News.News.{Comes, Logged, Ticks, Begins};
 ghost use Rattle.ft_model.specs.Opening.{point_opened};
@@ -43,11 +44,12 @@ pub fn joined_connections_stand_at_the_entry<S: Service>()
 /// The turn in which a connection becomes live is lawful: that of a new one from the point that its client's SYN opens, and that of one at the end of a restart
 /// from the point of its parts.
 pub fn connections_start_as_the_law_says<S: Service>()
-    ensures new { (fresh : S) (profile : Profile) (boot : ℕ) (local : Addr) (numbers : Numbers) (new : ConnState S) (segments messages : List (List ℕ))
-        → MayOpen numbers
+    ensures new { (fresh : S) (profile : Profile) (timestamping : Timestamping) (boot : ℕ) (local : Addr) (numbers : Numbers) (new : ConnState S)
+        (segments messages : List (List ℕ)) → MayOpen numbers
         → IsSound new
-        → Starts S.after (first_conn_in profile boot numbers.key local numbers.cisn numbers.sisn numbers.mss fresh (S.greeting fresh)) new segments messages
-        → Leads (machine fresh S.after S.greeting) local boot Begins (point_opened profile numbers) new segments messages }
+        → Starts S.after (first_conn_in profile timestamping boot numbers.key local numbers.cisn numbers.sisn numbers.mss fresh (S.greeting fresh))
+        new segments messages
+        → Leads (machine fresh S.after S.greeting) local boot Begins (point_opened profile timestamping numbers) new segments messages }
     ensures joined { (fresh : S) (p : Point) (old new : ConnState S) (segments messages : List (List ℕ)) → IsSound old → IsSound new
         → StandsBefore (machine fresh S.after S.greeting) old p
         → Starts S.after old new segments messages → Leads (machine fresh S.after S.greeting) old.local old.boot Begins p new segments messages }

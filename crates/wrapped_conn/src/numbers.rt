@@ -2,7 +2,7 @@
 
 ghost use Rattle.limits.specs.Limits.{largest_segment, longest_stream, most_units};
 ghost use Rattle.std.specs.Prelude.{◌≡◌, ◌≤◌, ◌+◌, ◌-◌, ◌^◌, ◌%◌, pos, nat_abs, length, max, min};
-ghost use Rattle.tcp_rules.specs.Arrival.{int_eq, is_acceptable, is_acceptable_or_at_edge, is_at_right_edge, lies_in};
+ghost use Rattle.tcp_rules.specs.Arrival.{int_eq};
 ghost use Rattle.seq_arith.specs.Number.{number_at, offset_of};
 ghost use Rattle.seq_arith.specs.Offset.{length_of as length_of_lem, text_of};
 ghost use Rattle.segment_codec.specs.Value.{segment_of, said};
@@ -21,6 +21,7 @@ use seq_arith::{ACK, FIN, RST, SYN, Seq, has};
 use server_trait::Service;
 use socket_layer::Socket;
 use tcp_endpoint::StateName;
+use tcp_rules::is_acceptable_or_at_edge;
 
 /// The most units of a stream: its bytes and the FIN.
 const UNITS: i64 = limits::UNITS as i64;
@@ -181,7 +182,7 @@ impl<S: Service> Conn<S> {
         let next = self.taken_units();
         let len = length_of(segment);
         let room = self.edge().saturating_sub(next);
-        if !accepts(next, room, first, len) {
+        if !is_acceptable_or_at_edge(next, room, first, len) {
             return !has(segment.head.flags, RST);
         }
         self.needs_ack_if_acceptable(segment)
@@ -223,42 +224,6 @@ fn units(offset: i64) -> u32
         return 0;
     }
     offset.min(UNITS) as u32
-}
-
-/// Whether a segment that begins at this offset is acceptable, or at the right edge (RFC 9293, 3.10.7.4, first check).
-fn accepts(next: u32, room: u32, first: i64, len: u32) -> bool
-    requires first { nat_abs first ≤ 2 ^ 31 }
-    requires len { len ≤ 2 ^ 16 }
-    ensures { result ≡ is_acceptable_or_at_edge next room first len }
-{
-    is_acceptable(next, room, first, len) || is_at_right_edge(next, room, first, len)
-}
-
-/// Whether a segment is acceptable, by TCP's four cases.
-fn is_acceptable(next: u32, room: u32, first: i64, len: u32) -> bool
-    requires first { nat_abs first ≤ 2 ^ 31 }
-    requires len { len ≤ 2 ^ 16 }
-    ensures { result ≡ is_acceptable next room first len }
-{
-    if room == 0 {
-        return len == 0 && first == i64::from(next);
-    }
-    lies_in(next, room, first) || (0 < len && lies_in(next, room, first + i64::from(len - 1)))
-}
-
-/// Whether a segment's SEG.LEN is 0 and it is at the right edge of an open window.
-#[tactic(auto, unfolding(tcp_rules::specs::Arrival::is_at_right_edge))]
-fn is_at_right_edge(next: u32, room: u32, first: i64, len: u32) -> bool
-    ensures { result ≡ is_at_right_edge next room first len }
-{
-    len == 0 && 0 < room && first == i64::from(next) + i64::from(room)
-}
-
-/// Whether an offset lies in a window.
-fn lies_in(next: u32, room: u32, offset: i64) -> bool
-    ensures { result ≡ lies_in next room offset }
-{
-    i64::from(next) <= offset && offset < i64::from(next) + i64::from(room)
 }
 
 /// SEG.LEN: the text and the FIN, or only the SYN; 0 for a RST.

@@ -15,7 +15,7 @@ ghost use Rattle.north_wrap.specs.Refinement.{messages_of};
 ghost use Rattle.wrapped_conn.specs.Output.{passed};
 ghost use Rattle.wrapped_conn.specs.Numbers.{una_units};
 ghost use Rattle.connection_laws.specs.OutputFeed.{tcp_reader, tcp_writer};
-ghost use Rattle.wrapped_conn.specs.Arrival.{arrived, reached, noted, before_segment, before_other};
+ghost use Rattle.wrapped_conn.specs.Arrival.{arrived, reached, noted, before_segment, before_other, stamped};
 ghost use Rattle.wrapped_conn.specs.Turn.{served, tcp_used, CompletesTurn, Starts, Receives, Hears, with_logged, is_news, IsTold, Ticks, ticked, counted};
 ghost use Rattle.wrapped_conn.specs.LoggerMessages.{grammar_by, spelled, copies, AreShort, AreTellable};
 ghost use Rattle.wrapped_conn.specs.Sound.{IsSound};
@@ -145,6 +145,7 @@ impl<S: Service> Conn<S> {
         ensures short { AreShort messages.new }
         ensures sound { IsSound self.new }
     {
+        self.note_timestamps(packet);
         let repeats = self.reach_tcp(packet);
         self.note_arrival();
         self.send_copy(packet, before, messages);
@@ -170,6 +171,16 @@ impl<S: Service> Conn<S> {
                 false
             }
         }
+    }
+
+    /// The south wrapper notes a segment's timestamps.
+    fn note_timestamps(&mut self, packet: &[u8])
+        requires sound { IsSound self.old }
+        requires accepted { IsOk (reading packet.now) }
+        ensures state { IfOk (reading packet.now) (λ segment. self.new ≡ stamped segment self.old) }
+        ensures sound { IsSound self.new }
+    {
+        self.south.note_timestamps(packet);
     }
 
     /// The south wrapper learns what TCP has taken, and what the client has acknowledged.
@@ -218,7 +229,7 @@ impl<S: Service> Conn<S> {
     {
         self.serve(alloc, &mut out.reads)?;
         self.delay_ack(before);
-        self.flush(&mut out.segments);
+        self.flush(&mut out.segments, &mut out.spare);
         self.send_syn_ack(repeats, &mut out.segments);
         self.send_bare(self.is_ack_pending(before), &mut out.segments);
         self.send_reads(&out.reads, &mut out.messages);
@@ -315,7 +326,7 @@ impl<S: Service> Conn<S> {
         ensures sound { IsSound self.new }
     {
         self.tick_tcp();
-        self.flush(&mut out.segments);
+        self.flush(&mut out.segments, &mut out.spare);
         self.send_reads(self.north.unanswered(), &mut out.messages);
         self.count_end_tick();
     }

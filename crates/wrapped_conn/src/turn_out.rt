@@ -15,6 +15,8 @@ pub struct TurnOut {
     pub(crate) segments: Outbox,
     /// To the logger, in order.
     pub(crate) messages: Outbox,
+    /// Where segments are written anew that get longer.
+    pub(crate) spare: Outbox,
     /// Room for the reads that a turn makes. What it holds between turns has no meaning.
     pub(crate) reads: ReadRecords,
 }
@@ -28,6 +30,7 @@ impl TurnOut {
         Ok(TurnOut {
             segments: Outbox::new(alloc)?,
             messages: Outbox::new(alloc)?,
+            spare: Outbox::new(alloc)?,
             reads: ReadRecords::new(),
         })
     }

@@ -15,7 +15,7 @@ packet_mut-requires c = omega (arith, c.loop-i-test.true, c.len-i-end.ensures, c
 
 pub outward-requires : goal.outward-requires
 outward-requires c =
-    all_slice_get (λ packet. IsOk (reading packet)) c.args.out.now c.loop-i.i c.packet_mut.result.now c.requires
+    all_slice_get (λ packet. IsOk (reading packet)) c.args.out.now c.loop-i.i c.packet_mut.result.now c.requires.accepted
     (sym (same_there c.loop-i.out c.args.out.now c.loop-i.i c.loop-i.invariant.rest) ∙ c.packet_mut.ensures.value)
 
 pub loop-i-preserved : goal.loop-i-preserved
@@ -30,7 +30,7 @@ loop-i-preserved c =
       count = ap length is ∙ length-set out i packet ∙ inv.count;
       bytes = ap byte_count is ∙ same_bytes out i c.packet_mut.result.now packet c.packet_mut.ensures.value c.outward.auto.packet ∙ inv.bytes;
       rest = ap (drop (i + 1)) is ∙ drop-set-lt (i + 1) out i packet (omega arith) ∙ drop_more_same out c.args.out.now i inv.rest;
-      passed = λ segments first readable. rw (add-one, is) (goes_on c.args.south.now i segments out c.packet_mut.result.now packet (inv.passed segments first readable) readable
+      passed = λ segments first readable. rw (add-one, is) (goes_on c.args.south.now i segments out c.packet_mut.result.now packet c.requires.off (inv.passed segments first readable) readable
           c.packet_mut.ensures.value (subst (Passes c.args.south.now c.packet_mut.result.now packet) c.if-not-outward.false (record {
             answered = c.outward.ensures.answer;
             canonical = subst (λ s. (x : Segment) → reading c.packet_mut.result.now ≡ Ok x → c.packet_mut.result.now ≡ spelling x → packet ≡ spelling (passed_out s x)) inv.south c.outward.ensures.canonical;
