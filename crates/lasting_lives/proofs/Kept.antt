@@ -8,6 +8,7 @@ use Rattle.ft_io.specs.Key.{key_eq}
 use Rattle.ft_io.proofs.Choices.{by_cases, holds_if, if_true, if_false}
 use Rattle.server_trait.specs.Service.{Machine}
 use Rattle.seq_arith.specs.Message.{Message, Numbers}
+use Rattle.tcp_rules.specs.declared.timestamping.Timestamping.{Timestamping}
 use Rattle.ft_model.specs.Keys.{AreDistinct}
 use Rattle.ft_model.specs.Lawful.{LawfulTurn, fence}
 use Rattle.ft_model.specs.Network.{Packet}
@@ -15,7 +16,7 @@ use Rattle.ft_model.specs.Node.{Node, Place, Input, key_of, place_at, pending_co
 use Rattle.ft_model.specs.Node.Input.{Packet_comes, Message_comes, Noise_comes, Tick_comes}
 use Rattle.ft_model.specs.Node.Place.{Opens, Lives, Ended}
 use Rattle.ft_model.specs.Node.Stage.{Serving}
-use Rattle.ft_model.specs.Opening.{is_syn, numbers_for}
+use Rattle.ft_model.specs.Opening.{is_syn, numbers_for, timestamping_for}
 use Rattle.ft_model.specs.Point.{Point}
 use Rattle.ft_model.specs.ServingTurn.{newcomers, is_strange, concerns, ServingTurn}
 use Rattle.ft_model.proofs.Lists.{found_passes}
@@ -56,9 +57,9 @@ alone key place its = if_true (key_eq (key_of place) key) (Some place) None its
 -- what a key has after a turn on anything but a message
 abbrev pub CalmKey : Option Place → Option Place → Type 0
 CalmKey (Some (Lives p)) o = (q : Point) × (o ≡ Some (Lives q))
-CalmKey (Some (Opens n)) o = (m : Numbers) × (o ≡ Some (Opens m))
+CalmKey (Some (Opens n t)) o = (m : Numbers) × (t : Timestamping) × (o ≡ Some (Opens m t))
 CalmKey (Some (Ended k)) o = o ≡ Some (Ended k)
-CalmKey None o = (o ≡ None) ⊎ ((m : Numbers) × (o ≡ Some (Opens m)))
+CalmKey None o = (o ≡ None) ⊎ ((m : Numbers) × (t : Timestamping) × (o ≡ Some (Opens m t)))
 
 no_message : {P : Type 0} (input : Input) (message : Message) → is_message input ≡ false → input ≡ Message_comes message → P
 no_message input message calm e = absurd (true≢false (sym (ap is_message e) ∙ calm))
@@ -66,7 +67,7 @@ no_message input message calm e = absurd (true≢false (sym (ap is_message e) �
 module _ {State : Type 0} (service : Machine State) (node : Node) (input : Input) (calm : is_message input ≡ false) where
   stays_so : (key : Key) (place : Place) → key_eq (key_of place) key ≡ true → CalmKey (Some place) (place_at key (place ∷ []))
   stays_so key (Lives p) its = (p, alone key (Lives p) its)
-  stays_so key (Opens n) its = (n, alone key (Opens n) its)
+  stays_so key (Opens n t) its = (n, t, alone key (Opens n t) its)
   stays_so key (Ended k) its = alone key (Ended k) its
 
   calm_place : (key : Key) (place : Place) (now : List Place) (sent : List Packet) → key_eq (key_of place) key ≡ true → PlaceWent service node input place now sent
@@ -76,29 +77,29 @@ module _ {State : Type 0} (service : Machine State) (node : Node) (input : Input
       let same : q.key ≡ p.key = either_turn service node.server node.boot news p q sent (λ r. ap (λ x. x.key) r.point) (λ l. l.same.key) t in
       subst (λ x. CalmKey (Some x) (place_at key now)) (sym e)
       (q, ap (place_at key) n ∙ alone key (Lives q) (ap (λ k. key_eq k key) (same ∙ sym (ap key_of e)) ∙ its))
-  calm_place key place now sent its (began asked kept q e h n t) = no_message input h.message calm h.comes
-  calm_place key place now sent its (dropped asked e d n s) =
+  calm_place key place now sent its (began asked kept timestamping q e h n t) = no_message input h.message calm h.comes
+  calm_place key place now sent its (dropped asked timestamping e d n s) =
       ⊎_elim (λ x. no_message input x.1.message calm x.1.comes) (λ x. no_message input x.0 calm x.1) d
   calm_place key place now sent its (ended p e h n s) = no_message input h.0 calm h.1
   calm_place key place now sent its (refused k segment e i same n s) =
       subst (λ x. CalmKey (Some x) (place_at key now)) (sym e) (ap (place_at key) n ∙ alone key (Ended k) (ap (λ x. key_eq x key) (sym (ap key_of e)) ∙ its))
 
-  calm_front : (key : Key) (o : Option Place) (went new : List Place) → (place_at key new ≡ None) ⊎ ((m : Numbers) × (place_at key new ≡ Some (Opens m)))
+  calm_front : (key : Key) (o : Option Place) (went new : List Place) → (place_at key new ≡ None) ⊎ ((m : Numbers) × (t : Timestamping) × (place_at key new ≡ Some (Opens m t)))
       → CalmKey o (place_at key went) → CalmKey o (place_at key (went ++ new))
   calm_front key (Some (Lives p)) went new fresh c = (c.0, found_front key went new (Lives c.0) c.1)
-  calm_front key (Some (Opens n)) went new fresh c = (c.0, found_front key went new (Opens c.0) c.1)
+  calm_front key (Some (Opens n t)) went new fresh c = (c.0, c.1, found_front key went new (Opens c.0 c.1) c.2)
   calm_front key (Some (Ended k)) went new fresh c = found_front key went new (Ended k) c
-  calm_front key None went new fresh (inl none) = ⊎_elim (λ e. inl (none_front key went new none ∙ e)) (λ x. inr (x.0, none_front key went new none ∙ x.1)) fresh
-  calm_front key None went new fresh (inr x) = inr (x.0, found_front key went new (Opens x.0) x.1)
+  calm_front key None went new fresh (inl none) = ⊎_elim (λ e. inl (none_front key went new none ∙ e)) (λ x. inr (x.0, x.1, none_front key went new none ∙ x.2)) fresh
+  calm_front key None went new fresh (inr x) = inr (x.0, x.1, found_front key went new (Opens x.0 x.1) x.2)
 
-  one_new : (key : Key) (n : Numbers) → (place_at key (Opens n ∷ []) ≡ None) ⊎ ((m : Numbers) × (place_at key (Opens n ∷ []) ≡ Some (Opens m)))
-  one_new key n = by_cases (key_eq n.key key) (λ t. inr (n, if_true (key_eq n.key key) (Some (Opens n)) None t)) (λ f. inl (if_false (key_eq n.key key) (Some (Opens n)) None f))
+  one_new : (key : Key) (n : Numbers) (t : Timestamping) → (place_at key (Opens n t ∷ []) ≡ None) ⊎ ((m : Numbers) × (u : Timestamping) × (place_at key (Opens n t ∷ []) ≡ Some (Opens m u)))
+  one_new key n t = by_cases (key_eq n.key key) (λ e. inr (n, t, if_true (key_eq n.key key) (Some (Opens n t)) None e)) (λ f. inl (if_false (key_eq n.key key) (Some (Opens n t)) None f))
 
   all_new : (i : Input) (key : Key) (opened : ℕ) (places : List Place)
-      → (place_at key (newcomers node i opened places) ≡ None) ⊎ ((m : Numbers) × (place_at key (newcomers node i opened places) ≡ Some (Opens m)))
+      → (place_at key (newcomers node i opened places) ≡ None) ⊎ ((m : Numbers) × (t : Timestamping) × (place_at key (newcomers node i opened places) ≡ Some (Opens m t)))
   all_new (Packet_comes segment) key opened places =
-      holds_if (λ l. (place_at key l ≡ None) ⊎ ((m : Numbers) × (place_at key l ≡ Some (Opens m)))) (is_strange node segment places && is_syn segment && nat_lt (pending_count places) 64)
-      (Opens (numbers_for node.isn opened segment) ∷ []) [] (λ t. one_new key (numbers_for node.isn opened segment)) (λ t. inl refl)
+      holds_if (λ l. (place_at key l ≡ None) ⊎ ((m : Numbers) × (t : Timestamping) × (place_at key l ≡ Some (Opens m t)))) (is_strange node segment places && is_syn segment && nat_lt (pending_count places) 64)
+      (Opens (numbers_for node.profile node.isn opened segment) (timestamping_for node.profile segment) ∷ []) [] (λ t. one_new key (numbers_for node.profile node.isn opened segment) (timestamping_for node.profile segment)) (λ t. inl refl)
   all_new (Message_comes message) key opened places = inl refl
   all_new Noise_comes key opened places = inl refl
   all_new Tick_comes key opened places = inl refl
@@ -214,18 +215,18 @@ module _ (n : law.LastingNode) (input : Input) (later : Node) (opened : ℕ) (pl
       (rests_on k (quarantined_at key n.quarantine) r before c refl st)
   life_stays (Some (Ended k)) (Some (life.Watched w)) before c st = absurd st
   life_stays (Some (Ended k)) None before c st = absurd st
-  life_stays (Some (Opens m)) None before c st =
-      subst (λ o. LifeStands (after_turn n input later) key o (life_after n.node input key None)) (sym c.1)
-      (subst (LifeStands (after_turn n input later) key (Some (Opens c.0))) (sym (no_life n.node input key calm))
-      (quiet_then n input later opened places at key (Some (Opens c.0)) refl d c.1))
-  life_stays (Some (Opens m)) (Some (life.Watched w)) before c st = absurd st
-  life_stays (Some (Opens m)) (Some (life.Resting r)) before c st = absurd st
+  life_stays (Some (Opens m t)) None before c st =
+      subst (λ o. LifeStands (after_turn n input later) key o (life_after n.node input key None)) (sym c.2)
+      (subst (LifeStands (after_turn n input later) key (Some (Opens c.0 c.1))) (sym (no_life n.node input key calm))
+      (quiet_then n input later opened places at key (Some (Opens c.0 c.1)) refl d c.2))
+  life_stays (Some (Opens m t)) (Some (life.Watched w)) before c st = absurd st
+  life_stays (Some (Opens m t)) (Some (life.Resting r)) before c st = absurd st
   life_stays None None before (inl e) st =
       subst (λ o. LifeStands (after_turn n input later) key o (life_after n.node input key None)) (sym e)
       (subst (LifeStands (after_turn n input later) key None) (sym (no_life n.node input key calm)) (quiet_then n input later opened places at key None refl d e))
   life_stays None None before (inr x) st =
-      subst (λ o. LifeStands (after_turn n input later) key o (life_after n.node input key None)) (sym x.1)
-      (subst (LifeStands (after_turn n input later) key (Some (Opens x.0))) (sym (no_life n.node input key calm)) (quiet_then n input later opened places at key (Some (Opens x.0)) refl d x.1))
+      subst (λ o. LifeStands (after_turn n input later) key o (life_after n.node input key None)) (sym x.2)
+      (subst (LifeStands (after_turn n input later) key (Some (Opens x.0 x.1))) (sym (no_life n.node input key calm)) (quiet_then n input later opened places at key (Some (Opens x.0 x.1)) refl d x.2))
   life_stays None (Some (life.Watched w)) before c st = absurd st
   life_stays None (Some (life.Resting r)) before c st = absurd st
 

@@ -40,8 +40,8 @@ rests_so n key (Some (Lives p)) None r st e = absurd st
 rests_so n key (Some (Ended k)) (Some (life.Resting x)) r st e = of_rest n key x r (quarantined_at key n.quarantine) refl (some_is x r e) st
 rests_so n key (Some (Ended k)) (Some (life.Watched w)) r st e = absurd st
 rests_so n key (Some (Ended k)) None r st e = absurd st
-rests_so n key (Some (Opens m)) None r st e = none_is_some r e
-rests_so n key (Some (Opens m)) (Some x) r st e = absurd st
+rests_so n key (Some (Opens m t)) None r st e = none_is_some r e
+rests_so n key (Some (Opens m t)) (Some x) r st e = absurd st
 rests_so n key None None r st e = none_is_some r e
 rests_so n key None (Some x) r st e = absurd st
 
@@ -52,8 +52,8 @@ none_rests n key (Some (Lives p)) None st e = absurd st
 none_rests n key (Some (Ended k)) (Some (life.Resting x)) st e = none_is_some x (sym e)
 none_rests n key (Some (Ended k)) (Some (life.Watched w)) st e = absurd st
 none_rests n key (Some (Ended k)) None st e = absurd st
-none_rests n key (Some (Opens m)) None st e = st
-none_rests n key (Some (Opens m)) (Some x) st e = absurd st
+none_rests n key (Some (Opens m t)) None st e = st
+none_rests n key (Some (Opens m t)) (Some x) st e = absurd st
 none_rests n key None None st e = st
 none_rests n key None (Some x) st e = absurd st
 

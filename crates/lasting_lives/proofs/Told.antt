@@ -7,6 +7,7 @@ use Rattle.ft_io.proofs.Choices.{if_false}
 use Rattle.server_trait.specs.Service.{Machine}
 use Rattle.seq_arith.specs.Message.{Message, Numbers}
 use Rattle.seq_arith.specs.Message.Body.{OpenedMsg, EndedMsg}
+use Rattle.tcp_rules.specs.declared.timestamping.Timestamping.{Timestamping}
 use Rattle.ft_model.specs.Keys.{AreDistinct}
 use Rattle.ft_model.specs.Lawful.{LawfulTurn, fence}
 use Rattle.ft_model.specs.Network.{Packet}
@@ -40,8 +41,8 @@ use Rattle.lasting_lives.proofs.Kept.{ended_then, quiet_then, watch_then, end_th
 -- what a key has after a turn on a message
 abbrev pub ToldKey : Message → Key → Option Place → Option Place → Type 0
 ToldKey message key (Some (Lives p)) o = ((q : Point) × (o ≡ Some (Lives q))) ⊎ ((k : Key) × (o ≡ Some (Ended k)) × (message.body ≡ EndedMsg key))
-ToldKey message key (Some (Opens n)) o =
-    ((m : Numbers) × (o ≡ Some (Opens m))) ⊎ (((q : Point) × (kept : Numbers) × (o ≡ Some (Lives q)) × (message.body ≡ OpenedMsg kept) × (kept.key ≡ key)) ⊎ (o ≡ None))
+ToldKey message key (Some (Opens n t)) o =
+    ((m : Numbers) × (t : Timestamping) × (o ≡ Some (Opens m t))) ⊎ (((q : Point) × (kept : Numbers) × (o ≡ Some (Lives q)) × (message.body ≡ OpenedMsg kept) × (kept.key ≡ key)) ⊎ (o ≡ None))
 ToldKey message key (Some (Ended k)) o = o ≡ Some (Ended k)
 ToldKey message key None o = o ≡ None
 
@@ -55,14 +56,14 @@ module _ {State : Type 0} (service : Machine State) (node : Node) (message : Mes
     where
       one : (x : Place) → key_eq (key_of x) key ≡ true → ToldKey message key (Some x) (place_at key (x ∷ []))
       one (Lives p) t = inl (p, alone key (Lives p) t)
-      one (Opens m) t = inl (m, alone key (Opens m) t)
+      one (Opens m stamping) t = inl (m, stamping, alone key (Opens m stamping) t)
       one (Ended k) t = alone key (Ended k) t
   told_place key place now sent its (went_on news p q e w n t) =
       let same : q.key ≡ p.key = either_turn service node.server node.boot news p q sent (λ r. ap (λ x. x.key) r.point) (λ l. l.same.key) t in
       subst (λ x. ToldKey message key (Some x) (place_at key now)) (sym e)
       (inl (q, ap (place_at key) n ∙ alone key (Lives q) (ap (λ k. key_eq k key) (same ∙ sym (ap key_of e)) ∙ its)))
-  told_place key place now sent its (began asked kept q e h n t) =
-      let same : q.key ≡ kept.key = either_turn service node.server node.boot Begins (point_opened node.profile kept) q sent (λ r. ap (λ x. x.key) r.point) (λ l. l.same.key) t in
+  told_place key place now sent its (began asked kept timestamping q e h n t) =
+      let same : q.key ≡ kept.key = either_turn service node.server node.boot Begins (point_opened node.profile timestamping kept) q sent (λ r. ap (λ x. x.key) r.point) (λ l. l.same.key) t in
       let own : asked.key ≡ key = same_key asked.key key (ap (λ k. key_eq k key) (sym (ap key_of e)) ∙ its) in
       subst (λ x. ToldKey message key (Some x) (place_at key now)) (sym e)
       (inr (inl (
@@ -72,7 +73,7 @@ module _ {State : Type 0} (service : Machine State) (node : Node) (message : Mes
         sym (ap (λ m. m.body) (same_body (Message_comes message) message h.message refl h.comes)) ∙ h.body,
         h.key ∙ own,
       )))
-  told_place key place now sent its (dropped asked e d n s) = subst (λ x. ToldKey message key (Some x) (place_at key now)) (sym e) (inr (inr (ap (place_at key) n)))
+  told_place key place now sent its (dropped asked timestamping e d n s) = subst (λ x. ToldKey message key (Some x) (place_at key now)) (sym e) (inr (inr (ap (place_at key) n)))
   told_place key place now sent its (ended p e h n s) =
       let own : p.key ≡ key = same_key p.key key (ap (λ k. key_eq k key) (sym (ap key_of e)) ∙ its) in
       subst (λ x. ToldKey message key (Some x) (place_at key now)) (sym e)
@@ -123,8 +124,8 @@ module _ (n : law.LastingNode) (message : Message) (later : Node) (opened : ℕ)
       ap (λ stage. unwrap_or (end_in n.node (Message_comes message) stage key) (n.ends key)) at ∙ ap (λ o. unwrap_or (end_of_place o) (n.ends key)) before in
       subst (λ o. MatchOption o ⊥ (λ x. QuarantineStands r x × (r.end.0 ≡ next.ends key))) (sym there) (st.0, st.1 ∙ sym end)
 
-  begins_now : (m : Numbers) (q : Point) → place_at key places ≡ Some (Opens m) → place_at key (places_at later.stage) ≡ Some (Lives q) → WatchStands new_watch (next.watches key)
-  begins_now m q before after =
+  begins_now : (m : Numbers) (t : Timestamping) (q : Point) → place_at key places ≡ Some (Opens m t) → place_at key (places_at later.stage) ≡ Some (Lives q) → WatchStands new_watch (next.watches key)
+  begins_now m t q before after =
       let is : next.watches key ≡ begun_watch (new_origin (Serving opened places) q) =
       ap (watch_of n.node (Message_comes message) key (n.watches key)) after
       ∙ (if_false (is_live (place_at key (places_at n.node.stage))) (watched n.node (Message_comes message) key (n.watches key)) (begun_watch (new_origin n.node.stage q))
@@ -149,20 +150,20 @@ module _ (n : law.LastingNode) (message : Message) (later : Node) (opened : ℕ)
   life_settles (Some (Lives p)) (Some (life.Watched w)) l' None before (inr c) e s st = absurd (e c.2)
   life_settles (Some (Lives p)) (Some (life.Resting r)) l' ends before c e s st = absurd st
   life_settles (Some (Lives p)) None l' ends before c e s st = absurd st
-  life_settles (Some (Opens m)) None l' ends before (inl c) e s st =
-      let same : l' ≡ None = subst (λ o. Settles (Some (Opens m)) o ends None l') c.1 s in
-      subst (λ o. LifeStands next key o l') (sym c.1)
-      (subst (LifeStands next key (Some (Opens c.0))) (sym same) (quiet_then n (Message_comes message) later opened places at key (Some (Opens c.0)) refl d c.1))
-  life_settles (Some (Opens m)) None l' ends before (inr (inl c)) e s st =
-      let is : l' ≡ Some (life.Watched new_watch) = subst (λ o. Settles (Some (Opens m)) o ends None l') c.2 s in
+  life_settles (Some (Opens m t)) None l' ends before (inl c) e s st =
+      let same : l' ≡ None = subst (λ o. Settles (Some (Opens m t)) o ends None l') c.2 s in
+      subst (λ o. LifeStands next key o l') (sym c.2)
+      (subst (LifeStands next key (Some (Opens c.0 c.1))) (sym same) (quiet_then n (Message_comes message) later opened places at key (Some (Opens c.0 c.1)) refl d c.2))
+  life_settles (Some (Opens m t)) None l' ends before (inr (inl c)) e s st =
+      let is : l' ≡ Some (life.Watched new_watch) = subst (λ o. Settles (Some (Opens m t)) o ends None l') c.2 s in
       subst (λ o. LifeStands next key o l') (sym c.2)
       (subst (LifeStands next key (Some (Lives c.0))) (sym is)
-      (quiet_then n (Message_comes message) later opened places at key (Some (Lives c.0)) refl d c.2, begins_now m c.0 before c.2))
-  life_settles (Some (Opens m)) None l' ends before (inr (inr c)) e s st =
-      let same : l' ≡ None = subst (λ o. Settles (Some (Opens m)) o ends None l') c s in
+      (quiet_then n (Message_comes message) later opened places at key (Some (Lives c.0)) refl d c.2, begins_now m t c.0 before c.2))
+  life_settles (Some (Opens m t)) None l' ends before (inr (inr c)) e s st =
+      let same : l' ≡ None = subst (λ o. Settles (Some (Opens m t)) o ends None l') c s in
       subst (λ o. LifeStands next key o l') (sym c)
       (subst (LifeStands next key None) (sym same) (quiet_then n (Message_comes message) later opened places at key None refl d c))
-  life_settles (Some (Opens m)) (Some x) l' ends before c e s st = absurd st
+  life_settles (Some (Opens m t)) (Some x) l' ends before c e s st = absurd st
   life_settles (Some (Ended k)) (Some (life.Resting r)) l' ends before c e s st =
       let same : l' ≡ Some (life.Resting r) = subst (λ o. Settles (Some (Ended k)) o ends (Some (life.Resting r)) l') c s in
       subst (λ o. LifeStands next key o l') (sym c)

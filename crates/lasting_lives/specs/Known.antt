@@ -33,7 +33,7 @@ RestsAt n key _ = ⊥
 abbrev pub LifeStands : law.LastingNode → Key → Option Place → Option Life → Type 0
 LifeStands n key (Some (Lives p)) (Some (life.Watched w)) = (quarantined_at key n.quarantine ≡ None) × WatchStands w (n.watches key)
 LifeStands n key (Some (Ended k)) l = RestsAt n key l
-LifeStands n key (Some (Opens numbers)) None = quarantined_at key n.quarantine ≡ None
+LifeStands n key (Some (Opens numbers timestamping)) None = quarantined_at key n.quarantine ≡ None
 LifeStands n key None None = quarantined_at key n.quarantine ≡ None
 LifeStands n key _ _ = ⊥
 
@@ -69,7 +69,7 @@ new_watch = record { origin = origin.Opened; age = 0; silent = 0 }
 abbrev pub Settles : (before after : Option Place) → (ends : Option Resting) → (old new : Option Life) → Type 0
 Settles (Some (Lives p)) (Some (Ended k)) (Some r) old new = new ≡ Some (life.Resting r)
 Settles (Some (Lives p)) (Some (Ended k)) None old new = ⊥
-Settles (Some (Opens n)) (Some (Lives q)) ends old new = new ≡ Some (life.Watched new_watch)
+Settles (Some (Opens n timestamping)) (Some (Lives q)) ends old new = new ≡ Some (life.Watched new_watch)
 Settles _ _ ends old new = new ≡ old
 
 -- .. and one of a restored connection where a restart ends

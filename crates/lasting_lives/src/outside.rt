@@ -87,6 +87,7 @@ impl Outside {
             flags: RST,
             window: 0,
             mss: None,
+            timestamps: None,
         }
     }
 
@@ -104,6 +105,7 @@ impl Outside {
             flags: ACK,
             window: self.window,
             mss: None,
+            timestamps: None,
         }
     }
 }

@@ -70,6 +70,6 @@ connected_short measures key local cisn fetched mss i h segments fits =
       sisn = omega arith;
       i_fits = fits;
     } in
-    let profile : Profile = record { measures = measures; delays = false; batches = false } in
+    let profile : Profile = record { measures = measures; delays = false; batches = false; timestamps = false } in
     let s = splices idle profile local e i g in
     subst (λ n. IsShort (connected_measuring measures key local cisn n mss i).sending) size (bounded_is_short (connected_measuring measures key local cisn (length e.bytes) mss i) s.tcp.stands.between.bounds)

@@ -40,6 +40,7 @@ fn forged(key: Key, local: Addr, seq: Seq, ack: Seq, flags: u8, mss: Option<u16>
         flags,
         window: 0,
         mss,
+        timestamps: None,
     }
 }
 

@@ -8,7 +8,8 @@ use Rattle.ft_io.specs.Key.{key_eq}
 use Rattle.server_trait.specs.Service.{Machine}
 use Rattle.tcp_rules.specs.Profile.{grammar_of}
 use Rattle.seq_arith.specs.Message.{Message, Numbers}
-use Rattle.seq_arith.specs.Packet.{Segment, segment_size}
+use Rattle.seq_arith.specs.Packet.{Segment, text_size}
+use Rattle.tcp_rules.specs.Timestamping.{timestamps_sent}
 use Rattle.seq_arith.specs.Message.Body.{OpenMsg}
 use Rattle.ft_model.specs.Lawful.{Rests, Continues, Fetches as AreFetched, StageTurn, IsNearInput, IsSoundInput, asked, count_told, fetched_then}
 use Rattle.ft_model.specs.Connection.{told_by}
@@ -18,7 +19,7 @@ use Rattle.ft_model.specs.Node.Place.{Opens}
 use Rattle.ft_model.specs.Node.{Stage as law_stage}
 use Rattle.ft_model.specs.Node.Stage.{Asking, Fetching, Serving as Is_serving}
 use Rattle.ft_model.specs.Node.Input.{Packet_comes, Message_comes, Noise_comes, Tick_comes}
-use Rattle.ft_model.specs.Opening.{initial_number, numbers_for, is_syn}
+use Rattle.ft_model.specs.Opening.{initial_number, numbers_for, timestamping_for, is_syn}
 use Rattle.ft_model.specs.Restart.{Fetched, is_fetched, wanted}
 use Rattle.ft_model.specs.ServingTurn.{newcomers, is_strange, concerns}
 use Rattle.ft_model.specs.Wire.{Wire, wire_by}
@@ -66,8 +67,8 @@ fetched_in _ = []
 same_newcomers : (node : Node) (input : Input) (m n : ℕ) (places : List Place) → initial_number node.isn m ≡ initial_number node.isn n → newcomers node input m places ≡ newcomers node input n places
 same_newcomers node (Packet_comes segment) m n places same =
     ap (λ i.
-    let numbers : Numbers = record { key = source_of segment; cisn = segment.head.seq; sisn = i; mss = segment_size segment.head.mss } in
-    if is_strange node segment places && is_syn segment && nat_lt (pending_count places) 64 then Opens numbers ∷ [] else []) same
+    let numbers : Numbers = record { key = source_of segment; cisn = segment.head.seq; sisn = i; mss = text_size segment.head.mss (timestamps_sent (timestamping_for node.profile segment)) } in
+    if is_strange node segment places && is_syn segment && nat_lt (pending_count places) 64 then Opens numbers (timestamping_for node.profile segment) ∷ [] else []) same
 same_newcomers node (Message_comes message) m n places same = refl
 same_newcomers node Noise_comes m n places same = refl
 same_newcomers node Tick_comes m n places same = refl
@@ -84,8 +85,8 @@ same_turn service node input key m n pending many place after sent same counts (
 -- the SYN of a client for which the server has nothing makes an opening, while there is room for one
 pub newcomer_opens : {State : Type 0} (service : Machine State) (node : Node) (key : Key) (clients : Clients) (segment : Segment) (after : Option Place) (sent : List Wire)
     → is_syn_of node key (Packet_comes segment) ≡ true → pending_of clients.known < 64 → ServesKey service node key clients None (Packet_comes segment) after sent
-    → (after ≡ Some (Opens (numbers_for node.isn clients.opened segment)))
-    × (of_key (grammar_of node.profile) key sent ≡ map (wire_by (grammar_of node.profile)) (told_by node.boot (OpenMsg (numbers_for node.isn clients.opened segment)) ∷ []))
+    → (after ≡ Some (Opens (numbers_for node.profile node.isn clients.opened segment) (timestamping_for node.profile segment)))
+    × (of_key (grammar_of node.profile) key sent ≡ map (wire_by (grammar_of node.profile)) (told_by node.boot (OpenMsg (numbers_for node.profile node.isn clients.opened segment)) ∷ []))
 newcomer_opens service node key clients segment after sent syn few turn =
     let parts = and_parts (concerns node (Packet_comes segment) key) (is_syn segment) syn in
     let its = and_parts (is_for node.server segment) (key_eq (source_of segment) key) parts.0 in

@@ -10,7 +10,7 @@ ghost use Rattle.ft_model.specs.Connection.{told_by};
 ghost use Rattle.ft_model.specs.Node.{Node, Place};
 ghost use Rattle.ft_model.specs.Node.Place.{Opens};
 ghost use Rattle.ft_model.specs.Node.Input.{Packet_comes};
-ghost use Rattle.ft_model.specs.Opening.{numbers_for};
+ghost use Rattle.ft_model.specs.Opening.{numbers_for, timestamping_for};
 ghost use Rattle.ft_model.specs.Wire.{Wire, wire_by};
 ghost use Rattle.node_serving.specs.Alone.{is_syn_of};
 ghost use Rattle.node_serving.specs.Clients.{Clients, pending_of};
@@ -25,7 +25,7 @@ pub fn new_clients_are_served<S: Service>()
     ensures { (service : Machine S) (node : Node) (key : Key) (clients : Clients) (segment : Segment) (after : Option Place) (sent : List Wire)
         → is_syn_of node key (Packet_comes segment) ≡ true → pending_of clients.known < 64
         → ServesKey service node key clients None (Packet_comes segment) after sent
-        → (after ≡ Some (Opens (numbers_for node.isn clients.opened segment)))
+        → (after ≡ Some (Opens (numbers_for node.profile node.isn clients.opened segment) (timestamping_for node.profile segment)))
         × (of_key (grammar_of node.profile) key sent
-        ≡ map (wire_by (grammar_of node.profile)) (told_by node.boot (OpenMsg (numbers_for node.isn clients.opened segment)) ∷ [])) }
+        ≡ map (wire_by (grammar_of node.profile)) (told_by node.boot (OpenMsg (numbers_for node.profile node.isn clients.opened segment)) ∷ [])) }
 {}

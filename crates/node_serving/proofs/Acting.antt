@@ -1,5 +1,5 @@
 -- The turns of a connection, each as the node has it.
-use Rattle.std.proofs.Common.{◌≡◌, ◌∙◌, ℕ, ◌<◌, ◌≤◌, Bool, true, false, refl, sym, ap, subst, Some, Ok, List, length, slice_index, arith}
+use Rattle.std.proofs.Common.{◌≡◌, ◌∙◌, ℕ, ◌<◌, ◌≤◌, ◌^◌, Bool, true, false, refl, sym, ap, subst, Some, Ok, List, length, slice_index, arith}
 use Rattle.std.specs.Prelude.{IfOk, ◌==◌}
 use Rattle.std.specs.Bool.{MatchBool}
 use Rattle.ft_io.specs.declared.Addr.{Addr}
@@ -13,6 +13,7 @@ use Rattle.logger_wire.specs.declared.Body.TheVariants as body
 use Rattle.logger_wire.specs.Records.{kept_said}
 use Rattle.logger_wire.specs.Value.{body_of}
 use Rattle.tcp_rules.specs.Profile.{Profile}
+use Rattle.tcp_rules.specs.declared.timestamping.Timestamping.{Timestamping}
 use Rattle.ft_model.specs.News.{News}
 use Rattle.ft_model.specs.News.News.{Comes, Logged, Ticks, Begins as Becomes_live}
 use Rattle.ft_model.specs.Offset.{IsNear}
@@ -22,7 +23,7 @@ use Rattle.ft_model.proofs.Lists.{some_is, none_is_some}
 use Rattle.north_wrap.specs.Refinement.{NorthStands}
 use Rattle.connection_laws.specs.FirstSyn.{MayOpen}
 use Rattle.wrapped_conn.specs.ConnState.{ConnState}
-use Rattle.wrapped_conn.specs.Arrival.{arrived}
+use Rattle.wrapped_conn.specs.Arrival.{stamped, arrived}
 use Rattle.wrapped_conn.specs.NewConnection.{first_conn_in}
 use Rattle.wrapped_conn.specs.Refinement as conn
 use Rattle.wrapped_conn.specs.Refinement.{StandsLive, StandsReset, Leads}
@@ -33,11 +34,13 @@ use Rattle.south_wrap.specs.Translation.{repeats_syn}
 use Rattle.wrapped_conn.proofs.Hearing.{hears, starts}
 use Rattle.wrapped_conn.proofs.Joining.{new_starts}
 use Rattle.wrapped_conn.proofs.Receiving.{receives}
+use Rattle.wrapped_conn.proofs.SoundAgain.{fitting_leaves, fitting_short}
+use Rattle.wrapped_conn.specs.Sound.{echoed}
 use Rattle.wrapped_conn.proofs.Ticking.{ticks}
 use Rattle.node_serving.specs.Conn.{Begins, IsOursAt, IsSound, IsOurs, Acts}
 use Rattle.node_serving.specs.LogMessages.{logged_in}
-use Rattle.node_serving.proofs.Came.{fits, text_fits}
-use Rattle.node_serving.proofs.Turned.{IsTyped, acts}
+use Rattle.node_serving.proofs.Came.{fits, text_fits, stamps_short}
+use Rattle.node_serving.proofs.Turned.{IsTyped, Fits, acts}
 use Rattle.ft_io.proofs.Choices.{holds_if}
 
 -- a connection keeps its client, its address, its boot number and its grammar in each turn
@@ -54,10 +57,10 @@ either false m f g = g m
 pub arrived_same : {S : Type 0} (segment : Segment) (c : ConnState S) → IsSame c (arrived segment c)
 unfolding arrived
 arrived_same segment c = record {
-  key = holds_if (λ x. x.key ≡ c.key) (repeats_syn c.south segment) c _ (λ t. refl) (λ t. refl);
-  local = holds_if (λ x. x.local ≡ c.local) (repeats_syn c.south segment) c _ (λ t. refl) (λ t. refl);
-  boot = holds_if (λ x. x.boot ≡ c.boot) (repeats_syn c.south segment) c _ (λ t. refl) (λ t. refl);
-  batches = holds_if (λ x. x.batches ≡ c.batches) (repeats_syn c.south segment) c _ (λ t. refl) (λ t. refl);
+  key = holds_if (λ x. x.key ≡ c.key) (repeats_syn (stamped segment c).south segment) (stamped segment c) _ (λ t. refl) (λ t. refl);
+  local = holds_if (λ x. x.local ≡ c.local) (repeats_syn (stamped segment c).south segment) (stamped segment c) _ (λ t. refl) (λ t. refl);
+  boot = holds_if (λ x. x.boot ≡ c.boot) (repeats_syn (stamped segment c).south segment) (stamped segment c) _ (λ t. refl) (λ t. refl);
+  batches = holds_if (λ x. x.batches ≡ c.batches) (repeats_syn (stamped segment c).south segment) (stamped segment c) _ (λ t. refl) (λ t. refl);
 }
 
 pub receives_same : {S : Type 0} (service : Machine S) (segment : Segment) (c now : ConnState S) (out messages : List (List ℕ)) → Receives service.after segment c now out messages → IsSame c now
@@ -112,6 +115,9 @@ ours : {S : Type 0} (service : Machine S) (server : Addr) (boot : ℕ) (news : N
 ours service server boot news p c now segments messages own l =
     subst (λ a. Leads service a boot news p now segments messages) own.local (subst (λ b. Leads service c.local b news p now segments messages) own.incarnation l)
 
+fits_of : {S : Type 0} {server : Addr} {boot : ℕ} {c : ConnState S} {p : Point} → IsOurs server boot c p → Fits p
+fits_of own = (own.size, own.room, own.echo)
+
 pub tick_acts : {S : Type 0} (grammar : Grammar) (service : Machine S) (server : Addr) (boot : ℕ) (p : Point) (c now : ConnState S) (segments messages : List (List ℕ))
     → IsTyped server boot p.key segments messages → IsSound c → IsSound now → TicksOn c now segments messages → IsOursAt service server boot c p → grammar_by c.batches ≡ grammar
     → Acts grammar service server boot Ticks p now segments messages
@@ -119,7 +125,7 @@ unfolding IsOursAt IsSound
 tick_acts grammar service server boot p c now segments messages typed s s_now r st its =
     let same = ticks_same c now segments messages r in
     written grammar service server boot Ticks p c now segments messages st.0.keeps.batches its
-    (acts service server boot Ticks p now segments messages typed tt st.1.size (counts_standing service c p p.reset st.0.parts) s_now (same.local ∙ st.1.local) (same.boot ∙ st.1.incarnation)
+    (acts service server boot Ticks p now segments messages typed tt (fits_of st.1) (counts_standing service c p p.reset st.0.parts) s_now (same.local ∙ st.1.local) (same.boot ∙ st.1.incarnation)
     (ours service server boot Ticks p c now segments messages st.1 (ticks service p c now segments messages s st.0 r)))
 
 pub segment_acts : {S : Type 0} (grammar : Grammar) (service : Machine S) (server : Addr) (boot : ℕ) (p : Point) (c now : ConnState S) (bytes : List ℕ) (segment : Segment) (segments messages : List (List ℕ))
@@ -131,7 +137,7 @@ segment_acts grammar service server boot p c now bytes segment segments messages
     let r : Receives service.after segment c now segments messages = subst (λ read. IfOk read (λ came. Receives service.after came c now segments messages)) reads told in
     let same = receives_same service segment c now segments messages r in
     written grammar service server boot (Comes segment) p c now segments messages st.0.keeps.batches its
-    (acts service server boot (Comes segment) p now segments messages typed (text_fits bytes segment reads) st.1.size (counts_standing service c p p.reset st.0.parts) s_now
+    (acts service server boot (Comes segment) p now segments messages typed (text_fits bytes segment reads, stamps_short bytes segment small reads) (fits_of st.1) (counts_standing service c p p.reset st.0.parts) s_now
     (same.local ∙ st.1.local) (same.boot ∙ st.1.incarnation)
     (ours service server boot (Comes segment) p c now segments messages st.1 (receives service p c now segment segments messages s s_now st.0 (fits p bytes segment small reads near) r)))
 
@@ -152,7 +158,7 @@ message_acts grammar service server boot p c now said kept segments messages typ
     let r = heard_in service said kept c now segments messages says told in
     let same = hears_same service kept c now segments messages r in
     written grammar service server boot (Logged kept) p c now segments messages st.0.keeps.batches its
-    (acts service server boot (Logged kept) p now segments messages typed tt st.1.size (counts_standing service c p p.reset st.0.parts) s_now (same.local ∙ st.1.local) (same.boot ∙ st.1.incarnation)
+    (acts service server boot (Logged kept) p now segments messages typed tt (fits_of st.1) (counts_standing service c p p.reset st.0.parts) s_now (same.local ∙ st.1.local) (same.boot ∙ st.1.incarnation)
     (ours service server boot (Logged kept) p c now segments messages st.1 (hears service p c now kept segments messages s s_now st.0 r)))
 
 pub start_acts : {S : Type 0} (grammar : Grammar) (service : Machine S) (server : Addr) (boot : ℕ) (p : Point) (c now : ConnState S) (segments messages : List (List ℕ))
@@ -162,21 +168,21 @@ unfolding Begins IsSound
 start_acts grammar service server boot p c now segments messages typed s s_now r st its =
     let same = starts_same service c now segments messages r in
     written grammar service server boot Becomes_live p c now segments messages st.0.keeps.batches its
-    (acts service server boot Becomes_live p now segments messages typed tt st.1.size (counts service c p st.0.given st.0.parts.north) s_now (same.local ∙ st.1.local) (same.boot ∙ st.1.incarnation)
+    (acts service server boot Becomes_live p now segments messages typed tt (fits_of st.1) (counts service c p st.0.given st.0.parts.north) s_now (same.local ∙ st.1.local) (same.boot ∙ st.1.incarnation)
     (ours service server boot Becomes_live p c now segments messages st.1 (starts service p c now segments messages s s_now st.0 r)))
 
-pub first_acts : {S : Type 0} (service : Machine S) (profile : Profile) (server : Addr) (boot : ℕ) (numbers : Numbers) (now : ConnState S) (segments messages : List (List ℕ))
-    → IsTyped server boot numbers.key segments messages → MayOpen numbers → IsSound now
-    → Starts service.after (first_conn_in profile boot numbers.key server numbers.cisn numbers.sisn numbers.mss service.fresh service.greeting) now segments messages
-    → Acts (grammar_by profile.batches) service server boot Becomes_live (point_opened profile numbers) now segments messages
+pub first_acts : {S : Type 0} (service : Machine S) (profile : Profile) (timestamping : Timestamping) (server : Addr) (boot : ℕ) (numbers : Numbers) (now : ConnState S) (segments messages : List (List ℕ))
+    → IsTyped server boot numbers.key segments messages → MayOpen numbers → echoed timestamping < 2 ^ 32 → IsSound now
+    → Starts service.after (first_conn_in profile timestamping boot numbers.key server numbers.cisn numbers.sisn numbers.mss service.fresh service.greeting) now segments messages
+    → Acts (grammar_by profile.batches) service server boot Becomes_live (point_opened profile timestamping numbers) now segments messages
 unfolding IsSound first_conn_in
-first_acts service profile server boot numbers now segments messages typed may s r =
-    let same = starts_same service (first_conn_in profile boot numbers.key server numbers.cisn numbers.sisn numbers.mss service.fresh service.greeting) now segments messages r in
-    acts service server boot Becomes_live (point_opened profile numbers) now segments messages typed tt may.most (omega arith) s same.local same.boot
-    (new_starts service profile boot server numbers now segments messages may s r)
+first_acts service profile timestamping server boot numbers now segments messages typed may echo s r =
+    let same = starts_same service (first_conn_in profile timestamping boot numbers.key server numbers.cisn numbers.sisn numbers.mss service.fresh service.greeting) now segments messages r in
+    acts service server boot Becomes_live (point_opened profile timestamping numbers) now segments messages typed tt (may.most, fitting_leaves timestamping numbers.mss, fitting_short timestamping numbers.mss echo) (omega arith) s same.local same.boot
+    (new_starts service profile timestamping boot server numbers now segments messages may s r)
 
 -- a connection that a restart has put together
-pub begins : {S : Type 0} (service : Machine S) (server : Addr) (boot : ℕ) (p : Point) (c : ConnState S) → conn.StandsBefore service c p → c.local ≡ server → c.boot ≡ boot → p.mss ≤ 1460
+pub begins : {S : Type 0} (service : Machine S) (server : Addr) (boot : ℕ) (p : Point) (c : ConnState S) → conn.StandsBefore service c p → c.local ≡ server → c.boot ≡ boot → Fits p
     → Begins service server boot c p
 unfolding Begins
-begins service server boot p c stands local up size = (stands, record { local = local; incarnation = up; size = size })
+begins service server boot p c stands local up fits = (stands, record { local = local; incarnation = up; size = fits.0; room = fits.1; echo = fits.2 })

@@ -6,14 +6,16 @@ use Rattle.std.specs.Map.{lookup, keys_of}
 use Rattle.std.proofs.lemmas.Grind.{flat_map-append}
 use Rattle.ft_io.specs.declared.Key.{Key}
 use Rattle.ft_io.specs.Key.{key_eq}
-use Rattle.seq_arith.specs.Packet.{Segment, segment_size}
+use Rattle.seq_arith.specs.Packet.{Segment, text_size}
+use Rattle.tcp_rules.specs.Profile.{Profile}
+use Rattle.tcp_rules.specs.Timestamping.{timestamps_sent}
 use Rattle.server_trait.specs.Service.{Machine}
 use Rattle.tcp_rules.specs.Profile.{grammar_of}
 use Rattle.ft_model.specs.Network.{source_of}
 use Rattle.ft_model.specs.Node.{Node, Place, key_of, is_for, is_known, place_at, is_pending, pending_count}
 use Rattle.ft_model.specs.Node.Place.{Opens, Lives, Ended}
 use Rattle.ft_model.specs.Node.Input.{Packet_comes}
-use Rattle.ft_model.specs.Opening.{is_syn, initial_number, numbers_for}
+use Rattle.ft_model.specs.Opening.{is_syn, initial_number, numbers_for, timestamping_for}
 use Rattle.ft_model.specs.ServingTurn.{opens_at, newcomers, is_strange}
 use Rattle.node_serving.specs.declared.slot.Slot.{Slot}
 use Rattle.node_serving.specs.declared.slot.Slot.TheVariants as slot
@@ -46,14 +48,14 @@ module _ {S : Type 0} (service : Machine S) (node : Node) where
 
   -- as many openings are pending at the places as at the slots
   is_pending_there : (key : Key) (s : Slot S) (place : Place) → SlotStands service node key s place → is_pending place ≡ is_pending_slot s
-  is_pending_there key (slot.Pending o) (Opens n) st = refl
+  is_pending_there key (slot.Pending o) (Opens n timestamping) st = refl
   is_pending_there key (slot.Live c) (Lives p) st = refl
   is_pending_there key slot.Done (Ended k) st = refl
   is_pending_there key (slot.Pending o) (Lives p) st = absurd st
   is_pending_there key (slot.Pending o) (Ended k) st = absurd st
-  is_pending_there key (slot.Live c) (Opens n) st = absurd st
+  is_pending_there key (slot.Live c) (Opens n timestamping) st = absurd st
   is_pending_there key (slot.Live c) (Ended k) st = absurd st
-  is_pending_there key slot.Done (Opens n) st = absurd st
+  is_pending_there key slot.Done (Opens n timestamping) st = absurd st
   is_pending_there key slot.Done (Lives p) st = absurd st
 
   pub as_many_pending : (es : List (Key × Slot S)) (places : List Place) → AllStand service node es places → pending_count places ≡ pending_slots es
@@ -114,19 +116,19 @@ module _ {S : Type 0} (service : Machine S) (node : Node) (segment : Segment) (o
       last false b c e = refl
 
       nothing : newcomers node (Packet_comes segment) opened places ≡ []
-      nothing = ap (λ b. if b then Opens (numbers_for node.isn opened segment) ∷ [] else [])
+      nothing = ap (λ b. if b then Opens (numbers_for node.profile node.isn opened segment) (timestamping_for node.profile segment) ∷ [] else [])
           (last (is_strange node segment places) (is_syn segment) (nat_lt (pending_count places) 64)
           (ap (λ n. is_syn segment && nat_lt n 64) (as_many_pending service node es places st) ∙ shut))
 
   -- another SYN makes a pending opening, which is asked for
   pub one_admitted : (key : Key) (o : Opening) (next : ℕ) (es : List (Key × Slot S)) (old new : List Wire) → source_of segment ≡ key → lookup (key_eq key) es ≡ None
       → is_for node.server segment ≡ true → is_syn segment ≡ true → nat_lt (pending_slots es) 64 ≡ true → AllStand service node es places
-      → numbers_for node.isn opened segment ≡ numbers_of key o → next ≡ initial_number node.isn (opened + 1)
+      → numbers_for node.profile node.isn opened segment ≡ numbers_of key o → timestamping_for node.profile segment ≡ o.timestamping → next ≡ initial_number node.isn (opened + 1)
       → ArePut (grammar_of node.profile) (told_by node.boot (OpenMsg (numbers_of key o)) ∷ []) old new
       → Admits service node segment opened places next (es ++ (key, slot.Pending o) ∷ []) old new
-  one_admitted key o next es old new from none mine syn few st numbers number asked =
-      admits (Opens (numbers_for node.isn opened segment) ∷ []) next (es ++ (key, slot.Pending o) ∷ []) old new one number
-      (one_stands_more service node es places key (slot.Pending o) (Opens (numbers_for node.isn opened segment)) st numbers)
+  one_admitted key o next es old new from none mine syn few st numbers timestamping number asked =
+      admits (Opens (numbers_for node.profile node.isn opened segment) (timestamping_for node.profile segment) ∷ []) next (es ++ (key, slot.Pending o) ∷ []) old new one number
+      (one_stands_more service node es places key (slot.Pending o) (Opens (numbers_for node.profile node.isn opened segment) (timestamping_for node.profile segment)) st (numbers, timestamping))
       (subst (λ ps. ArePut (grammar_of node.profile) ps old new) (sym opens) asked)
     where
       gone : lookup (key_eq (source_of segment)) es ≡ None
@@ -138,8 +140,8 @@ module _ {S : Type 0} (service : Machine S) (node : Node) (segment : Segment) (o
       opening : (is_strange node segment places && is_syn segment && nat_lt (pending_count places) 64) ≡ true
       opening = ap₂ ◌&&◌ (ap₂ ◌&&◌ stranger syn) (ap (λ n. nat_lt n 64) (as_many_pending service node es places st) ∙ few)
 
-      one : newcomers node (Packet_comes segment) opened places ≡ Opens (numbers_for node.isn opened segment) ∷ []
-      one = ap (λ b. if b then Opens (numbers_for node.isn opened segment) ∷ [] else []) opening
+      one : newcomers node (Packet_comes segment) opened places ≡ Opens (numbers_for node.profile node.isn opened segment) (timestamping_for node.profile segment) ∷ []
+      one = ap (λ b. if b then Opens (numbers_for node.profile node.isn opened segment) (timestamping_for node.profile segment) ∷ [] else []) opening
 
       opens : all_opens node (Packet_comes segment) (es ++ (key, slot.Pending o) ∷ []) ≡ told_by node.boot (OpenMsg (numbers_of key o)) ∷ []
       opens = flat_map-append (λ (e : Key × Slot S). slot_opens node (Packet_comes segment) e.0 e.1) es ((key, slot.Pending o) ∷ [])
@@ -160,6 +162,6 @@ known service node key (e ∷ es) (q ∷ qs) st found = go (key_eq key e.0) refl
         ∙ rest (sym (ap (λ b. is_some (cond b (Some e.1) (lookup (key_eq key) es))) t) ∙ found)
 
 -- the numbers that a SYN asks for, as an opening's
-pub same_numbers : (isn opened : ℕ) (segment : Segment) (key : Key) (o : Opening) → source_of segment ≡ key → segment.head.seq ≡ o.cisn.0 → initial_number isn opened ≡ o.sisn.0
-    → segment_size segment.head.mss ≡ o.mss → numbers_for isn opened segment ≡ numbers_of key o
-same_numbers isn opened segment key o from seq number size = cc
+pub same_numbers : (profile : Profile) (isn opened : ℕ) (segment : Segment) (key : Key) (o : Opening) → source_of segment ≡ key → segment.head.seq ≡ o.cisn.0 → initial_number isn opened ≡ o.sisn.0
+    → text_size segment.head.mss (timestamps_sent (timestamping_for profile segment)) ≡ o.mss → numbers_for profile isn opened segment ≡ numbers_of key o
+same_numbers profile isn opened segment key o from seq number size = cc

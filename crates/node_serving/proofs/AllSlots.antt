@@ -34,7 +34,7 @@ live_ticks service node key (Lives p) c now old new st h =
       wires = g.wires;
       spelled = g.spelled;
     }
-live_ticks service node key (Opens n) c now old new st h = absurd st
+live_ticks service node key (Opens n timestamping) c now old new st h = absurd st
 live_ticks service node key (Ended k) c now old new st h = absurd st
 
 module _ {S : Type 0} (service : Machine S) (node : Node) (input : Input) where

@@ -78,7 +78,7 @@ module _ {S : Type 0} (service : Machine S) (node : Node) (message : Message) (b
         wires = g.wires;
         spelled = g.spelled;
       }
-  live_hears key kept says from (Opens n) c now old new st h = absurd st
+  live_hears key kept says from (Opens n timestamping) c now old new st h = absurd st
   live_hears key kept says from (Ended k) c now old new st h = absurd st
 
   -- others don't care how much is logged
@@ -105,7 +105,7 @@ module _ {S : Type 0} (service : Machine S) (node : Node) (message : Message) (b
 
   pub pending_waits : (key : Key) (kept : Kept) → logged_in message.body ≡ Some kept → kept.key ≡ key → (place : Place) (o : Opening) (told : List Wire)
       → SlotStands service node key (slot.Pending o) place → SlotGoes service node (Message_comes message) key place (slot.Pending o) told told
-  pending_waits key kept says from (Opens n) o told st = others_stay key kept says from (Opens n) (slot.Pending o) told st (refl, refl) (refl, refl)
+  pending_waits key kept says from (Opens n timestamping) o told st = others_stay key kept says from (Opens n timestamping) (slot.Pending o) told st (refl, refl) (refl, refl)
   pending_waits key kept says from (Lives p) o told st = absurd st
   pending_waits key kept says from (Ended k) o told st = absurd st
 
@@ -113,4 +113,4 @@ module _ {S : Type 0} (service : Machine S) (node : Node) (message : Message) (b
       → SlotStands service node key slot.Done place → SlotGoes service node (Message_comes message) key place slot.Done told told
   done_waits key kept says from (Ended k) told st = others_stay key kept says from (Ended k) slot.Done told st (refl, refl) (refl, refl)
   done_waits key kept says from (Lives p) told st = absurd st
-  done_waits key kept says from (Opens n) told st = absurd st
+  done_waits key kept says from (Opens n timestamping) told st = absurd st

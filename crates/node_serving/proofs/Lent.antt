@@ -14,14 +14,14 @@ use Rattle.node_serving.proofs.Admitted.{place_has}
 
 module _ {S : Type 0} (service : Machine S) (node : Node) where
   of_slot : (key : Key) (s : Slot S) (place : Place) → SlotStands service node key s place → IsConnAt service node (conn_in (Some s)) (Some place)
-  of_slot key (slot.Pending o) (Opens n) st = tt
+  of_slot key (slot.Pending o) (Opens n timestamping) st = tt
   of_slot key (slot.Live c) (Lives p) st = st.1
   of_slot key slot.Done (Ended k) st = tt
   of_slot key (slot.Pending o) (Lives p) st = absurd st
   of_slot key (slot.Pending o) (Ended k) st = absurd st
-  of_slot key (slot.Live c) (Opens n) st = absurd st
+  of_slot key (slot.Live c) (Opens n timestamping) st = absurd st
   of_slot key (slot.Live c) (Ended k) st = absurd st
-  of_slot key slot.Done (Opens n) st = absurd st
+  of_slot key slot.Done (Opens n timestamping) st = absurd st
   of_slot key slot.Done (Lives p) st = absurd st
 
   pub conn_looked : (key : Key) (es : List (Key × Slot S)) (places : List Place) → AllStand service node es places

@@ -158,7 +158,7 @@ module _ {S : Type 0} (service : Machine S) (node : Node) (input : Input) where
 
   -- a key that the input isn't about rests
   quiet_opens : (place : Option Place) → flat_map (opens_at node Noise_comes) (option_to_list place) ≡ []
-  quiet_opens (Some (Opens n)) = refl
+  quiet_opens (Some (Opens n timestamping)) = refl
   quiet_opens (Some (Lives p)) = refl
   quiet_opens (Some (Ended k)) = refl
   quiet_opens None = refl

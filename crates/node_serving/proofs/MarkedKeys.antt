@@ -112,14 +112,14 @@ sends_nothing grammar boot key from o m told is none = go m.outstanding (sym (ap
 pub place_marked : {S : Type 0} (by : Marker S) (node : Node) (boot : ℕ) (key : Key) (from : ℕ) (c : ConnState S) (o : Option Place) (was now : KeyMarks) (old new : List Wire) → IsConnAt by.service node (Some c) o
     → ((p : Point) → IsOursAt by.service node.server node.boot c p → AreBytes p.taken → MarksNew by (grammar_of node.profile) boot key p was now from old new) → MarksPlace by (grammar_of node.profile) boot key from o was now old new
 place_marked by node boot key from c (Some (Lives p)) was now old new at h = h p at
-place_marked by node boot key from c (Some (Opens n)) was now old new at h = absurd at
+place_marked by node boot key from c (Some (Opens n timestamping)) was now old new at h = absurd at
 place_marked by node boot key from c (Some (Ended k)) was now old new at h = absurd at
 place_marked by node boot key from c None was now old new at h = absurd at
 
 pub place_unmarked : {S : Type 0} (by : Marker S) (node : Node) (boot : ℕ) (key : Key) (from : ℕ) (o : Option Place) (was : KeyMarks) (told : List Wire) → IsConnAt {S = S} by.service node None o
     → MarksPlace by (grammar_of node.profile) boot key from o was was told told
 place_unmarked by node boot key from (Some (Lives p)) was told at = absurd at
-place_unmarked by node boot key from (Some (Opens n)) was told at = (refl, refl)
+place_unmarked by node boot key from (Some (Opens n timestamping)) was told at = (refl, refl)
 place_unmarked by node boot key from (Some (Ended k)) was told at = (refl, refl)
 place_unmarked by node boot key from None was told at = (refl, refl)
 
@@ -129,7 +129,7 @@ pub slot_marked : {S : Type 0} (by : Marker S) (node : Node) (boot : ℕ) (key :
     → MarksPlace by (grammar_of node.profile) boot key from (Some place) was now old new
 slot_marked by node boot key from (slot.Live d) c (Lives p) was now old new is st h =
     h p (subst (λ x. IsOursAt by.service node.server node.boot x p) (sym (some_is c d is)) st.1)
-slot_marked by node boot key from (slot.Live d) c (Opens n) was now old new is st h = absurd st
+slot_marked by node boot key from (slot.Live d) c (Opens n timestamping) was now old new is st h = absurd st
 slot_marked by node boot key from (slot.Live d) c (Ended k) was now old new is st h = absurd st
 slot_marked by node boot key from (slot.Pending o) c place was now old new is st h = none_is_some c (sym is)
 slot_marked by node boot key from slot.Done c place was now old new is st h = none_is_some c (sym is)
@@ -137,12 +137,12 @@ slot_marked by node boot key from slot.Done c place was now old new is st h = no
 pub slot_unmarked : {S : Type 0} (by : Marker S) (node : Node) (boot : ℕ) (key : Key) (from : ℕ) (s : Slot S) (place : Place) (was : KeyMarks) (told : List Wire) → None ≡ conn_in (Some s)
     → SlotStands by.service node key s place → MarksPlace by (grammar_of node.profile) boot key from (Some place) was was told told
 slot_unmarked by node boot key from (slot.Live d) place was told is st = none_is_some d is
-slot_unmarked by node boot key from (slot.Pending o) (Opens n) was told is st = (refl, refl)
+slot_unmarked by node boot key from (slot.Pending o) (Opens n timestamping) was told is st = (refl, refl)
 slot_unmarked by node boot key from (slot.Pending o) (Lives p) was told is st = absurd st
 slot_unmarked by node boot key from (slot.Pending o) (Ended k) was told is st = absurd st
 slot_unmarked by node boot key from slot.Done (Ended k) was told is st = (refl, refl)
 slot_unmarked by node boot key from slot.Done (Lives p) was told is st = absurd st
-slot_unmarked by node boot key from slot.Done (Opens n) was told is st = absurd st
+slot_unmarked by node boot key from slot.Done (Opens n timestamping) was told is st = absurd st
 
 -- what is written stands at the front
 pub text_is : (message : MarkMessage) (n : ℕ) (out old : List ℕ) → out ≡ marks.spelling message ++ drop n old → n ≤ 1134 → length out ≡ 2048 → length old ≡ 2048 → take n out ≡ marks.spelling message

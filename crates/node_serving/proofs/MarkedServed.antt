@@ -12,10 +12,11 @@ use Rattle.server_trait.specs.Service.{AreBytes}
 use Rattle.server_trait.specs.Service.{Machine}
 use Rattle.seq_arith.specs.declared.kinds.Grammar.{Grammar}
 use Rattle.tcp_rules.specs.Profile.{grammar_of}
+use Rattle.tcp_rules.specs.Profiles.{profile_of}
 use Rattle.ft_model.specs.Network.{Packet, source_of}
 use Rattle.ft_model.specs.Node.{Node, Place, Stage as law_stage, Input, key_of, place_at, is_for, is_known, pending_count}
 use Rattle.ft_model.specs.Node.Input.{Packet_comes}
-use Rattle.ft_model.specs.Opening.{is_syn, numbers_for}
+use Rattle.ft_model.specs.Opening.{is_syn, numbers_for, timestamping_for}
 use Rattle.ft_model.specs.Node.Place.{Opens, Lives, Ended}
 use Rattle.ft_model.specs.Point.{Point}
 use Rattle.seq_arith.specs.Packet.{Segment}
@@ -98,7 +99,7 @@ unmarked_place grammar by boot key marking places m told (Some (Lives p)) e keep
       changes = changes_none m key (with_new by.service by.writing by.every p (marking_in m key)) (sym (new_same by (marking_in m key) p off));
       sends = subst (λ ms. SendsMarks grammar boot key 0 ms told told) (sym (new_none by (marking_in m key) p off)) (sends_none grammar boot key 0 told);
     }
-unmarked_place grammar by boot key marking places m told (Some (Opens n)) e keeps settled = (refl, refl)
+unmarked_place grammar by boot key marking places m told (Some (Opens n timestamping)) e keeps settled = (refl, refl)
 unmarked_place grammar by boot key marking places m told (Some (Ended k)) e keeps settled = (refl, refl)
 unmarked_place grammar by boot key marking places m told None e keeps settled = (refl, refl)
 
@@ -119,7 +120,7 @@ AtLive by before reads o sent after =
 pub none_live : {S : Type 0} (by : Marker S) (node : MarkedNode) (key : Key) (reads : ℕ) (places : List Place) (o : Option Place) → place_at key places ≡ o
     → IsConnAt by.service node.plain None o → HearsOfMark by node places (MarkedMsg key reads) [] node
 none_live by node key reads places (Some (Lives p)) e c = absurd c
-none_live by node key reads places (Some (Opens n)) e c = subst (λ o. AtLive by node reads (live_at o) [] node) (sym e) (refl, refl)
+none_live by node key reads places (Some (Opens n timestamping)) e c = subst (λ o. AtLive by node reads (live_at o) [] node) (sym e) (refl, refl)
 none_live by node key reads places (Some (Ended k)) e c = subst (λ o. AtLive by node reads (live_at o) [] node) (sym e) (refl, refl)
 none_live by node key reads places None e c = subst (λ o. AtLive by node reads (live_at o) [] node) (sym e) (refl, refl)
 
@@ -163,7 +164,7 @@ heard_live {S} by node key reads boot_of places p was mid later new apart e keep
     one : (x : Place) → IsSettledPlace by node.marking x → place_at (key_of x) places ≡ Some x → p.key ≡ key
         → IsSettledPoint by (with_new by.service by.writing by.every p (marking_answered reads (node.marking p.key))) p
         → IsSettledPlace by (with_marking p.key (with_new by.service by.writing by.every p (marking_answered reads (node.marking p.key))) node.marking) x
-    one (Opens n) s f is settles = tt
+    one (Opens n timestamping) s f is settles = tt
     one (Ended k) s f is settles = tt
     one (Lives q) s f is settles =
         by_cases (key_eq q.key p.key)
@@ -207,7 +208,7 @@ pub served_elsewhere : {S : Type 0} (by : Marker S) (who : Identity) (standing :
     → ServingGoes by.service (node_of who standing) (Packet_comes segment) opened places now [] mid → ServingGoesMarked by (node_at who standing awaits marking) (Packet_comes segment) opened places now m [] mid
 served_elsewhere by who standing awaits marking segment opened places es now m mid other bytes =
     served_unmarked by who standing awaits marking (Packet_comes segment) (source_of segment) opened places es now m mid (λ k. ap (λ b. b && key_eq (source_of segment) k) other)
-    (ap (λ b. if (b && not (is_known (source_of segment) places)) && is_syn segment && nat_lt (pending_count places) 64 then Opens (numbers_for who.isn opened segment) ∷ [] else []) other) refl bytes
+    (ap (λ b. if (b && not (is_known (source_of segment) places)) && is_syn segment && nat_lt (pending_count places) 64 then Opens (numbers_for (profile_of who.profile) who.isn opened segment) (timestamping_for (profile_of who.profile) segment) ∷ [] else []) other) refl bytes
 
 -- the payload of bytes
 pub payload_bytes : (bytes : List ℕ) (segment : Segment) → reading bytes ≡ Ok segment → AreBytes bytes → AreBytes segment.payload
@@ -223,6 +224,6 @@ pub heard_at : {S : Type 0} (by : Marker S) (node : MarkedNode) (key : Key) (rea
 heard_at by node key reads boot_of places c was mid later new apart (Some (Lives p)) e at keeps settled changes marks =
     let calm : IsSettledPoint by (node.marking p.key) p = all_find (IsSettledPlace by node.marking) (λ x. key_eq (key_of x) key) places (Lives p) settled e in
     heard_live by node key reads boot_of places p was mid later new apart e keeps settled changes (marks p at calm.taken)
-heard_at by node key reads boot_of places c was mid later new apart (Some (Opens n)) e at keeps settled changes marks = absurd at
+heard_at by node key reads boot_of places c was mid later new apart (Some (Opens n timestamping)) e at keeps settled changes marks = absurd at
 heard_at by node key reads boot_of places c was mid later new apart (Some (Ended k)) e at keeps settled changes marks = absurd at
 heard_at by node key reads boot_of places c was mid later new apart None e at keeps settled changes marks = absurd at

@@ -102,18 +102,18 @@ module _ {S : Type 0} (by : Marker S) (node : Node) (marking : Key → Marking) 
           let is : after ≡ Lives q = ap (first after) e in
           live_ticks_on key p q now g.packets old mid new law (subst (SlotStands by.service node key now) is st) t
           (turn_key by node Ticks p q g.packets t) s g.wires g.spelled sends
-  slot_ticks key (Opens n) now old mid new law s g sends = go now g.after g.turn g.stands sends
+  slot_ticks key (Opens n timestamping) now old mid new law s g sends = go now g.after g.turn g.stands sends
     where
       first : Place → List Place → Place
       first other [] = other
       first other (x ∷ xs) = x
 
-      go : (now : Slot S) (after : Place) → Stays (Opens n) (after ∷ []) g.packets → SlotStands by.service node key now after → SendsAgain (grammar_of node.profile) node.boot key (length old) now (marking key) mid new
-          → SlotTicks by node marking key (Opens n) now old new
+      go : (now : Slot S) (after : Place) → Stays (Opens n timestamping) (after ∷ []) g.packets → SlotStands by.service node key now after → SendsAgain (grammar_of node.profile) node.boot key (length old) now (marking key) mid new
+          → SlotTicks by node marking key (Opens n timestamping) now old new
       go now after (e, none) st sends = unsent now (subst (SlotStands by.service node key now) (ap (first after) e) st) sends
         where
-          unsent : (now : Slot S) → SlotStands by.service node key now (Opens n) → SendsAgain (grammar_of node.profile) node.boot key (length old) now (marking key) mid new → SlotTicks by node marking key (Opens n) now old new
-          unsent (slot.Pending o) st same = rest_ticks key (Opens n) (slot.Pending o) old mid new refl tt st (refl, refl) (g.wires ∙ ap (λ l. old ++ map (wire_by (grammar_of node.profile)) l) none) same
+          unsent : (now : Slot S) → SlotStands by.service node key now (Opens n timestamping) → SendsAgain (grammar_of node.profile) node.boot key (length old) now (marking key) mid new → SlotTicks by node marking key (Opens n timestamping) now old new
+          unsent (slot.Pending o) st same = rest_ticks key (Opens n timestamping) (slot.Pending o) old mid new refl tt st (refl, refl) (g.wires ∙ ap (λ l. old ++ map (wire_by (grammar_of node.profile)) l) none) same
           unsent (slot.Live c) st same = absurd st
           unsent slot.Done st same = absurd st
   slot_ticks key (Ended k) now old mid new law s g sends = go now g.after g.turn g.stands sends
@@ -211,14 +211,14 @@ module _ {S : Type 0} (by : Marker S) (node : Node) (marking : Key → Marking) 
       let at : IsSettledPoint by (marking q.key) q = all_find (IsSettledPlace by marking) (λ x. key_eq (key_of x) key) places (Lives q) s e in
       let is : q.key ≡ key = same_key q.key key (found_passes (λ x. key_eq (key_of x) key) places (Lives q) e) in
       new_same by (marking key) q (subst (λ k. is_due by.service by.every (marking k) q ≡ false) is at.settled.marked)
-  same_then places s key (Some (Opens n)) e = refl
+  same_then places s key (Some (Opens n timestamping)) e = refl
   same_then places s key (Some (Ended k)) e = refl
   same_then places s key None e = refl
 
   like : (m : Key → Marking) → ((k : Key) → m k ≡ marking k) → (places : List Place) → AllSettled by marking places → AllSettled by m places
   like m same [] s = tt
   like m same (Lives q ∷ places) s = (subst (λ x. IsSettledPoint by x q) (sym (same q.key)) s.0, like m same places s.1)
-  like m same (Opens n ∷ places) s = (tt, like m same places s.1)
+  like m same (Opens n timestamping ∷ places) s = (tt, like m same places s.1)
   like m same (Ended k ∷ places) s = (tt, like m same places s.1)
 
 pub serving_ticks : {S : Type 0} (by : Marker S) (who : Identity) (standing : law_stage) (awaits : Bool) (marking : Key → Marking) (opened : ℕ) (places : List Place) (now : Serving S) (marks : KeyMarks)

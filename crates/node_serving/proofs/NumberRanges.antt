@@ -1,5 +1,5 @@
 -- What a turn of a connection sends is for its client or for the logger, and each number in it fits its field.
-use Rattle.std.proofs.Common.{◌≡◌, ◌∙◌, ℕ, Bool, false, true≢false, ◌+◌, ◌<◌, ◌≤◌, ◌^◌, true, ◌&&◌, ◌||◌, nat_le, refl, sym, subst, Option, Some, None, IfSome, List, [], ◌∷◌, ◌++◌, map, length, take, drop, arith, length-drop, length-take}
+use Rattle.std.proofs.Common.{◌≡◌, ◌∙◌, ℕ, Bool, false, true≢false, ◌+◌, ◌<◌, ◌≤◌, ◌^◌, true, ◌&&◌, ◌||◌, nat_le, refl, sym, subst, Option, Some, None, IfSome, List, [], ◌∷◌, ◌++◌, map, length, length-append, take, drop, max, arith, length-drop, length-take}
 use Rattle.std.specs.List.{AllByRecursion}
 use Rattle.std.proofs.lemmas.Bool.{and_from, le-leb}
 use Rattle.ft_io.specs.declared.Addr.{Addr}
@@ -11,6 +11,10 @@ use Rattle.seq_arith.specs.Message.Body.{DataMsg, DoneMsg}
 use Rattle.seq_arith.specs.MessageGrammar as message
 use Rattle.seq_arith.specs.MessageGrammar.{ending, has_length, is_sound_by, most_ending}
 use Rattle.seq_arith.specs.declared.kinds.Grammar.{Grammar}
+use Rattle.seq_arith.proofs.Units.{timestamps_option_long}
+use Rattle.tcp_rules.specs.Timestamping.{timestamps_sent}
+use Rattle.tcp_rules.specs.declared.timestamping.Timestamping.{Timestamping}
+use Rattle.tcp_rules.specs.declared.timestamping.Timestamping.TheVariants.{Off, Awaited, Echoes}
 use Rattle.server_trait.specs.Service.{Machine}
 use Rattle.ft_model.specs.Connection.{LiveTurn, ResetTurn, told_by}
 use Rattle.ft_model.specs.Copy.{copies}
@@ -28,6 +32,8 @@ use Rattle.ft_model.proofs.Lists.{all_weaker, all_map, all_append}
 use Rattle.ft_model.proofs.Spoken.{Spoken, segments_spoken}
 use Rattle.ft_model.proofs.Spoken.Spoken.{spoken_syn, spoken_text, spoken_fin, spoken_bare}
 use Rattle.wrapped_conn.specs.LoggerMessages.{grammar_by}
+use Rattle.wrapped_conn.specs.Sound.{LeavesRoom, echoed}
+use Rattle.wrapped_conn.proofs.SoundAgain.{AreShort}
 use Rattle.wrapped_conn.proofs.Sendable.{FitsKey, done_sendable, ending_low, least_ending, read_sendable}
 use Rattle.ft_io.proofs.Choices.{by_cases, holds_if}
 use Rattle.ft_model.proofs.Copied.{Grows, text_in, all_copies}
@@ -38,6 +44,8 @@ pub record IsInRange (q : Point) : Type 0 where
   pub key : FitsKey q.key
   pub sisn : q.sisn < 2 ^ 32
   pub size : q.mss ≤ 1460
+  pub room : LeavesRoom q.mss q.timestamping
+  pub echo : echoed q.timestamping < 2 ^ 32
   pub taken : length q.taken ≤ 2 ^ 24
   pub una : q.una ≤ 2 ^ 24 + 1
   pub count : length q.lengths ≤ 2 ^ 24 + 1
@@ -48,33 +56,48 @@ IsWritten grammar key (To_client segment) = (destination_of segment ≡ key) × 
 IsWritten grammar key (To_logger told) = message.IsSpellableBy grammar told
 IsWritten grammar key _ = ⊥
 
+-- the timestamps of a segment, and how long they are
+sent_short : (timestamping : Timestamping) → echoed timestamping < 2 ^ 32 → AreShort (timestamps_sent timestamping)
+sent_short Off h = tt
+sent_short Awaited h = tt
+sent_short (Echoes recent) h = (omega arith, h)
+
+sent_fits : (mss : ℕ) (timestamping : Timestamping) → mss ≤ 1460 → LeavesRoom mss timestamping
+    → (length (packet.timestamps_option (timestamps_sent timestamping)) ≤ 12) × (mss + length (packet.timestamps_option (timestamps_sent timestamping)) ≤ 1460)
+sent_fits mss Off small room = (omega arith, omega (arith, small))
+sent_fits mss Awaited small room = (omega arith, omega (arith, small))
+sent_fits mss (Echoes recent) small room =
+    let long = timestamps_option_long (record { value = 1; echo = recent }) in (omega (arith, long), omega (arith, long, room refl))
+
 -- segments
-spells : (server : Addr) (q : Point) (seq flags : ℕ) (mss : Option ℕ) (payload : List ℕ) → FitsAddr server → FitsKey q.key → seq < 2 ^ 32 → flags < 2 ^ 8 → IfSome mss (λ m. m < 2 ^ 16)
-    → length (packet.mss_option mss) + length payload ≤ 1460 → packet.IsSpellable (record { head = head_to server q seq flags mss; payload = payload })
-spells server q seq flags mss payload a k low few fits short = record {
-  src = a.0;
-  dst = k.ip;
-  sport = a.1;
-  dport = k.port;
-  seq = low;
-  ack = omega arith;
-  flags = few;
-  window = omega arith;
-  mss = fits;
-  size = omega (arith, short);
-}
+spells : (server : Addr) (q : Point) (seq flags : ℕ) (mss : Option ℕ) (payload : List ℕ) → FitsAddr server → IsInRange q → seq < 2 ^ 32 → flags < 2 ^ 8 → IfSome mss (λ m. m < 2 ^ 16)
+    → length (packet.mss_option mss) + length payload ≤ max 4 q.mss → packet.IsSpellable (record { head = head_to server q seq flags mss; payload = payload })
+spells server q seq flags mss payload a r low few fits short =
+    let stamps = sent_fits q.mss q.timestamping r.size r.room in record {
+      src = a.0;
+      dst = r.key.ip;
+      sport = a.1;
+      dport = r.key.port;
+      seq = low;
+      ack = omega arith;
+      flags = few;
+      window = omega arith;
+      mss = fits;
+      timestamps = sent_short q.timestamping r.echo;
+      size = omega (arith, short, r.size, stamps.0, stamps.1, length-append (packet.mss_option mss) (packet.timestamps_option (timestamps_sent q.timestamping)));
+    }
 
 segment_written : {State : Type 0} (grammar : Grammar) (service : Machine State) (server : Addr) (news : News) (p q : Point) (segment : Segment) → FitsAddr server → IsInRange q
     → Spoken service server news p q segment → IsWritten grammar q.key (To_client segment)
 segment_written grammar service server news p q segment a r (spoken_syn e) =
-    subst (λ s. IsWritten grammar q.key (To_client s)) (sym e) (refl, spells server q q.sisn _ (Some 1460) [] a r.key r.sisn (omega arith) (omega arith) (omega arith))
+    subst (λ s. IsWritten grammar q.key (To_client s)) (sym e) (refl, spells server q q.sisn _ (Some 1460) [] a r r.sisn (omega arith) (omega arith) (omega arith))
 segment_written grammar service server news p q segment a r (spoken_text offset n short e) =
     let size = length-take n (drop offset (answered_run service q).output) in
-    subst (λ s. IsWritten grammar q.key (To_client s)) (sym e) (refl, spells server q _ _ None (take n (drop offset (answered_run service q).output)) a r.key (omega arith) (omega arith) tt (omega (arith, size, short, r.size)))
+    subst (λ s. IsWritten grammar q.key (To_client s)) (sym e) (refl, spells server q _ _ None (take n (drop offset (answered_run service q).output)) a r (omega arith) (omega arith) tt (omega (arith, size, short)))
 segment_written grammar service server news p q segment a r (spoken_fin f e) =
-    subst (λ s. IsWritten grammar q.key (To_client s)) (sym e) (refl, spells server q _ _ None [] a r.key (omega arith) (omega arith) tt (omega arith))
+    subst (λ s. IsWritten grammar q.key (To_client s)) (sym e) (refl, spells server q _ _ None [] a r (omega arith) (omega arith) tt (omega arith))
 segment_written grammar service server news p q segment a r (spoken_bare offset e) =
-    subst (λ s. IsWritten grammar q.key (To_client s)) (sym e) (refl, spells server q _ _ None [] a r.key (omega arith) (omega arith) tt (omega arith))
+    subst (λ s. IsWritten grammar q.key (To_client s)) (sym e) (refl, spells server q _ _ None [] a r (omega arith) (omega arith) tt (omega arith))
 
 -- and messages
 abbrev IsTold : Grammar → ℕ → Body → Type 0
@@ -101,16 +124,16 @@ data_told batches boot part b k within few short batch =
       size = and_from _ true (and_from (nat_le (31 + 0) (31 + length part.bytes)) (nat_le (31 + length part.bytes) (31 + 1460)) (le-leb _ _ (omega arith)) (le-leb _ _ (omega (arith, short)))) refl;
     }
 
--- the text of what comes fits a packet
+-- the text of what comes fits a packet, and its timestamps are numbers of 32 bits
 abbrev pub IsShort : News → Type 0
-IsShort (Comes segment) = length segment.payload ≤ 1460
+IsShort (Comes segment) = (length segment.payload ≤ 1460) × AreShort segment.head.timestamps
 IsShort _ = Unit {0}
 
 text_short : (segment : Segment) → length segment.payload ≤ 1460 → length (text_of segment) ≤ 1460
 text_short segment h = holds_if (λ t. length t ≤ 1460) (has_syn segment || has_rst segment) [] segment.payload (λ t. omega arith) (λ t. h)
 
 news_short : (news : News) → IsShort news → length (text_in news) ≤ 1460
-news_short (Comes segment) h = text_short segment h
+news_short (Comes segment) h = text_short segment h.0
 news_short (Logged kept) h = omega arith
 news_short Ticks h = omega arith
 news_short Begins h = omega arith

@@ -18,13 +18,13 @@ use Rattle.ft_io.proofs.Choices.{same_some}
 use Rattle.ft_model.proofs.Lists.{same_key}
 
 pub place_key : {S : Type 0} (service : Machine S) (node : Node) (key : Key) (s : Slot S) (place : Place) → SlotStands service node key s place → key_of place ≡ key
-place_key service node key (slot.Pending o) (Opens n) st = ap (λ x. x.key) st
+place_key service node key (slot.Pending o) (Opens n timestamping) st = ap (λ x. x.key) st.0
 place_key service node key (slot.Pending o) (Lives p) st = absurd st
 place_key service node key (slot.Pending o) (Ended k) st = absurd st
-place_key service node key (slot.Live c) (Opens n) st = absurd st
+place_key service node key (slot.Live c) (Opens n timestamping) st = absurd st
 place_key service node key (slot.Live c) (Lives p) st = st.0
 place_key service node key (slot.Live c) (Ended k) st = absurd st
-place_key service node key slot.Done (Opens n) st = absurd st
+place_key service node key slot.Done (Opens n timestamping) st = absurd st
 place_key service node key slot.Done (Lives p) st = absurd st
 place_key service node key slot.Done (Ended k) st = st
 

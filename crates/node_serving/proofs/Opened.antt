@@ -78,29 +78,30 @@ module _ {S : Type 0} (service : Machine S) (node : Node) (message : Message) (b
     wires = sym (append-nil told);
     spelled = tt;
   }
-  ends says (Opens n) (slot.Pending o) told st = quiet (Opens n) (slot.Pending o) told st (subst (λ b. Hears service node b (Opens n) (Opens n ∷ []) []) (sym says) (refl, refl))
+  ends says (Opens n timestamping) (slot.Pending o) told st = quiet (Opens n timestamping) (slot.Pending o) told st (subst (λ b. Hears service node b (Opens n timestamping) (Opens n timestamping ∷ []) []) (sym says) (refl, refl))
   ends says (Ended k) slot.Done told st = quiet (Ended k) slot.Done told st (subst (λ b. Hears service node b (Ended k) (Ended k ∷ []) []) (sym says) (refl, refl))
   ends says (Lives p) (slot.Pending o) told st = absurd st
   ends says (Lives p) slot.Done told st = absurd st
-  ends says (Opens n) (slot.Live c) told st = absurd st
-  ends says (Opens n) slot.Done told st = absurd st
+  ends says (Opens n timestamping) (slot.Live c) told st = absurd st
+  ends says (Opens n timestamping) slot.Done told st = absurd st
   ends says (Ended k) (slot.Live c) told st = absurd st
   ends says (Ended k) (slot.Pending o) told st = absurd st
 
   -- Opened with the client's number makes the connection
   pub opening_lives : (numbers : Opening) → message.body ≡ body.OpenedMsg (numbers_of key numbers) → (place : Place) (o : Opening) (c : ConnState S) (old new : List Wire)
       → SlotStands service node key (slot.Pending o) place → o.cisn.0 ≡ numbers.cisn.0
-      → ConnGoes (grammar_of node.profile) service node.server node.boot Begins (point_opened node.profile (numbers_of key numbers)) c old new
+      → ConnGoes (grammar_of node.profile) service node.server node.boot Begins (point_opened node.profile o.timestamping (numbers_of key numbers)) c old new
       → SlotGoes service node (Message_comes message) key place (slot.Live c) old new
-  opening_lives numbers says (Opens n) o c old new st same g =
-      let equal : (numbers.cisn.0 == n.cisn) ≡ true = eq-eqb numbers.cisn.0 n.cisn (sym same ∙ sym (ap (λ x. x.cisn) st)) in
-      let lives : LivesOn service node Begins (point_opened node.profile (numbers_of key numbers)) (Lives g.after ∷ []) g.packets = (g.after, refl, g.turn) in record {
+  opening_lives numbers says (Opens n timestamping) o c old new st same g =
+      let equal : (numbers.cisn.0 == n.cisn) ≡ true = eq-eqb numbers.cisn.0 n.cisn (sym same ∙ sym (ap (λ x. x.cisn) st.0)) in
+      let lives : LivesOn service node Begins (point_opened node.profile timestamping (numbers_of key numbers)) (Lives g.after ∷ []) g.packets =
+      subst (λ t. LivesOn service node Begins (point_opened node.profile t (numbers_of key numbers)) (Lives g.after ∷ []) g.packets) (sym st.1) (g.after, refl, g.turn) in record {
         after = Lives g.after;
         packets = g.packets;
         stands = (g.key, g.stands);
-        turn = place_meets service node (Message_comes message) (Opens n) (Lives g.after ∷ []) g.packets (its_key node message key boot named n.key (ap (λ x. x.key) st))
-            (subst (λ b. Hears service node b (Opens n) (Lives g.after ∷ []) g.packets) (sym says)
-            (subst (λ b. MatchBool b (LivesOn service node Begins (point_opened node.profile (numbers_of key numbers)) (Lives g.after ∷ []) g.packets) ((Lives g.after ∷ [] ≡ []) × (g.packets ≡ []))) (sym equal) lives));
+        turn = place_meets service node (Message_comes message) (Opens n timestamping) (Lives g.after ∷ []) g.packets (its_key node message key boot named n.key (ap (λ x. x.key) st.0))
+            (subst (λ b. Hears service node b (Opens n timestamping) (Lives g.after ∷ []) g.packets) (sym says)
+            (subst (λ b. MatchBool b (LivesOn service node Begins (point_opened node.profile timestamping (numbers_of key numbers)) (Lives g.after ∷ []) g.packets) ((Lives g.after ∷ [] ≡ []) × (g.packets ≡ []))) (sym equal) lives));
         wires = g.wires;
         spelled = g.spelled;
       }
@@ -110,14 +111,14 @@ module _ {S : Type 0} (service : Machine S) (node : Node) (message : Message) (b
   -- with another number it drops the opening
   pub opening_drops : (numbers : Opening) → message.body ≡ body.OpenedMsg (numbers_of key numbers) → (place : Place) (o : Opening) (told : List Wire)
       → SlotStands service node key (slot.Pending o) place → (numbers.cisn.0 == o.cisn.0) ≡ false → SlotLeaves service node (Message_comes message) place told told
-  opening_drops numbers says (Opens n) o told st other =
+  opening_drops numbers says (Opens n timestamping) o told st other =
       let none : List Place = [] in
       let quiet : List Packet = [] in
-      let differ : (numbers.cisn.0 == n.cisn) ≡ false = ap (λ x. numbers.cisn.0 == x.cisn) st ∙ other in record {
+      let differ : (numbers.cisn.0 == n.cisn) ≡ false = ap (λ x. numbers.cisn.0 == x.cisn) st.0 ∙ other in record {
         packets = [];
-        turn = place_meets service node (Message_comes message) (Opens n) [] [] (its_key node message key boot named n.key (ap (λ x. x.key) st))
-            (subst (λ b. Hears service node b (Opens n) [] []) (sym says)
-            (subst (λ b. MatchBool b (LivesOn service node Begins (point_opened node.profile (numbers_of key numbers)) none quiet) ((none ≡ []) × (quiet ≡ []))) (sym differ) (refl, refl)));
+        turn = place_meets service node (Message_comes message) (Opens n timestamping) [] [] (its_key node message key boot named n.key (ap (λ x. x.key) st.0))
+            (subst (λ b. Hears service node b (Opens n timestamping) [] []) (sym says)
+            (subst (λ b. MatchBool b (LivesOn service node Begins (point_opened node.profile timestamping (numbers_of key numbers)) none quiet) ((none ≡ []) × (quiet ≡ []))) (sym differ) (refl, refl)));
         wires = sym (append-nil told);
         spelled = tt;
       }
@@ -127,11 +128,11 @@ module _ {S : Type 0} (service : Machine S) (node : Node) (message : Message) (b
   -- Full drops an opening and refuses its SYN
   pub opening_refused : message.body ≡ body.FullMsg key → (place : Place) (o : Opening) (old new : List Wire) → SlotStands service node key (slot.Pending o) place
       → AreSent (full_rst node.server (numbers_of key o) ∷ []) old new → SlotLeaves service node (Message_comes message) place old new
-  opening_refused says (Opens n) o old new st told =
-      let at : AreSent (full_rst node.server n ∷ []) old new = subst (λ x. AreSent (full_rst node.server x ∷ []) old new) (sym st) told in record {
+  opening_refused says (Opens n timestamping) o old new st told =
+      let at : AreSent (full_rst node.server n ∷ []) old new = subst (λ x. AreSent (full_rst node.server x ∷ []) old new) (sym st.0) told in record {
         packets = To_client (full_rst node.server n) ∷ [];
-        turn = place_meets service node (Message_comes message) (Opens n) [] (To_client (full_rst node.server n) ∷ []) (its_key node message key boot named n.key (ap (λ x. x.key) st))
-            (subst (λ b. Hears service node b (Opens n) [] (To_client (full_rst node.server n) ∷ [])) (sym says) (refl, refl));
+        turn = place_meets service node (Message_comes message) (Opens n timestamping) [] (To_client (full_rst node.server n) ∷ []) (its_key node message key boot named n.key (ap (λ x. x.key) st.0))
+            (subst (λ b. Hears service node b (Opens n timestamping) [] (To_client (full_rst node.server n) ∷ [])) (sym says) (refl, refl));
         wires = (at.each (grammar_of node.profile)).wires;
         spelled = (at.each (grammar_of node.profile)).spelled;
       }
@@ -143,11 +144,11 @@ module _ {S : Type 0} (service : Machine S) (node : Node) (message : Message) (b
     unpending : (s : Slot S) (told : List Wire) → opening_in (Some s) ≡ None → (place : Place) → SlotStands service node key s place → SlotGoes service node (Message_comes message) key place s told told
     unpending (slot.Pending o) told free place at = absurd (true≢false (ap Rattle.std.specs.Option.is_some free))
     unpending (slot.Live c) told free (Lives p) at = quiet (Lives p) (slot.Live c) told at (live p)
-    unpending (slot.Live c) told free (Opens n) at = absurd at
+    unpending (slot.Live c) told free (Opens n timestamping) at = absurd at
     unpending (slot.Live c) told free (Ended k) at = absurd at
     unpending slot.Done told free (Ended k) at = quiet (Ended k) slot.Done told at (done k)
     unpending slot.Done told free (Lives p) at = absurd at
-    unpending slot.Done told free (Opens n) at = absurd at
+    unpending slot.Done told free (Opens n timestamping) at = absurd at
 
     pub none_pending : (es : List (Key × Slot S)) (places : List Place) (told : List Wire) → IsDistinct key_eq (keys_of es) → opening_in (lookup (key_eq key) es) ≡ None
         → AllStand service node es places → AllSlotsGo service node (Message_comes message) places es told told

@@ -22,13 +22,13 @@ use Rattle.node_serving.proofs.Collecting.{take_more}
 
 pub slot_is : {S : Type 0} (service : Machine S) (node : Node) (input : Input) (key : Key) (s : Slot S) (place : Place) → SlotStands service node key s place
     → opens_at node input place ≡ slot_opens node input key s
-slot_is service node input key (slot.Pending o) (Opens n) st = ap (λ x. opens_at node input (Opens x)) st
+slot_is service node input key (slot.Pending o) (Opens n timestamping) st = λ j. opens_at node input (Opens (st.0 j) (st.1 j))
 slot_is service node input key (slot.Pending o) (Lives p) st = absurd st
 slot_is service node input key (slot.Pending o) (Ended k) st = absurd st
-slot_is service node input key (slot.Live c) (Opens n) st = absurd st
+slot_is service node input key (slot.Live c) (Opens n timestamping) st = absurd st
 slot_is service node input key (slot.Live c) (Lives p) st = refl
 slot_is service node input key (slot.Live c) (Ended k) st = absurd st
-slot_is service node input key slot.Done (Opens n) st = absurd st
+slot_is service node input key slot.Done (Opens n timestamping) st = absurd st
 slot_is service node input key slot.Done (Lives p) st = absurd st
 slot_is service node input key slot.Done (Ended k) st = refl
 

@@ -54,7 +54,7 @@ module _ {S : Type 0} (service : Machine S) (node : Node) (segment : Segment) (m
         wires = g.wires;
         spelled = g.spelled;
       }
-  live_comes (Opens n) c now old new near st h = absurd st
+  live_comes (Opens n timestamping) c now old new near st h = absurd st
   live_comes (Ended k) c now old new near st h = absurd st
 
   -- a key that is done gets the answer of CLOSED
@@ -68,17 +68,17 @@ module _ {S : Type 0} (service : Machine S) (node : Node) (segment : Segment) (m
     wires = (told.each (grammar_of node.profile)).wires;
     spelled = (told.each (grammar_of node.profile)).spelled;
   }
-  done_answers (Opens n) old new st told = absurd st
+  done_answers (Opens n timestamping) old new st told = absurd st
   done_answers (Lives p) old new st told = absurd st
 
   -- a segment of a pending key is dropped here
   pub pending_drops : (place : Place) (o : Opening) (told : List Wire) → SlotStands service node (source_of segment) (slot.Pending o) place
       → SlotGoes service node (Packet_comes segment) (source_of segment) place (slot.Pending o) told told
-  pending_drops (Opens n) o told st = record {
-    after = Opens n;
+  pending_drops (Opens n timestamping) o told st = record {
+    after = Opens n timestamping;
     packets = [];
     stands = st;
-    turn = place_meets service node (Packet_comes segment) (Opens n) (Opens n ∷ []) [] (concerned n.key (ap (λ x. x.key) st)) (refl, refl);
+    turn = place_meets service node (Packet_comes segment) (Opens n timestamping) (Opens n timestamping ∷ []) [] (concerned n.key (ap (λ x. x.key) st.0)) (refl, refl);
     wires = sym (append-nil told);
     spelled = tt;
   }

@@ -16,7 +16,7 @@ use Rattle.ft_model.specs.Network.Packet.{To_client}
 use Rattle.ft_model.specs.Node.{Node, Place, Input, is_for, is_known, pending_count}
 use Rattle.ft_model.specs.Node.Place.{Opens}
 use Rattle.ft_model.specs.Node.Input.{Packet_comes, Tick_comes, Message_comes}
-use Rattle.ft_model.specs.Opening.{is_syn, initial_number, numbers_for}
+use Rattle.ft_model.specs.Opening.{is_syn, initial_number, numbers_for, timestamping_for}
 use Rattle.ft_model.specs.Refusal.{as_listen}
 use Rattle.ft_model.specs.ServingTurn.{opens_at, newcomers, refusals, is_strange}
 use Rattle.ft_model.specs.Wire.{Wire}
@@ -73,7 +73,7 @@ module _ {S : Type 0} (service : Machine S) (node : Node) where
   -- a packet of no stranger makes no opening and gets no refusal
   no_newcomers : (segment : Segment) (opened : ℕ) (places : List Place) → is_strange node segment places ≡ false → newcomers node (Packet_comes segment) opened places ≡ []
   no_newcomers segment opened places familiar =
-      ap (λ b. if b && is_syn segment && nat_lt (pending_count places) 64 then Opens (numbers_for node.isn opened segment) ∷ [] else []) familiar
+      ap (λ b. if b && is_syn segment && nat_lt (pending_count places) 64 then Opens (numbers_for node.profile node.isn opened segment) (timestamping_for node.profile segment) ∷ [] else []) familiar
 
   no_refusals : (segment : Segment) (places : List Place) → is_strange node segment places ≡ false → refusals node (Packet_comes segment) places ≡ []
   no_refusals segment places familiar = ap (λ b. if b then map To_client (as_listen node.server segment) else []) familiar

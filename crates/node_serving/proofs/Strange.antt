@@ -18,7 +18,7 @@ use Rattle.ft_model.specs.Network.Packet.{To_client}
 use Rattle.ft_model.specs.Node.{Node, Place, is_for, is_known}
 use Rattle.ft_model.specs.Node.Place.{Opens}
 use Rattle.ft_model.specs.Node.Input.{Packet_comes}
-use Rattle.ft_model.specs.Opening.{is_syn, initial_number, numbers_for}
+use Rattle.ft_model.specs.Opening.{is_syn, initial_number, numbers_for, timestamping_for}
 use Rattle.ft_model.specs.Refusal.{as_listen, rst_at_ack}
 use Rattle.ft_model.specs.ServingTurn.{ServingTurn, concerns, is_asked, opens_at, newcomers, refusals}
 use Rattle.ft_model.specs.Wire.{Wire, wire_by, HasWireBy}
@@ -75,7 +75,7 @@ module _ {S : Type 0} (service : Machine S) (node : Node) (segment : Segment) wh
               ap (λ b. is_some (if b then Some q else None)) (ap₂ key_eq (place_key service node k t q x) its ∙ key_is k) in
               let familiar : (is_for node.server segment && not (is_known (source_of segment) (q ∷ []))) ≡ false =
               ap (λ b. is_for node.server segment && not b) known ∙ never (is_for node.server segment) in (
-                ap (λ b. if b && is_syn segment && nat_lt (Rattle.ft_model.specs.Node.pending_count (q ∷ [])) 64 then Opens (numbers_for node.isn opened segment) ∷ [] else []) familiar,
+                ap (λ b. if b && is_syn segment && nat_lt (Rattle.ft_model.specs.Node.pending_count (q ∷ [])) 64 then Opens (numbers_for node.profile node.isn opened segment) (timestamping_for node.profile segment) ∷ [] else []) familiar,
                 ap (λ b. if b then map To_client (as_listen node.server segment) else []) familiar,
               )
             where
@@ -95,23 +95,23 @@ module _ {S : Type 0} (service : Machine S) (node : Node) (segment : Segment) wh
     refused_alone = ap (λ b. if b then map To_client (as_listen node.server segment) else []) stranger
 
     -- what a SYN makes at a server that has no key, and what another segment does
-    came : (opened : ℕ) → is_syn segment ≡ true → newcomers node (Packet_comes segment) opened [] ≡ Opens (numbers_for node.isn opened segment) ∷ []
-    came opened syn = ap₂ (λ x y. if x && y && true then Opens (numbers_for node.isn opened segment) ∷ [] else []) stranger syn
+    came : (opened : ℕ) → is_syn segment ≡ true → newcomers node (Packet_comes segment) opened [] ≡ Opens (numbers_for node.profile node.isn opened segment) (timestamping_for node.profile segment) ∷ []
+    came opened syn = ap₂ (λ x y. if x && y && true then Opens (numbers_for node.profile node.isn opened segment) (timestamping_for node.profile segment) ∷ [] else []) stranger syn
 
     none_came : (opened : ℕ) → is_syn segment ≡ false → newcomers node (Packet_comes segment) opened [] ≡ []
-    none_came opened other = ap₂ (λ x y. if x && y && true then Opens (numbers_for node.isn opened segment) ∷ [] else []) stranger other
+    none_came opened other = ap₂ (λ x y. if x && y && true then Opens (numbers_for node.profile node.isn opened segment) (timestamping_for node.profile segment) ∷ [] else []) stranger other
 
     asked : (opened : ℕ) → is_syn segment ≡ true
-        → flat_map (opens_at node (Packet_comes segment)) (Opens (numbers_for node.isn opened segment) ∷ []) ≡ told_by node.boot (OpenMsg (numbers_for node.isn opened segment)) ∷ []
-    asked opened syn = ap (λ b. (if b then told_by node.boot (OpenMsg (numbers_for node.isn opened segment)) ∷ [] else []) ++ []) asks
+        → flat_map (opens_at node (Packet_comes segment)) (Opens (numbers_for node.profile node.isn opened segment) (timestamping_for node.profile segment) ∷ []) ≡ told_by node.boot (OpenMsg (numbers_for node.profile node.isn opened segment)) ∷ []
+    asked opened syn = ap (λ b. (if b then told_by node.boot (OpenMsg (numbers_for node.profile node.isn opened segment)) ∷ [] else []) ++ []) asks
       where
-        asks : is_asked node (Packet_comes segment) (numbers_for node.isn opened segment) ≡ true
+        asks : is_asked node (Packet_comes segment) (numbers_for node.profile node.isn opened segment) ≡ true
         asks = rw (mine, syn, key_is (source_of segment), eq-eqb segment.head.seq segment.head.seq refl) refl
 
     -- the turn of such a server, at a SYN, ..
     opened_alone : (opened : ℕ) → is_syn segment ≡ true
-        → ServingTurn service node (Packet_comes segment) opened [] (Opens (numbers_for node.isn opened segment) ∷ [])
-        (map To_client (as_listen node.server segment) ++ told_by node.boot (OpenMsg (numbers_for node.isn opened segment)) ∷ [])
+        → ServingTurn service node (Packet_comes segment) opened [] (Opens (numbers_for node.profile node.isn opened segment) (timestamping_for node.profile segment) ∷ [])
+        (map To_client (as_listen node.server segment) ++ told_by node.boot (OpenMsg (numbers_for node.profile node.isn opened segment)) ∷ [])
     opened_alone opened syn = record {
       went = [];
       by_places = [];
@@ -165,28 +165,28 @@ module _ {S : Type 0} (service : Machine S) (node : Node) (segment : Segment) wh
 
     -- so the law leaves no choice at a SYN either
     opened_by : (opened : ℕ) (after : List Place) (sent : List Packet) → is_syn segment ≡ true → ServingTurn service node (Packet_comes segment) opened [] after sent
-        → (after ≡ Opens (numbers_for node.isn opened segment) ∷ []) × (sent ≡ told_by node.boot (OpenMsg (numbers_for node.isn opened segment)) ∷ [])
+        → (after ≡ Opens (numbers_for node.profile node.isn opened segment) (timestamping_for node.profile segment) ∷ []) × (sent ≡ told_by node.boot (OpenMsg (numbers_for node.profile node.isn opened segment)) ∷ [])
     opened_by opened after sent syn t = (
       one,
       t.packets ∙ (ap₂ (λ xs ys. xs ++ (refusals node (Packet_comes segment) [] ++ flat_map (opens_at node (Packet_comes segment)) ys)) t.all_go.1 one
           ∙ ap₂ ◌++◌ (refused_alone ∙ silent_syn syn) (asked opened syn)),
     )
       where
-        one : after ≡ Opens (numbers_for node.isn opened segment) ∷ []
+        one : after ≡ Opens (numbers_for node.profile node.isn opened segment) (timestamping_for node.profile segment) ∷ []
         one = t.places ∙ ap₂ ◌++◌ t.all_go.0 (came opened syn)
 
     pub opens_newcomer : (opened pending : ℕ) (after : Option Place) (sent : List Packet) → is_syn segment ≡ true → pending < 64
         → KeyTurn service node (Packet_comes segment) key opened pending None after sent
-        → (after ≡ Some (Opens (numbers_for node.isn opened segment))) × (sent ≡ told_by node.boot (OpenMsg (numbers_for node.isn opened segment)) ∷ [])
+        → (after ≡ Some (Opens (numbers_for node.profile node.isn opened segment) (timestamping_for node.profile segment))) × (sent ≡ told_by node.boot (OpenMsg (numbers_for node.profile node.isn opened segment)) ∷ [])
     opens_newcomer opened pending after sent syn few (inl t) =
         let by = opened_by opened (option_to_list after) sent syn
         (subst (λ i. ServingTurn service node i opened [] (option_to_list after) sent) (comes service node (Packet_comes segment) key (its_client node segment key mine from)) t) in
         (only after by.0, by.1)
       where
-        only : (o : Option Place) → option_to_list o ≡ Opens (numbers_for node.isn opened segment) ∷ [] → o ≡ Some (Opens (numbers_for node.isn opened segment))
+        only : (o : Option Place) → option_to_list o ≡ Opens (numbers_for node.profile node.isn opened segment) (timestamping_for node.profile segment) ∷ [] → o ≡ Some (Opens (numbers_for node.profile node.isn opened segment) (timestamping_for node.profile segment))
         only None e = absurd (no e)
           where
-            no : [] ≡ Opens (numbers_for node.isn opened segment) ∷ [] → ⊥
+            no : [] ≡ Opens (numbers_for node.profile node.isn opened segment) (timestamping_for node.profile segment) ∷ [] → ⊥
             no e = cc
         only (Some q) e = ap Some (ap (λ xs. get_or xs 0 q) e)
     opens_newcomer opened pending after sent syn few (inr p) = absurd (omega (arith, few, p.full))
@@ -264,8 +264,8 @@ module _ {S : Type 0} (service : Machine S) (node : Node) (segment : Segment) wh
             asks : Packet
             asks = told_by node.boot (OpenMsg (numbers_of key o.opening))
 
-            numbers : numbers_of key o.opening ≡ numbers_for node.isn opened segment
-            numbers = o.numbers ∙ ap (λ n. let x : Numbers = record { key = source_of segment; cisn = segment.head.seq; sisn = n; mss = Rattle.seq_arith.specs.Packet.segment_size segment.head.mss } in x) number
+            numbers : numbers_of key o.opening ≡ numbers_for node.profile node.isn opened segment
+            numbers = o.numbers ∙ ap (λ n. let x : Numbers = record { key = source_of segment; cisn = segment.head.seq; sisn = n; mss = Rattle.seq_arith.specs.Packet.text_size segment.head.mss (Rattle.tcp_rules.specs.Timestamping.timestamps_sent (timestamping_for node.profile segment)) } in x) number
 
             put : IsOnlyFor (grammar_of node.profile) key old new
             put = record {
@@ -288,13 +288,13 @@ module _ {S : Type 0} (service : Machine S) (node : Node) (segment : Segment) wh
             at (Some q) x = absurd x
             at None x = record {
               opened = opened;
-              after = Some (Opens (numbers_for node.isn opened segment));
+              after = Some (Opens (numbers_for node.profile node.isn opened segment) (timestamping_for node.profile segment));
               packets = packets;
               number = number;
-              stands = subst (λ s. StandsFor service node key s (Some (Opens (numbers_for node.isn opened segment))))
-                  (sym (ap (lookup (key_eq key)) o.slots ∙ found_last key was.slots.entries (slot.Pending o.opening) gone)) (sym numbers);
-              turn = inl (subst (λ i. ServingTurn service node i opened [] (Opens (numbers_for node.isn opened segment) ∷ []) packets) (sym its)
-                  (subst (λ n. ServingTurn service node (Packet_comes segment) opened [] (Opens (numbers_for node.isn opened segment) ∷ []) (rsts ++ told_by node.boot (OpenMsg n) ∷ [])) (sym numbers)
+              stands = subst (λ s. StandsFor service node key s (Some (Opens (numbers_for node.profile node.isn opened segment) (timestamping_for node.profile segment))))
+                  (sym (ap (lookup (key_eq key)) o.slots ∙ found_last key was.slots.entries (slot.Pending o.opening) gone)) (sym numbers, sym o.timestamping);
+              turn = inl (subst (λ i. ServingTurn service node i opened [] (Opens (numbers_for node.profile node.isn opened segment) (timestamping_for node.profile segment) ∷ []) packets) (sym its)
+                  (subst (λ n. ServingTurn service node (Packet_comes segment) opened [] (Opens (numbers_for node.profile node.isn opened segment) (timestamping_for node.profile segment) ∷ []) (rsts ++ told_by node.boot (OpenMsg n) ∷ [])) (sym numbers)
                   (opened_alone opened syn)));
               wires = told_its (grammar_of node.profile) key put.told packets put.alone (told_is (grammar_of node.profile) old new put.told packets put.put wires) spelled;
               spelled = spelled;

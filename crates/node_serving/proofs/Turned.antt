@@ -1,5 +1,5 @@
 -- From what the connection's crate says of a turn to what the node says of it.
-use Rattle.std.proofs.Common.{◌≡◌, ◌∙◌, ℕ, ◌+◌, ◌-◌, ◌<◌, ◌≤◌, ◌^◌, Bool, true, false, refl, sym, ap, subst, Result, Ok, Err, OnOk, List, [], ◌∷◌, ◌++◌, map, length, drop, arith, drop-drop}
+use Rattle.std.proofs.Common.{◌≡◌, ◌∙◌, ℕ, ◌+◌, ◌-◌, ◌<◌, ◌≤◌, ◌^◌, Bool, true, false, refl, sym, ap, subst, subst₂, Result, Ok, Err, OnOk, List, [], ◌∷◌, ◌++◌, map, length, drop, arith, drop-drop}
 use Rattle.std.specs.Prelude.{IsOk}
 use Rattle.std.specs.Bool.{MatchBool}
 use Rattle.std.specs.List.{AllByRecursion}
@@ -33,6 +33,9 @@ use Rattle.north_wrap.specs.NorthState.{lengths_of}
 use Rattle.north_wrap.specs.Refinement.{NorthStands}
 use Rattle.wrapped_conn.specs.ConnState.{ConnState}
 use Rattle.wrapped_conn.specs.Sound as sound
+use Rattle.wrapped_conn.specs.Sound.{LeavesRoom, echoed}
+use Rattle.wrapped_conn.proofs.SoundAgain.{echo_leaves, echo_short}
+use Rattle.ft_model.specs.Timestamps.{is_timely, timestamping_after}
 use Rattle.wrapped_conn.specs.Refinement as conn
 use Rattle.wrapped_conn.specs.Refinement.{StandsLive, StandsReset, Leads}
 use Rattle.wrapped_conn.specs.LoggerMessages.{AreTellable, grammar_by}
@@ -110,13 +113,16 @@ all_wires grammar key (segment ∷ more) to_logger w =
     ∙ ap (λ ws. wire_by grammar (To_client segment) ∷ ws) (all_wires grammar key more to_logger w.1)
 
 -- where the connection stands, its point is within its ranges
-in_range : {S : Type 0} (service : Machine S) (c : ConnState S) (q : Point) → FitsKey q.key → q.mss ≤ 1460 → sound.IsSound c → conn.Stands service c q → IsInRange q
-in_range service c q key size s st =
+in_range : {S : Type 0} (service : Machine S) (c : ConnState S) (q : Point) → FitsKey q.key → q.mss ≤ 1460 → LeavesRoom q.mss q.timestamping → echoed q.timestamping < 2 ^ 32
+    → sound.IsSound c → conn.Stands service c q → IsInRange q
+in_range service c q key size room echo s st =
     let t = tells service q c s st in
     let parts = s.parts in record {
       key = key;
       sisn = subst (λ n. n < 2 ^ 32) (ap (λ x. x.sisn) st.keeps.south) s.sisn;
       size = size;
+      room = room;
+      echo = echo;
       taken = omega (arith, ap (λ x. x.taken) st.keeps.south, s.taken, taken_small c s);
       una = omega (arith, t.tcp.una);
       count = omega (arith, t.reads, parts.count, one_at_most c.north.ended, parts.read, parts.limit, parts.tcp.bounds.taken);
@@ -160,6 +166,24 @@ unfolding Goes
 same_size service server boot news p q sent true t = ap (λ x. x.mss) t.point
 same_size service server boot news p q sent false t = t.same.mss
 
+-- the timestamps after a turn need as much room as before it, and echo a number of 32 bits
+room_after : {S : Type 0} (service : Machine S) (server : Addr) (boot : ℕ) (news : News) (p q : Point) (sent : List Packet) (b : Bool) → IsShort news → LeavesRoom p.mss p.timestamping
+    → echoed p.timestamping < 2 ^ 32 → Goes service server boot news p q sent b → LeavesRoom q.mss q.timestamping × (echoed q.timestamping < 2 ^ 32)
+unfolding Goes
+room_after service server boot news p q sent true short room echo t =
+    (subst (λ x. LeavesRoom x.mss x.timestamping) (sym t.point) room, subst (λ x. echoed x.timestamping < 2 ^ 32) (sym t.point) echo)
+room_after service server boot news p q sent false short room echo t =
+    let noted = news_room news p short room echo in
+    (subst₂ LeavesRoom (sym t.same.mss) (sym t.timestamping) noted.0, subst (λ x. echoed x < 2 ^ 32) (sym t.timestamping) noted.1)
+  where
+    news_room : (news : News) (p : Point) → IsShort news → LeavesRoom p.mss p.timestamping → echoed p.timestamping < 2 ^ 32
+        → LeavesRoom p.mss (timestamping_after news p) × (echoed (timestamping_after news p) < 2 ^ 32)
+    news_room (Comes segment) p short room echo =
+        (echo_leaves p.mss p.timestamping (is_timely p segment) segment.head.timestamps room, echo_short p.timestamping (is_timely p segment) segment.head.timestamps echo short.1)
+    news_room (Logged kept) p short room echo = (room, echo)
+    news_room Ticks p short room echo = (room, echo)
+    news_room Begins p short room echo = (room, echo)
+
 same_batches : {S : Type 0} (service : Machine S) (server : Addr) (boot : ℕ) (news : News) (p q : Point) (sent : List Packet) (b : Bool) → Goes service server boot news p q sent b → q.batches ≡ p.batches
 unfolding Goes
 same_batches service server boot news p q sent true t = ap (λ x. x.batches) t.point
@@ -173,9 +197,13 @@ all_written service server boot news p q sent false a up short r few low t =
     let below : q.reads_answered ≤ length p.lengths = subst (λ n. n ≤ length p.lengths) (sym t.reads_answered) (counts_within news p few) in
     live_written service server boot news p q sent a up short r (told_low news p q below low) t
 
+-- a connection's segments fit a packet, with its timestamps
+abbrev pub Fits : Point → Type 0
+Fits p = (p.mss ≤ 1460) × LeavesRoom p.mss p.timestamping × (echoed p.timestamping < 2 ^ 32)
+
 -- a turn of the connection is one of the node's
 pub acts : {S : Type 0} (service : Machine S) (server : Addr) (boot : ℕ) (news : News) (p : Point) (now : ConnState S) (segments messages : List (List ℕ))
-    → IsTyped server boot p.key segments messages → IsShort news → p.mss ≤ 1460 → p.reads_answered ≤ length p.lengths → sound.IsSound now → now.local ≡ server → now.boot ≡ boot
+    → IsTyped server boot p.key segments messages → IsShort news → Fits p → p.reads_answered ≤ length p.lengths → sound.IsSound now → now.local ≡ server → now.boot ≡ boot
     → Leads service server boot news p now segments messages → Acts (grammar_by p.batches) service server boot news p now segments messages
 unfolding IsOursAt Goes
 acts service server boot news p now segments messages typed short size few s local up l =
@@ -183,8 +211,9 @@ acts service server boot news p now segments messages typed short size few s loc
     let q : Point = l.after in
     let b : Bool = reset_after news p in
     let key : q.key ≡ p.key = same_key service server boot news p q l.sent b l.goes in
-    let fits : q.mss ≤ 1460 = subst (λ n. n ≤ 1460) (sym (same_size service server boot news p q l.sent b l.goes)) size in
-    let r : IsInRange q = in_range service now q (subst FitsKey (sym key) typed.client) fits s l.stands in
+    let fits : q.mss ≤ 1460 = subst (λ n. n ≤ 1460) (sym (same_size service server boot news p q l.sent b l.goes)) size.0 in
+    let room = room_after service server boot news p q l.sent b short size.1 size.2 l.goes in
+    let r : IsInRange q = in_range service now q (subst FitsKey (sym key) typed.client) fits room.0 room.1 s l.stands in
     let low = unanswered_low service now q q.reset l.stands.parts s in
     let live : IsBoot boot = record { least = subst (λ n. 1 ≤ n) up s.boot; most = typed.up } in
     let here : AllByRecursion (IsWritten grammar p.key) l.sent =
@@ -194,7 +223,7 @@ acts service server boot news p now segments messages typed short size few s loc
     let written = subst (AllByRecursion (IsWritten grammar p.key)) x.order here in record {
       after = q;
       packets = l.sent;
-      stands = (l.stands, record { local = local; incarnation = up; size = fits });
+      stands = (l.stands, record { local = local; incarnation = up; size = fits; room = room.0; echo = room.1 });
       key = key;
       turn = l.goes;
       wires = (λ j. wires_of p.key (x.segments_are j) (x.messages_are j)) ∙ all_wires grammar p.key x.to_client x.to_logger written ∙ ap (map (wire_by grammar)) (sym x.order);

@@ -22,6 +22,7 @@ use Rattle.seq_arith.proofs.MessageSpelling.{kind_back, number_back}
 use Rattle.server_trait.specs.Service.{Served, Machine}
 use Rattle.tcp_rules.specs.Profile.{Profile}
 use Rattle.tcp_rules.specs.Profiles.{profile_of}
+use Rattle.tcp_rules.specs.declared.timestamping.Timestamping.{Timestamping}
 use Rattle.ft_model.specs.Copy.{datas, batch, with_more}
 use Rattle.ft_model.specs.Wire.{Wire}
 use Rattle.ft_model.proofs.Lists.{same_key, key_is, all_append}
@@ -276,17 +277,17 @@ came_ok bytes P ok h = go (packets.reading bytes) ok h
     go (Err e) k x = absurd (true≢false (sym k))
 
 -- a new connection
-pub first_own : {S : Type 0} (after : S → List ℕ → Served S) (profile : Profile) (boot : ℕ) (server : Addr) (numbers : Numbers) (fresh : S) (greeting : List ℕ) (now : ConnState S) (segments messages : List (List ℕ)) (old new : List Wire)
-    → FitsKey numbers.key → Starts after (first_conn_in profile boot numbers.key server numbers.cisn numbers.sisn numbers.mss fresh greeting) now segments messages
+pub first_own : {S : Type 0} (after : S → List ℕ → Served S) (profile : Profile) (timestamping : Timestamping) (boot : ℕ) (server : Addr) (numbers : Numbers) (fresh : S) (greeting : List ℕ) (now : ConnState S) (segments messages : List (List ℕ)) (old new : List Wire)
+    → FitsKey numbers.key → Starts after (first_conn_in profile timestamping boot numbers.key server numbers.cisn numbers.sisn numbers.mss fresh greeting) now segments messages
     → new ≡ old ++ wires_of numbers.key segments messages → IsOnlyFor (told.grammar_by profile.batches) numbers.key old new
 unfolding first_conn_in
-first_own after profile boot server numbers fresh greeting now segments messages old new fits r put =
-    let c = first_conn_in profile boot numbers.key server numbers.cisn numbers.sisn numbers.mss fresh greeting in
+first_own after profile timestamping boot server numbers fresh greeting now segments messages old new fits r put =
+    let c = first_conn_in profile timestamping boot numbers.key server numbers.cisn numbers.sisn numbers.mss fresh greeting in
     leaves_for (told.grammar_by profile.batches) numbers.key c segments messages old new fits refl refl (starts_own after c now segments messages r) put
 
-pub first_belongs : {S : Type 0} (service : Machine S) (who : Identity) (server : Addr) (numbers : Numbers) (now : ConnState S) (segments messages : List (List ℕ))
-    → Starts service.after (first_conn_in (profile_of who.profile) who.boot numbers.key server numbers.cisn numbers.sisn numbers.mss service.fresh service.greeting) now segments messages → IsSound now → Belongs who numbers.key now
+pub first_belongs : {S : Type 0} (service : Machine S) (timestamping : Timestamping) (who : Identity) (server : Addr) (numbers : Numbers) (now : ConnState S) (segments messages : List (List ℕ))
+    → Starts service.after (first_conn_in (profile_of who.profile) timestamping who.boot numbers.key server numbers.cisn numbers.sisn numbers.mss service.fresh service.greeting) now segments messages → IsSound now → Belongs who numbers.key now
 unfolding first_conn_in
-first_belongs service who server numbers now segments messages r s =
-    let same = starts_same service (first_conn_in (profile_of who.profile) who.boot numbers.key server numbers.cisn numbers.sisn numbers.mss service.fresh service.greeting) now segments messages r in
+first_belongs service timestamping who server numbers now segments messages r s =
+    let same = starts_same service (first_conn_in (profile_of who.profile) timestamping who.boot numbers.key server numbers.cisn numbers.sisn numbers.mss service.fresh service.greeting) now segments messages r in
     record { sound = s; client = same.key; incarnation = same.boot; batches = same.batches }

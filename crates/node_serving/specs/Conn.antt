@@ -1,6 +1,6 @@
 -- A connection as the node sees it. `Begins`, `IsOursAt` and `IsSound` are opaque to the node.
 use Rattle.limits.specs.Limits.{largest_segment}
-use Rattle.std.specs.Prelude.{◌≡◌, ◌≤◌, ℕ, Bool, List, ◌++◌, map}
+use Rattle.std.specs.Prelude.{◌≡◌, ◌<◌, ◌≤◌, ◌^◌, ℕ, Bool, List, ◌++◌, map}
 use Rattle.std.specs.List.{AllByRecursion, AllByRecursion-prop}
 use Rattle.std.proofs.Math.Nat.{ℕ_set}
 use Rattle.std.proofs.Props.{props}
@@ -16,7 +16,7 @@ use Rattle.ft_model.specs.Connection.{ConnectionTurn}
 use Rattle.ft_model.specs.Wire.{Wire, wire_by, HasWireBy}
 use Rattle.north_wrap.specs.declared.read_record.ReadRecord.{ReadRecord}
 use Rattle.wrapped_conn.specs.ConnState.{ConnState}
-use Rattle.wrapped_conn.specs.Sound.{IsSound as IsSoundConn}
+use Rattle.wrapped_conn.specs.Sound.{IsSound as IsSoundConn, LeavesRoom, echoed}
 use Rattle.wrapped_conn.specs.Refinement.{StandsBefore, Stands as StandsConn}
 use Rattle.wrapped_conn.specs.LoggerMessages.{IsTellable, AreTellable}
 use Rattle.node_serving.specs.declared.identity.Identity.{Identity}
@@ -27,6 +27,8 @@ pub record IsOurs {S : Type 0} (server : Addr) (boot : ℕ) (c : ConnState S) (p
   pub local : c.local ≡ server
   pub incarnation : c.boot ≡ boot
   pub size : p.mss ≤ largest_segment
+  pub room : LeavesRoom p.mss p.timestamping
+  pub echo : echoed p.timestamping < 2 ^ 32
 
 -- before the turn in which it becomes live at the end of a restart a connection begins at a point, ..
 unfoldable pub Begins : {S : Type 0} → Machine S → Addr → (boot : ℕ) → ConnState S → Point → Type 0

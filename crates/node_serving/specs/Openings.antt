@@ -3,7 +3,8 @@ use Rattle.std.specs.Prelude.{◌≡◌, ℕ, ◌+◌, ◌%◌, ◌^◌, ◌<◌
 use Rattle.std.specs.List.{flat_map}
 use Rattle.ft_io.specs.declared.Key.{Key}
 use Rattle.std.specs.Bool.{MatchBool}
-use Rattle.seq_arith.specs.Packet.{Segment, segment_size}
+use Rattle.seq_arith.specs.Packet.{Segment, text_size}
+use Rattle.tcp_rules.specs.Timestamping.{timestamps_sent}
 use Rattle.seq_arith.specs.Message.Body.{OpenMsg}
 use Rattle.server_trait.specs.Service.{Machine}
 use Rattle.tcp_rules.specs.Profile.{grammar_of}
@@ -12,7 +13,7 @@ use Rattle.ft_model.specs.Network.{Packet, source_of}
 use Rattle.ft_model.specs.Node.{Node, Place, Input}
 use Rattle.ft_model.specs.Node.Place.{Opens}
 use Rattle.ft_model.specs.Node.Input.{Packet_comes}
-use Rattle.ft_model.specs.Opening.{initial_number, is_syn}
+use Rattle.ft_model.specs.Opening.{initial_number, is_syn, timestamping_for}
 use Rattle.ft_model.specs.ServingTurn.{opens_at, newcomers}
 use Rattle.ft_model.specs.Wire.{Wire}
 use Rattle.node_serving.specs.declared.slot.Slot.{Slot}
@@ -27,7 +28,7 @@ IsCounted isn next = (next % 65536 ≡ isn % 65536) × (next < 2 ^ 32)
 
 -- the Open that is sent for a slot, if one is
 abbrev pub slot_opens : {S : Type 0} → Node → Input → Key → Slot S → List Packet
-slot_opens node input key (slot.Pending o) = opens_at node input (Opens (numbers_of key o))
+slot_opens node input key (slot.Pending o) = opens_at node input (Opens (numbers_of key o) o.timestamping)
 slot_opens node input key _ = []
 
 abbrev pub all_opens : {S : Type 0} → Node → Input → List (Key × Slot S) → List Packet
@@ -44,7 +45,13 @@ pending_slots es = length (filter (λ e. is_pending_slot e.1) es)
 pub record Opened {S : Type 0} (node : Node) (segment : Segment) (key : Key) (number next : ℕ) (was now : List (Key
     × Slot S)) (old new : List Wire) : Type 0 where
   pub opening : Opening
-  pub numbers : numbers_of key opening ≡ record { key = source_of segment; cisn = segment.head.seq; sisn = number; mss = segment_size segment.head.mss }
+  pub numbers : numbers_of key opening ≡ record {
+    key = source_of segment;
+    cisn = segment.head.seq;
+    sisn = number;
+    mss = text_size segment.head.mss (timestamps_sent (timestamping_for node.profile segment));
+  }
+  pub timestamping : opening.timestamping ≡ timestamping_for node.profile segment
   pub counted : next ≡ (number + 65536) % 2 ^ 32
   pub slots : now ≡ was ++ (key, slot.Pending opening) ∷ []
   pub asked : ArePut (grammar_of node.profile) (told_by node.boot (OpenMsg (numbers_of key opening)) ∷ []) old new

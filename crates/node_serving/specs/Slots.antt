@@ -22,7 +22,7 @@ abbrev pub numbers_of : Key → Opening → Numbers
 numbers_of key o = record { key = key; cisn = o.cisn.0; sisn = o.sisn.0; mss = o.mss }
 
 abbrev pub SlotStands : {S : Type 0} → Machine S → Node → Key → Slot S → Place → Type 0
-SlotStands service node key (slot.Pending o) (Opens n) = n ≡ numbers_of key o
+SlotStands service node key (slot.Pending o) (Opens n timestamping) = (n ≡ numbers_of key o) × (timestamping ≡ o.timestamping)
 SlotStands service node key (slot.Live c) (Lives p) = (p.key ≡ key) × IsOursAt service node.server node.boot c p
 SlotStands service node key slot.Done (Ended k) = k ≡ key
 SlotStands service node key _ _ = ⊥

@@ -10,6 +10,7 @@ use Rattle.seq_arith.specs.Message.{Numbers}
 use Rattle.seq_arith.specs.Packet.{Segment}
 use Rattle.server_trait.specs.declared.Service.{Ghosts}
 use Rattle.tcp_rules.specs.Profiles.{profile_of}
+use Rattle.tcp_rules.specs.declared.timestamping.Timestamping.{Timestamping}
 use Rattle.ft_model.specs.Lawful.{IsNearTo}
 use Rattle.ft_model.specs.Network.{Packet, source_of}
 use Rattle.ft_model.specs.News.{News}
@@ -74,9 +75,10 @@ module _ {S : Type 0} (s : Ghosts S) (who : Identity) where
       → ConnGoes (grammar_in who) (service_of s who) who.local who.boot news p now old.sent.items new.sent.items
 
   -- the first turn of a new connection, from the point of its numbers
-  abbrev pub ConnBegins : Numbers → (now : ConnState S) → (old new : Turn) → Type 0
-  ConnBegins numbers now old new =
-      ConnGoes (grammar_in who) (service_of s who) who.local who.boot Becomes_live (point_opened (profile_of who.profile) numbers) now old.sent.items new.sent.items
+  abbrev pub ConnBegins : Timestamping → Numbers → (now : ConnState S) → (old new : Turn) → Type 0
+  ConnBegins timestamping numbers now old new =
+      ConnGoes (grammar_in who) (service_of s who) who.local who.boot Becomes_live (point_opened (profile_of who.profile) timestamping numbers) now
+      old.sent.items new.sent.items
 
   -- the first turn of a connection that a restart has put together
   abbrev pub ConnRevives : Key → (was now : ConnState S) → (old new : Turn) → Type 0

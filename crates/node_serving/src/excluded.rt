@@ -69,6 +69,7 @@ fn a_stray_packet_counts() -> bool
         flags: ACK,
         window: 0,
         mss: None,
+        timestamps: None,
     };
     is_for(Addr { ip: 1, port: 7 }, &PacketRef { head, payload: &[] })
 }

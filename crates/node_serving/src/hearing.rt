@@ -32,6 +32,7 @@ use logger_wire::{Body, Msg};
 use seq_arith::Seq;
 use server_trait::Service;
 use std::mem;
+use tcp_rules::Timestamping;
 
 fn receive_in_slot<S: Service>(
     who: Identity,
@@ -181,7 +182,11 @@ pub(crate) fn open_known<S: Service>(
         drop_slot(pending.place, slots);
         return Ok(());
     }
-    let conn = begin_live(who, key, numbers, turn)?;
+    let kept = Opening {
+        timestamping: opening.timestamping,
+        ..numbers
+    };
+    let conn = begin_live(who, key, kept, turn)?;
     put_slot(pending.place, slots, Slot::Live(conn));
     Ok(())
 }
@@ -238,6 +243,7 @@ pub(crate) fn receive<S: Service>(
                 cisn: Seq(numbers.cisn),
                 sisn: Seq(numbers.sisn),
                 mss: numbers.mss,
+                timestamping: Timestamping::Off,
             };
             open_known(who, numbers.key, opening, slots, turn)
         }

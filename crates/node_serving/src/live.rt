@@ -1,12 +1,13 @@
 //! The calls of a live connection: each is one turn of it, and what it gives out is sent.
 
 ghost use Rattle.limits.specs.Limits.{largest_segment};
-ghost use Rattle.std.specs.Prelude.{◌≡◌, ◌≤◌, Ok, IsOk, OnOk, IfOk};
+ghost use Rattle.std.specs.Prelude.{◌≡◌, ◌≤◌, ◌<◌, ◌^◌, Ok, IsOk, OnOk, IfOk};
 ghost use Rattle.seq_arith.specs.Message.{Kept};
 ghost use Rattle.seq_arith.specs.Packet.{Segment};
 ghost use Rattle.seq_arith.specs.PacketGrammar.{reading};
 ghost use Rattle.logger_wire.specs.Value.{message_of, IsSendableBy};
 ghost use Rattle.ft_model.specs.News.News.{Comes, Logged, Ticks};
+ghost use Rattle.wrapped_conn.specs.Sound.{echoed};
 ghost use Rattle.node_serving.specs.Conn.{Belongs};
 ghost use Rattle.node_serving.specs.Identity.{grammar_in};
 ghost use Rattle.node_serving.specs.LogMessages.{IsLogged};
@@ -20,6 +21,7 @@ use crate::turn::Turn;
 use ft_io::{Key, NoMemory};
 use logger_wire::Msg;
 use server_trait::Service;
+use tcp_rules::Timestamping;
 use wrapped_conn::{Conn, Opened};
 
 /// Makes a new connection, with the numbers that the log keeps, and takes its first turn.
@@ -33,15 +35,17 @@ pub(crate) fn begin_live<S: Service>(
     requires boot { 1 ≤ who.boot }
     requires least { 64 ≤ numbers.mss }
     requires most { numbers.mss ≤ largest_segment }
-    ensures turn { IfOk result (λ conn. ConnBegins S.Service who (numbers_of key numbers) conn turn.old turn.new) }
+    ensures turn { IfOk result (λ conn. ConnBegins S.Service who numbers.timestamping (numbers_of key numbers) conn turn.old turn.new) }
     ensures alone { IfOk result (λ conn. SendsFor who key turn.old turn.new) }
     ensures sound { IfOk result (λ conn. Belongs who key conn) }
 {
+    fit_echo(numbers.timestamping);
     let opened = Opened {
         key,
         cisn: numbers.cisn,
         sisn: numbers.sisn,
         mss: numbers.mss,
+        timestamping: numbers.timestamping,
     };
     let mut conn = Conn::open_in(
         who.profile,
@@ -61,6 +65,19 @@ pub(crate) fn begin_live<S: Service>(
         return Err(lack);
     }
     Ok(conn)
+}
+
+/// A fact for proofs: the value that is echoed fits its type.
+fn fit_echo(timestamping: Timestamping)
+    ensures { echoed timestamping < 2 ^ 32 }
+{
+    match timestamping {
+        Timestamping::Off => {}
+        Timestamping::Awaited => {}
+        Timestamping::Echoes(recent) => {
+            let _recent = recent;
+        }
+    }
 }
 
 /// Takes the first turn of a connection that a restart has put together. `key` is its client's.

@@ -30,8 +30,9 @@ use indexmap::IndexMap;
 use limits::PENDING;
 use logger_wire::{Body, Msg, Numbers};
 use segment_codec::{Head, PacketRef};
-use seq_arith::{ACK, RST, SYN, Seq, has, segment_size};
+use seq_arith::{ACK, RST, SYN, Seq, has, text_size};
 use server_trait::Service;
+use tcp_rules::Timestamping;
 
 /// The distance from one connection's initial sequence number to the next one's.
 pub const STRIDE: u32 = 65_536;
@@ -170,10 +171,12 @@ pub(crate) fn admit<S: Service>(
         return Ok(());
     }
     let key = segment.head.sender();
+    let timestamping = Timestamping::asked(who.profile.timestamps(), segment.head.timestamps);
     let opening = Opening {
         cisn: segment.head.seq,
         sisn: *next,
-        mss: segment_size(segment.head.mss),
+        mss: text_size(segment.head.mss, timestamping.sent()),
+        timestamping,
     };
     ask(who, key, opening, turn)?;
     add_slot(slots, key, Slot::Pending(opening))?;

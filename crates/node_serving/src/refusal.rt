@@ -1,7 +1,7 @@
 //! The RSTs that the node itself sends, to clients that have no connection (RFC 9293, 3.10.7.1 and 3.10.7.2).
 
 ghost use Rattle.limits.specs.Limits.{largest_segment};
-ghost use Rattle.std.specs.Prelude.{◌≡◌, ◌≤◌, ◌∷◌, [], OnOk, length};
+ghost use Rattle.std.specs.Prelude.{◌≡◌, ◌<◌, ◌≤◌, ◌^◌, ◌∷◌, [], IfSome, OnOk, length};
 ghost use Rattle.seq_arith.specs.Offset.{length_of};
 ghost use Rattle.seq_arith.specs.Value.{said};
 ghost use Rattle.segment_codec.specs.Value.{segment_of};
@@ -15,12 +15,14 @@ use crate::slot::Opening;
 use crate::turn::Turn;
 use ft_io::{Key, NoMemory};
 use segment_codec::{Head, PacketRef, write_packet};
-use seq_arith::{ACK, FIN, RST, SYN, Seq, has};
+use seq_arith::{ACK, FIN, RST, SYN, Seq, Timestamps, has};
 
 /// Sends a segment without text to the client that its header names.
+#[tactic(auto, using(seq_arith::proofs::Units::options_short))]
 pub fn send_bare(head: Head, turn: &mut Turn) -> Result<(), NoMemory>
     ensures { OnOk result (SendsSegments (record { head = said head; payload = [] } ∷ []) turn.old turn.new) }
 {
+    fit_timestamps(head.timestamps);
     let mut text = [0; limits::PACKET];
     let len = write_packet(&head, &[], &mut text);
     let to = To::Client(Key {
@@ -28,6 +30,16 @@ pub fn send_bare(head: Head, turn: &mut Turn) -> Result<(), NoMemory>
         port: head.dport,
     });
     turn.sent.send(turn.alloc, to, &text[..len])
+}
+
+/// A fact for proofs: the numbers of timestamps fit their type.
+fn fit_timestamps(timestamps: Option<Timestamps>)
+    ensures { IfSome timestamps (λ t. (t.value < 2 ^ 32) × (t.echo < 2 ^ 32)) }
+{
+    if let Some(timestamps) = timestamps {
+        let _value = timestamps.value;
+        let _echo = timestamps.echo;
+    }
 }
 
 /// SEG.LEN: the text and the FIN, or only the SYN; 0 for a RST.

@@ -19,6 +19,7 @@ use ft_io::{Key, NoMemory};
 use segment_codec::PacketRef;
 use seq_arith::Seq;
 use server_trait::Service;
+use tcp_rules::Timestamping;
 use wrapped_conn::Conn;
 
 /// A pending opening: the numbers that the log is asked to keep.
@@ -30,6 +31,8 @@ pub struct Opening {
     pub sisn: Seq,
     /// The segment size, 64 to 1,460 bytes.
     pub mss: u16,
+    /// The timestamps that the client's SYN asked for. The log isn't asked to keep them.
+    pub timestamping: Timestamping,
 }
 
 /// What the node has for a key that it knows.

@@ -9,6 +9,7 @@ use Rattle.seq_arith.specs.Offset.{one_if}
 use Rattle.server_trait.specs.Service.{Machine}
 use Rattle.ft_model.specs.Log.{Entry}
 use Rattle.ft_model.specs.Restart.{point_of, output_units, resumed_at, run_of, IsSoundEntry}
+use Rattle.tcp_rules.specs.Timestamping.{resumed_with}
 use Rattle.south_wrap.specs.SouthPoint.{south_at}
 use Rattle.north_wrap.specs.Refinement.{HasReplayed}
 use Rattle.connection_laws.specs.Splice.{GoesOnFrom, delta_from, spliced_measuring}
@@ -81,7 +82,7 @@ replayed service profile e r re sound =
     }
 
 south_is : {S : Type 0} (service : Machine S) (profile : Profile) (e : Entry) (r : ReplayedState S) (i : ℕ) → IsReplayed service e r → IsSoundEntry service e
-    → south_from i r ≡ south_at (delta_from service e i) (point_of service profile e)
+    → record (south_from i r) { timestamping = resumed_with profile.timestamps r.head.mss } ≡ south_at (delta_from service e i) (point_of service profile e)
 south_is service profile e r i re sound =
     let u = goes_on_is service e r re sound in
     let ends = has_end_is service e r re sound in
@@ -97,6 +98,7 @@ south_is service profile e r i re sound =
       read = (re.cuts j).sum;
       una = u j;
       sent = u j;
+      timestamping = resumed_with profile.timestamps (re.head j).mss;
     }
 
 pub splice_stands : {S : Type 0} (service : Machine S) (profile : Profile) (local : Addr) (boot : ℕ) (e : Entry) (r : ReplayedState S) (i : ℕ) → EntryNumbersFit r i → IsReplayed service e r → IsSoundEntry service e

@@ -6,6 +6,7 @@ use Rattle.std.proofs.lemmas.List.{length-replicate, take_all}
 use Rattle.ft_io.specs.declared.Addr.{Addr}
 use Rattle.ft_io.specs.declared.Key.{Key}
 use Rattle.tcp_rules.specs.Profile.{Profile}
+use Rattle.tcp_rules.specs.Timestamping.{resumed_with}
 use Rattle.seq_arith.specs.Number.{distance, number_at}
 use Rattle.seq_arith.specs.Offset.{one_if}
 use Rattle.server_trait.specs.Service.{reference}
@@ -22,8 +23,9 @@ use Rattle.connection_laws.specs.Splice.{GoesOnFrom, StandsAtEntry, delta_from, 
 use Rattle.connection_laws.specs.PointNumbers.{PartsTell}
 use Rattle.connection_laws.proofs.Spliced.{splices, splices_parts}
 use Rattle.connection_laws.proofs.PointNumbers.{parts_tell}
+use Rattle.wrapped_conn.proofs.SoundAgain.{resumed_leaves}
 use Rattle.wrapped_conn.specs.Numbers.{has_fin}
-use Rattle.wrapped_conn.specs.Sound.{has_peer, IsSoundTcp, IsSound}
+use Rattle.wrapped_conn.specs.Sound.{LeavesRoom, has_peer, IsSoundTcp, IsSound}
 use Rattle.wrapped_conn.proofs.NumbersAt.{has_fin_is}
 use Rattle.log_replay.specs.ReadLengths.{HaveBytes}
 use Rattle.reincarnate.specs.Progress.{ReplayedState}
@@ -81,11 +83,12 @@ idle_replayed profile e = record {
 }
 
 -- TCP that nothing is written to and whose user has read nothing
-record IsFresh (i fetched : ℕ) (has_end : Bool) (t : Tcb) : Type 0 where
+record IsFresh (i fetched size : ℕ) (has_end : Bool) (t : Tcb) : Type 0 where
   sound : IsSoundTcp t
   limit : t.receiving.limit + fetched ≡ 2 ^ 24
   read : t.receiving.read ≡ 0
   iss : t.sending.iss ≡ i
+  mss : t.sending.mss ≡ size
   una : t.sending.una ≡ 0
   held : length t.sending.held ≡ 0
   fin : has_fin t.name ≡ has_end
@@ -95,7 +98,7 @@ end_is s e = ap (λ b. if b then s.sent - 1 else s.una + length s.held) e
 
 fresh_at : (profile : Profile) (key : Key) (local : Addr) (cisn fetched mss i : ℕ) (fin : Bool) (e : Entry) → e ≡ unread_entry key cisn fetched mss fin → GoesOnFrom idle e i
     → HasReplayed idle (point_of idle profile e) (resumed_at idle e) (idle_north e.bytes)
-    → IsFresh i (length e.bytes) e.fin (spliced_measuring profile.measures e.key local e.cisn (length e.bytes) e.mss i e.fin)
+    → IsFresh i (length e.bytes) e.mss e.fin (spliced_measuring profile.measures e.key local e.cisn (length e.bytes) e.mss i e.fin)
 fresh_at profile key local cisn fetched mss i fin e is g replayed =
     let t : Tcb = spliced_measuring profile.measures e.key local e.cisn (length e.bytes) e.mss i e.fin in
     let u : ℕ = resumed_at idle e in
@@ -119,6 +122,7 @@ fresh_at profile key local cisn fetched mss i fin e is g replayed =
       limit = at.receives.limit;
       read = read;
       iss = sym at.sends.sisn;
+      mss = sym at.sends.mss;
       una = una;
       held = omega (arith, last, s.feeds.until, una);
       fin = has_fin_is t.name ∙ sym tell.fin;
@@ -128,7 +132,7 @@ fresh_at profile key local cisn fetched mss i fin e is g replayed =
     max_zero n = omega arith
 
 fresh_tcp : (profile : Profile) (key : Key) (local : Addr) (cisn fetched mss i : ℕ) (fin : Bool) → fetched ≤ 2 ^ 24 → IsSegmentSize mss → (fin ≡ true → fetched < 2 ^ 24) → i < 2 ^ 32
-    → IsFresh i fetched fin (spliced_measuring profile.measures key local cisn fetched mss i fin)
+    → IsFresh i fetched mss fin (spliced_measuring profile.measures key local cisn fetched mss i fin)
 fresh_tcp profile key local cisn fetched mss i fin few segments room fits =
     let e : Entry = unread_entry key cisn fetched mss fin in
     let size : length e.bytes ≡ fetched = length-replicate fetched 0 in
@@ -144,7 +148,7 @@ fresh_tcp profile key local cisn fetched mss i fin few segments room fits =
       i_fits = fits;
     } in
     let replayed = subst (λ u. HasReplayed idle (point_of idle profile e) u (idle_north e.bytes)) (sym none) (idle_replayed profile e) in
-    subst (λ n. IsFresh i n fin (spliced_measuring profile.measures key local cisn n mss i fin)) size (fresh_at profile key local cisn fetched mss i fin e refl g replayed)
+    subst (λ n. IsFresh i n mss fin (spliced_measuring profile.measures key local cisn n mss i fin)) size (fresh_at profile key local cisn fetched mss i fin e refl g replayed)
 
 -- what is swallowed is what the entry has acknowledged
 swallowed_is : (i sisn u iss : ℕ) → iss ≡ i → i < 2 ^ 32 → sisn < 2 ^ 32 → u ≤ 2 ^ 24 → distance ((iss + distance ((sisn + u) % 2 ^ 32) i) % 2 ^ 32) sisn ≡ u
@@ -191,4 +195,5 @@ spliced_sound profile boot local i r live f have whole made pending =
       begins = omega (arith, behind, made);
       sent = omega (arith, behind);
       answered = few_units r.head.length ends f.stream;
+      roomy = subst (λ mss. LeavesRoom mss (resumed_with profile.timestamps r.head.mss)) (sym fresh.mss) (resumed_leaves profile.timestamps r.head.mss);
     }

@@ -9,6 +9,7 @@ use Rattle.ft_model.specs.Log.{Entry}
 use Rattle.ft_model.specs.Offset.{one_if}
 use Rattle.ft_model.specs.Restart.{point_of, resumed_at}
 use Rattle.tcp_endpoint.specs.Tcb.{Tcb}
+use Rattle.tcp_rules.specs.Timestamping.{resumed_with}
 use Rattle.south_wrap.specs.SouthState.{SouthState, resumed_south}
 use Rattle.south_wrap.specs.SouthPoint.{south_at}
 use Rattle.north_wrap.specs.NorthState.{NorthState, resumed_north}
@@ -46,14 +47,14 @@ south_from i r = record (resumed_south r.head.cisn r.head.sisn r.head.length (ma
 abbrev pub north_from : {S : Type 0} → ReplayedState S → NorthState S
 north_from r = resumed_north r.replay.service r.replay.held r.replay.pending r.cuts.count r.cuts.sum r.replay.made r.cuts.ended r.replay.closed
 
--- TCP has the initial sequence number i, and measures round trips anew if the profile measures them
+-- TCP has the initial sequence number i, and measures round trips anew if the profile measures them. No value is echoed until a segment brings one
 abbrev pub spliced_from_in : {S : Type 0} → Profile → (boot : ℕ) → Addr → (i : ℕ) → ReplayedState S → SplicedState S
 spliced_from_in profile boot local i r = record {
   profile = profile;
   boot = boot;
   key = r.head.key;
   local = local;
-  south = south_from i r;
+  south = record (south_from i r) { timestamping = resumed_with profile.timestamps r.head.mss };
   endpoint = spliced_measuring profile.measures r.head.key local r.head.cisn r.head.length r.head.mss i (has_end r.head);
   north = north_from r;
 }

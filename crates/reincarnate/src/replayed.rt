@@ -24,7 +24,7 @@ use server_trait::Service;
 use south_wrap::{Fetched, South};
 use std::alloc::Global;
 use std::marker::Model;
-use tcp_rules::Profile;
+use tcp_rules::{Profile, Timestamping};
 
 /// An entry of the log whose reads are all replayed.
 #[derive(Drop)]
@@ -129,7 +129,14 @@ impl<S: Service> Replayed<S> {
         ensures fits { EntryNumbersFit self isn.0 }
     {
         let Replayed { head, cuts, replay } = self;
-        let south = south_behind(&head, cuts, replay.made(), replay.has_closed(), isn);
+        // The log has no timestamps. If the client's segments carry them, the first that comes in time is echoed.
+        let south = south_behind(
+            &head,
+            cuts,
+            replay.made(),
+            replay.has_closed(),
+            isn,
+        ).with_timestamps(Timestamping::resumed(profile.timestamps(), head.mss));
         let endpoint = match spliced_endpoint(alloc, &head, local, isn, profile.measures()) {
             Ok(endpoint) => endpoint,
             Err(_) => {

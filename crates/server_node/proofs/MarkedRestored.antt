@@ -116,12 +116,12 @@ module _ {S : Type 0} (by : Marker S) (node : Node) (marking : Key → Marking) 
     where
       one : (place : Place) → key_eq (key_of place) key ≡ false → IsSettledPlace by m place → IsSettledPlace by n place
       one (Lives p) other st = subst (λ x. IsSettledPoint by x p) (sym (same p.key other)) st
-      one (Opens o) other st = tt
+      one (Opens o timestamping) other st = tt
       one (Ended k) other st = tt
 
   own_settled : (m n : Key → Marking) (place : Place) → n (key_of place) ≡ m (key_of place) → IsSettledPlace by m place → IsSettledPlace by n place
   own_settled m n (Lives p) same st = subst (λ x. IsSettledPoint by x p) (sym same) st
-  own_settled m n (Opens o) same st = tt
+  own_settled m n (Opens o timestamping) same st = tt
   own_settled m n (Ended k) same st = tt
 
   pub more_marked : (f : Fetched) (fetched : List Fetched) (before after : Serving S) (now : Slot S) (place : Place) (more : List Outgoing) (was marks : KeyMarks) (old mid new : List Wire)

@@ -9,13 +9,14 @@ use Rattle.ft_model.specs.Point.{Point}
 use Rattle.ft_model.specs.News.News.{Begins as Becomes_live}
 use Rattle.ft_model.specs.Restart.{point_of}
 use Rattle.ft_model.specs.Node.{Node, Place}
-use Rattle.ft_model.specs.Node.Place.{Opens, Lives, Ended}
+use Rattle.ft_model.specs.Node.Place.{Lives}
 use Rattle.ft_model.specs.ServingTurn.{LivesOn}
 use Rattle.ft_model.specs.Wire.{Wire}
 use Rattle.ft_model.proofs.Profiles.{entry_has, turn_keeps}
 use Rattle.wrapped_conn.specs.ConnState.{ConnState}
 use Rattle.reincarnate.specs.Splice.{SplicedState, IsSplicedIn, conn_of}
 use Rattle.wrapped_conn.specs.Refinement.{StandsBefore}
+use Rattle.wrapped_conn.proofs.SoundAgain.{resumed_leaves, resumed_short}
 use Rattle.node_serving.specs.declared.slot.Slot.TheVariants as slot
 use Rattle.node_serving.specs.declared.slot.Slot.{Slot}
 use Rattle.node_serving.specs.Conn.{Begins, ConnGoes, IsOursAt}
@@ -30,7 +31,7 @@ pub live_again : {S : Type 0} (service : Machine S) (node : Node) (e : Entry) (c
     → SlotRevives service node e.key (Lives (point_of service node.profile e)) (slot.Live now) old new
 unfolding Begins
 live_again service node e c now old new local boot size before h =
-    let g = h (point_of service node.profile e) refl (before, record { local = local; incarnation = boot; size = size }) in record {
+    let g = h (point_of service node.profile e) refl (before, record { local = local; incarnation = boot; size = size; room = resumed_leaves node.profile.timestamps e.mss; echo = resumed_short node.profile.timestamps e.mss }) in record {
       after = Lives g.after;
       packets = g.packets;
       stands = (g.key, g.stands);

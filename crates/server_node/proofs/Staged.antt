@@ -34,14 +34,14 @@ use Rattle.node_serving.proofs.Served.{known_goes, message_goes}
 module _ {S : Type 0} (service : Machine S) (who : Identity) where
   -- a slot stands at its place in every stage of the node
   slot_again : (a b : law.Stage) (key : Key) (s : Slot S) (place : law.Place) → SlotStands service (node_of who a) key s place → SlotStands service (node_of who b) key s place
-  slot_again a b key (slot.Pending o) (Opens n) st = st
+  slot_again a b key (slot.Pending o) (Opens n timestamping) st = st
   slot_again a b key (slot.Live c) (Lives p) st = st
   slot_again a b key slot.Done (Ended k) st = st
   slot_again a b key (slot.Pending o) (Lives p) st = absurd st
   slot_again a b key (slot.Pending o) (Ended k) st = absurd st
-  slot_again a b key (slot.Live c) (Opens n) st = absurd st
+  slot_again a b key (slot.Live c) (Opens n timestamping) st = absurd st
   slot_again a b key (slot.Live c) (Ended k) st = absurd st
-  slot_again a b key slot.Done (Opens n) st = absurd st
+  slot_again a b key slot.Done (Opens n timestamping) st = absurd st
   slot_again a b key slot.Done (Lives p) st = absurd st
 
   pub stand_again : (a b : law.Stage) (es : List (Key × Slot S)) (places : List law.Place) → AllStand service (node_of who a) es places → AllStand service (node_of who b) es places

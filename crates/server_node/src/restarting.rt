@@ -167,6 +167,7 @@ fn holding(who: Identity, entry: &EntryHead) -> Head
         flags: ACK,
         window: 0,
         mss: None,
+        timestamps: None,
     }
 }
 
