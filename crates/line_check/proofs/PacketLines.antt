@@ -18,15 +18,17 @@ use Rattle.ft_io.specs.Key.{key_eq}
 use Rattle.ft_io.proofs.Choices.{by_cases}
 use Rattle.server_trait.specs.Service.{AreBytes}
 use Rattle.seq_arith.specs.Message.{Message}
-use Rattle.seq_arith.specs.Packet.{Segment}
-use Rattle.seq_arith.specs.PacketGrammar.{mss_option}
+use Rattle.seq_arith.specs.declared.options.Timestamps.{Timestamps}
+use Rattle.seq_arith.specs.Packet.{Head, Segment}
+use Rattle.seq_arith.specs.PacketGrammar.{mss_option, timestamps_option, options_of}
+use Rattle.seq_arith.proofs.Units.{timestamps_option_long}
 use Rattle.seq_arith.specs.MessageGrammar.{AllFit}
 use Rattle.seq_arith.specs.declared.kinds.Grammar.{Grammar}
 use Rattle.seq_arith.specs.declared.kinds.Grammar.TheVariants.{Plain}
 use Rattle.ft_model.specs.Network.{Packet, source_of, destination_of}
 use Rattle.ft_model.specs.Network.Packet.{To_server, To_client, To_logger, From_logger}
 use Rattle.ft_model.specs.Readable.{IsWord, FitsU64, FitsKey, FitsClient, FitsSchedule, IsReadable}
-use Rattle.ft_model.specs.Report.{segment_words, message_words, content_words, packet_line, number_of_client, way_of}
+use Rattle.ft_model.specs.Report.{segment_words, timestamps_words, message_words, content_words, packet_line, number_of_client, way_of}
 use Rattle.ft_model.specs.Schedule.{clients_of}
 use Rattle.ft_model.specs.Texts.{way_text, flags_text, mss_text, hex_text}
 use Rattle.ft_model.specs.Wire.{CanBeSent, CanBeToldBy, HasWireBy}
@@ -45,13 +47,21 @@ use Rattle.ft_model.proofs.Lists.{key_is}
 use Rattle.report_laws.specs.Transitions.{clients_in, grammar_in, IsPacketLine}
 use Rattle.line_check.specs.declared.direction.Direction.{Direction}
 use Rattle.line_check.specs.declared.direction.Direction.TheVariants.{FromClient, ToClient, WithLogger}
-use Rattle.line_check.specs.Words.{number_word, byte_count, option_size, are_flags, columns_fit, segment_columns, sizes_fit, last_fits, text_fits, is_segment, ends_with, direction_of, is_client, content_fits, is_numbered, packet_words_fit, ends_with_feed, is_packet_text}
-use Rattle.line_check.proofs.Spelled.{decide, same_bytes, bytes_same, value_or, number_told, number_shown, byte_count_told, byte_count_shown, size_of, option_told, option_shown}
+use Rattle.line_check.specs.Words.{number_word, is_number, byte_count, option_size, timestamps_size, are_flags, columns_fit, segment_columns, sizes_fit, last_fits, text_fits, is_segment, ends_with, direction_of, is_client, content_fits, is_numbered, packet_words_fit, ends_with_feed, is_packet_text}
+use Rattle.line_check.proofs.Spelled.{decide, same_bytes, bytes_same, value_or, number_told, number_shown, is_number_told, is_number_shown, byte_count_told, byte_count_shown, size_of, option_told, option_shown}
 use Rattle.line_check.proofs.Flags.{flags_told, flags_shown}
 use Rattle.report_laws.proofs.Fronts.{cut_last}
 use Rattle.line_check.proofs.LineWords.{numbered_told, numbered_shown, joined_cut, line_joined, feed_shown, feed_told}
 use Rattle.line_check.proofs.ColumnWords.{IsRead, column_fields, column_words, columns_told, columns_shown}
 use Rattle.line_check.proofs.Messages.{message_told, message_shown}
+
+-- how many bytes timestamps take in the header
+abbrev pub bytes_of : Option Timestamps → ℕ
+bytes_of None = 0
+bytes_of (Some timestamps) = 12
+
+abbrev pub AreShort : Option Timestamps → Type 0
+AreShort timestamps = IfSome timestamps (λ t. (t.value < 2 ^ 32) × (t.echo < 2 ^ 32))
 
 -- what the words of a segment say
 pub record Said (words : List (List ℕ)) : Type 0 where
@@ -61,53 +71,98 @@ pub record Said (words : List (List ℕ)) : Type 0 where
   pub window : ℕ
   pub mss : Option ℕ
   pub payload : List ℕ
+  pub timestamps : Option Timestamps
   pub flags_fit : flags < 2 ^ 8
   pub seq_fits : seq < 2 ^ 32
   pub ack_fits : ack < 2 ^ 32
   pub window_fits : window < 2 ^ 16
   pub mss_fits : (m : ℕ) → mss ≡ Some m → m < 2 ^ 16
+  pub timestamps_fit : AreShort timestamps
   pub bytes : AreBytes payload
-  pub size : 40 + size_of mss + length payload ≤ 1500
-  pub told : words ≡ flags_text flags ∷ codes "seq" ∷ decimal seq ∷ codes "ack" ∷ decimal ack ∷ codes "window" ∷ decimal window ∷ codes "mss" ∷ mss_text mss ∷ codes "data" ∷ hex_text payload ∷ []
+  pub size : 40 + size_of mss + bytes_of timestamps + length payload ≤ 1500
+  pub told : words ≡ flags_text flags ∷ codes "seq" ∷ decimal seq ∷ codes "ack" ∷ decimal ack ∷ codes "window" ∷ decimal window ∷ codes "mss" ∷ mss_text mss ∷ codes "data" ∷ hex_text payload ∷ timestamps_words timestamps
+
+-- the timestamps that a segment's last words say
+record Stamps (words : List (List ℕ)) (size : ℕ) : Type 0 where
+  timestamps : Option Timestamps
+  fit : AreShort timestamps
+  takes : size ≡ bytes_of timestamps
+  told : words ≡ timestamps_words timestamps
+
+stamps_told : (words : List (List ℕ)) (size : ℕ) → timestamps_size words ≡ Some size → Stamps words size
+stamps_told [] size e = record { timestamps = None; fit = tt; takes = sym (ap (value_or 0) e); told = refl }
+stamps_told (name ∷ []) size e = absurd (true≢false (sym (ap is_some e)))
+stamps_told (name ∷ value ∷ []) size e = absurd (true≢false (sym (ap is_some e)))
+stamps_told (name ∷ value ∷ echo ∷ x ∷ more) size e = absurd (true≢false (sym (ap is_some e)))
+stamps_told (name ∷ value ∷ echo ∷ []) size e =
+    by_test (bytes_eq name (codes "ts") && (is_number (2 ^ 32 - 1) value && is_number (2 ^ 32 - 1) echo)) refl e
+  where
+    by_test : (b : Bool) → bytes_eq name (codes "ts") && (is_number (2 ^ 32 - 1) value && is_number (2 ^ 32 - 1) echo) ≡ b
+        → (if b then Some 12 else None) ≡ Some size → Stamps (name ∷ value ∷ echo ∷ []) size
+    by_test false passed f = absurd (true≢false (sym (ap is_some f)))
+    by_test true passed f =
+        let both : is_number (2 ^ 32 - 1) value && is_number (2 ^ 32 - 1) echo ≡ true = right_true (bytes_eq name (codes "ts")) _ passed in
+        let v : (n : ℕ) × (n ≤ 2 ^ 32 - 1) × (value ≡ decimal n) = is_number_told (2 ^ 32 - 1) value (left_true (is_number (2 ^ 32 - 1) value) _ both) in
+        let w : (n : ℕ) × (n ≤ 2 ^ 32 - 1) × (echo ≡ decimal n) = is_number_told (2 ^ 32 - 1) echo (right_true (is_number (2 ^ 32 - 1) value) _ both) in
+        record {
+          timestamps = Some (record { value = v.0; echo = w.0 });
+          fit = (omega (arith, v.1), omega (arith, w.1));
+          takes = sym (ap (value_or 0) f);
+          told = ap₂ (λ x y. x ∷ y) (same_bytes name (codes "ts") (left_true (bytes_eq name (codes "ts")) _ passed)) (ap₂ (λ x y. x ∷ y) v.2 (ap (λ x. x ∷ []) w.2));
+        }
+
+stamps_shown : (timestamps : Option Timestamps) → AreShort timestamps → timestamps_size (timestamps_words timestamps) ≡ Some (bytes_of timestamps)
+stamps_shown None h = refl
+stamps_shown (Some t) h =
+    let value : is_number (2 ^ 32 - 1) (decimal t.value) ≡ true = is_number_shown (2 ^ 32 - 1) t.value (omega (arith, h.0)) (omega (arith, h.0)) in
+    let echo : is_number (2 ^ 32 - 1) (decimal t.echo) ≡ true = is_number_shown (2 ^ 32 - 1) t.echo (omega (arith, h.1)) (omega (arith, h.1)) in
+    ap (λ b. if b then Some 12 else None) (both_true (bytes_same (codes "ts")) (both_true value echo))
 
 record Tail (words : List (List ℕ)) : Type 0 where
   mss : Option ℕ
   payload : List ℕ
+  timestamps : Option Timestamps
   mss_fits : (m : ℕ) → mss ≡ Some m → m < 2 ^ 16
+  timestamps_fit : AreShort timestamps
   bytes : AreBytes payload
-  size : 40 + size_of mss + length payload ≤ 1500
-  told : words ≡ codes "mss" ∷ mss_text mss ∷ codes "data" ∷ hex_text payload ∷ []
+  size : 40 + size_of mss + bytes_of timestamps + length payload ≤ 1500
+  told : words ≡ codes "mss" ∷ mss_text mss ∷ codes "data" ∷ hex_text payload ∷ timestamps_words timestamps
 
 tail_told : (words : List (List ℕ)) → text_fits words ≡ true → Tail words
 tail_told [] e = absurd (true≢false (sym e))
 tail_told (a ∷ []) e = absurd (true≢false (sym e))
 tail_told (a ∷ b ∷ []) e = absurd (true≢false (sym e))
 tail_told (a ∷ b ∷ c ∷ []) e = absurd (true≢false (sym e))
-tail_told (a ∷ b ∷ c ∷ d ∷ x ∷ more) e = absurd (true≢false (sym e))
-tail_told (a ∷ b ∷ c ∷ d ∷ []) e = by_names (bytes_eq c (codes "data")) (bytes_eq a (codes "mss")) refl refl e
+tail_told (a ∷ b ∷ c ∷ d ∷ more) e = by_names (bytes_eq c (codes "data")) (bytes_eq a (codes "mss")) refl refl e
   where
-    by_sizes : (o p : Option ℕ) → option_size b ≡ o → byte_count d ≡ p → a ≡ codes "mss" → c ≡ codes "data" → sizes_fit o p ≡ true → Tail (a ∷ b ∷ c ∷ d ∷ [])
-    by_sizes None p eo ep ea ec f = absurd (true≢false (sym f))
-    by_sizes (Some n) None eo ep ea ec f = absurd (true≢false (sym f))
-    by_sizes (Some n) (Some k) eo ep ea ec f =
+    by_sizes : (o s p : Option ℕ) → option_size b ≡ o → timestamps_size more ≡ s → byte_count d ≡ p → a ≡ codes "mss" → c ≡ codes "data"
+        → sizes_fit o s p ≡ true → Tail (a ∷ b ∷ c ∷ d ∷ more)
+    by_sizes None s p eo es ep ea ec f = absurd (true≢false (sym f))
+    by_sizes (Some n) None p eo es ep ea ec f = absurd (true≢false (sym f))
+    by_sizes (Some n) (Some t) None eo es ep ea ec f = absurd (true≢false (sym f))
+    by_sizes (Some n) (Some t) (Some k) eo es ep ea ec f =
         let m = option_told n b eo in
+        let stamps : Stamps more t = stamps_told more t es in
         let p = byte_count_told k d ep in
-        let within : 40 + n + k ≤ 1500 = leb-true (40 + n + k) 1500 f in
-        let size : 40 + size_of m.0 + length p.0 ≤ 1500 = omega (arith, within, m.2, p.2) in
+        let within : 40 + n + t + k ≤ 1500 = leb-true (40 + n + t + k) 1500 f in
+        let size : 40 + size_of m.0 + bytes_of stamps.timestamps + length p.0 ≤ 1500 = omega (arith, within, m.2, stamps.takes, p.2) in
         record {
           mss = m.0;
           payload = p.0;
+          timestamps = stamps.timestamps;
           mss_fits = m.1;
+          timestamps_fit = stamps.fit;
           bytes = p.1;
           size = size;
-          told = ap₂ (λ x y. x ∷ y) ea (ap₂ (λ x y. x ∷ y) m.3 (ap₂ (λ x y. x ∷ y) ec (ap (λ x. x ∷ []) p.3)));
+          told = ap₂ (λ x y. x ∷ y) ea (ap₂ (λ x y. x ∷ y) m.3 (ap₂ (λ x y. x ∷ y) ec (ap₂ (λ x y. x ∷ y) p.3 stamps.told)));
         }
 
     by_names : (second first : Bool) → bytes_eq c (codes "data") ≡ second → bytes_eq a (codes "mss") ≡ first
-        → last_fits (if second then Some d else None) (if first then Some b else None) ≡ true → Tail (a ∷ b ∷ c ∷ d ∷ [])
+        → last_fits (if second then Some d else None) (if first then Some b else None) (timestamps_size more) ≡ true → Tail (a ∷ b ∷ c ∷ d ∷ more)
     by_names false first ec ea f = absurd (true≢false (sym f))
     by_names true false ec ea f = absurd (true≢false (sym f))
-    by_names true true ec ea f = by_sizes (option_size b) (byte_count d) refl refl (same_bytes a (codes "mss") ea) (same_bytes c (codes "data") ec) f
+    by_names true true ec ea f =
+        by_sizes (option_size b) (timestamps_size more) (byte_count d) refl refl refl (same_bytes a (codes "mss") ea) (same_bytes c (codes "data") ec) f
 
 segment_told : (words : List (List ℕ)) → is_segment words ≡ true → Said words
 unfolding is_segment
@@ -129,11 +184,13 @@ segment_told (first ∷ words) e =
       window = window;
       mss = t.mss;
       payload = t.payload;
+      timestamps = t.timestamps;
       flags_fit = omega (arith, f.1);
       seq_fits = omega (arith, read.fit.0);
       ack_fits = omega (arith, read.fit.1.0);
       window_fits = omega (arith, read.fit.1.1.0);
       mss_fits = t.mss_fits;
+      timestamps_fit = t.timestamps_fit;
       bytes = t.bytes;
       size = t.size;
       told = ap₂ (λ x y. x ∷ y) f.2 (read.words_are ∙ ap (λ ws. column_words segment_columns (seq ∷ ack ∷ window ∷ []) ++ ws) t.told);
@@ -143,16 +200,24 @@ option_length : (mss : Option ℕ) → length (mss_option mss) ≡ size_of mss
 option_length None = refl
 option_length (Some m) = refl
 
+stamps_length : (timestamps : Option Timestamps) → length (timestamps_option timestamps) ≡ bytes_of timestamps
+stamps_length None = refl
+stamps_length (Some t) = timestamps_option_long t
+
+-- the length of both options
+options_length : (head : Head) → length (options_of head) ≡ size_of head.mss + bytes_of head.timestamps
+options_length head = omega (arith, length-append (mss_option head.mss) (timestamps_option head.timestamps), option_length head.mss, stamps_length head.timestamps)
+
 -- a segment with these addresses
 abbrev sent : {words : List (List ℕ)} → Said words → Key → Key → Segment
 sent said src dst = record {
-  head = record { src = src.ip; dst = dst.ip; sport = src.port; dport = dst.port; seq = said.seq; ack = said.ack; flags = said.flags; window = said.window; mss = said.mss };
+  head = record { src = src.ip; dst = dst.ip; sport = src.port; dport = dst.port; seq = said.seq; ack = said.ack; flags = said.flags; window = said.window; mss = said.mss; timestamps = said.timestamps };
   payload = said.payload;
 }
 
 sendable : {words : List (List ℕ)} (said : Said words) (src dst : Key) → FitsKey src → FitsKey dst → CanBeSent (sent said src dst)
 sendable said src dst a b =
-    let len : length (mss_option said.mss) ≡ size_of said.mss = option_length said.mss in (
+    let len : length (options_of (sent said src dst).head) ≡ size_of said.mss + bytes_of said.timestamps = options_length (sent said src dst).head in (
       record {
         src = a.0;
         dst = b.0;
@@ -163,6 +228,7 @@ sendable said src dst a b =
         flags = said.flags_fit;
         window = said.window_fits;
         mss = if_some said.mss said.mss_fits;
+        timestamps = said.timestamps_fit;
         size = omega (arith, len, said.size);
       },
       said.bytes,
@@ -177,15 +243,18 @@ unfolding is_segment
 segment_shown s h =
     let fit : AllFit (column_fields segment_columns) (s.head.seq ∷ s.head.ack ∷ s.head.window ∷ []) =
     (omega (arith, h.0.seq), (omega (arith, h.0.ack), (omega (arith, h.0.window), tt))) in
-    let tail : List (List ℕ) = codes "mss" ∷ mss_text s.head.mss ∷ codes "data" ∷ hex_text s.payload ∷ [] in
+    let tail : List (List ℕ) = codes "mss" ∷ mss_text s.head.mss ∷ codes "data" ∷ hex_text s.payload ∷ timestamps_words s.head.timestamps in
     let columns : columns_fit Plain 0 0 segment_columns (column_words segment_columns (s.head.seq ∷ s.head.ack ∷ s.head.window ∷ []) ++ tail) ≡ true =
     columns_shown Plain 0 0 segment_columns (s.head.seq ∷ s.head.ack ∷ s.head.window ∷ []) tail fit refl in
-    let len : length (mss_option s.head.mss) ≡ size_of s.head.mss = option_length s.head.mss in
-    let size : nat_le (40 + size_of s.head.mss + length s.payload) 1500 ≡ true = le-leb (40 + size_of s.head.mss + length s.payload) 1500 (omega (arith, len, h.0.size)) in
-    let sizes : sizes_fit (option_size (mss_text s.head.mss)) (byte_count (hex_text s.payload)) ≡ true =
-    ap₂ sizes_fit (option_shown s.head.mss (some_of s.head.mss h.0.mss)) (byte_count_shown s.payload h.1) ∙ size in
+    let len : length (options_of s.head) ≡ size_of s.head.mss + bytes_of s.head.timestamps = options_length s.head in
+    let all : ℕ = 40 + size_of s.head.mss + bytes_of s.head.timestamps + length s.payload in
+    let size : nat_le all 1500 ≡ true = le-leb all 1500 (omega (arith, len, h.0.size)) in
+    let sizes : sizes_fit (option_size (mss_text s.head.mss)) (timestamps_size (timestamps_words s.head.timestamps)) (byte_count (hex_text s.payload)) ≡ true =
+    ap₂ (λ o p. sizes_fit o (timestamps_size (timestamps_words s.head.timestamps)) p) (option_shown s.head.mss (some_of s.head.mss h.0.mss)) (byte_count_shown s.payload h.1)
+    ∙ (ap (λ t. sizes_fit (Some (size_of s.head.mss)) t (Some (length s.payload))) (stamps_shown s.head.timestamps h.0.timestamps) ∙ size) in
     both_true (flags_shown s.head.flags) (both_true columns
-    (ap₂ (λ second first. last_fits (if second then Some (hex_text s.payload) else None) (if first then Some (mss_text s.head.mss) else None)) (bytes_same (codes "data")) (bytes_same (codes "mss")) ∙ sizes))
+    (ap₂ (λ second first. last_fits (if second then Some (hex_text s.payload) else None) (if first then Some (mss_text s.head.mss) else None) (timestamps_size (timestamps_words s.head.timestamps)))
+    (bytes_same (codes "data")) (bytes_same (codes "mss")) ∙ sizes))
   where
     some_of : (mss : Option ℕ) → IfSome mss (λ m. m < 2 ^ 16) → (m : ℕ) → mss ≡ Some m → m < 2 ^ 16
     some_of None h m e = absurd (true≢false (sym (ap is_some e)))

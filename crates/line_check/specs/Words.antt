@@ -13,6 +13,7 @@ use Rattle.seq_arith.specs.declared.kinds.Field.{Field}
 use Rattle.seq_arith.specs.declared.kinds.Field.TheVariants as fields
 use Rattle.seq_arith.specs.declared.kinds.Kind.{Kind}
 use Rattle.seq_arith.specs.declared.kinds.Kind.TheVariants as kinds
+use Rattle.seq_arith.specs.Packet.{timestamps_length}
 use Rattle.ft_model.specs.Spelling.{number_of}
 use Rattle.ft_model.specs.Words.{is}
 use Rattle.line_check.specs.declared.direction.Direction.{Direction}
@@ -112,28 +113,35 @@ columns_fit grammar boot behind [] words = true
 columns_fit grammar boot behind (column ∷ columns) words =
     column_fits grammar boot behind column words && columns_fit grammar boot behind columns (drop 2 words)
 
--- the fields of a segment between its flags and its option. Their ranges are the same in both grammars
+-- the fields of a segment between its flags and its options. Their ranges are the same in both grammars
 abbrev pub segment_columns : List Column
 segment_columns =
     NumberColumn (codes "seq") fields.Initial ∷ NumberColumn (codes "ack") fields.Initial ∷ NumberColumn (codes "window") fields.Port ∷ []
 
+-- how many bytes the timestamps take that are a segment's last words; a segment without them has no words behind its text
+abbrev pub timestamps_size : List (List ℕ) → Option ℕ
+timestamps_size [] = Some 0
+timestamps_size (name ∷ value ∷ echo ∷ []) =
+    if bytes_eq name (codes "ts") && (is_number (2 ^ 32 - 1) value && is_number (2 ^ 32 - 1) echo) then Some timestamps_length else None
+timestamps_size _ = None
+
 -- a segment has at most 1,500 bytes
-abbrev pub sizes_fit : Option ℕ → Option ℕ → Bool
-sizes_fit (Some option) (Some payload) = nat_le (40 + option + payload) longest_packet
-sizes_fit _ _ = false
+abbrev pub sizes_fit : (mss timestamps payload : Option ℕ) → Bool
+sizes_fit (Some mss) (Some timestamps) (Some payload) = nat_le (40 + mss + timestamps + payload) longest_packet
+sizes_fit _ _ _ = false
 
 -- the second of exactly two words, if the first is this name
 abbrev pub last_named : List ℕ → List (List ℕ) → Option (List ℕ)
 last_named name (label ∷ word ∷ []) = if bytes_eq label name then Some word else None
 last_named name _ = None
 
-abbrev pub last_fits : Option (List ℕ) → Option (List ℕ) → Bool
-last_fits None size = false
-last_fits (Some bytes) None = false
-last_fits (Some bytes) (Some size) = sizes_fit (option_size size) (byte_count bytes)
+abbrev pub last_fits : (bytes mss : Option (List ℕ)) → (timestamps : Option ℕ) → Bool
+last_fits None mss timestamps = false
+last_fits (Some bytes) None timestamps = false
+last_fits (Some bytes) (Some mss) timestamps = sizes_fit (option_size mss) timestamps (byte_count bytes)
 
 abbrev pub text_fits : List (List ℕ) → Bool
-text_fits words = last_fits (last_named (codes "data") (drop 2 words)) (named (codes "mss") words)
+text_fits words = last_fits (named (codes "data") (drop 2 words)) (named (codes "mss") words) (timestamps_size (drop 2 (drop 2 words)))
 
 unfoldable pub is_segment : List (List ℕ) → Bool
 is_segment [] = false

@@ -1,35 +1,75 @@
-//! The words of a segment: its flags, its numbers, its MSS option and its payload.
+//! The words of a segment: its flags, its numbers, its segment size, its payload and its timestamps.
 
-ghost use Rattle.std.specs.Prelude.{◌≡◌, [], ◌∷◌, codes, length};
+ghost use Rattle.std.specs.Prelude.{◌≡◌, ◌-◌, ◌^◌, [], ◌∷◌, codes, length};
 ghost use Rattle.line_check.specs.Left.{words_left};
 ghost use Rattle.line_check.specs.Words as spelled;
 
 use crate::columns::{Limits, number_fits};
-use crate::values::{are_flags, byte_count, option_size};
-use crate::words::{Words, last_named, named, next_word};
+use crate::values::{are_flags, byte_count, is_number, option_size};
+use crate::words::{Words, is_text, named, next_word};
 use limits::PACKET;
 use seq_arith::{Field, Grammar};
 
 /// The size of a packet's two headers, in bytes.
 const HEADER_BYTES: usize = 40;
 
-/// Returns whether a packet has room for an option and a payload of these sizes.
-fn sizes_fit(option: Option<usize>, payload: Option<usize>) -> bool
-    ensures { result ≡ spelled.sizes_fit option payload }
+/// The largest number that a timestamp can be.
+const LARGEST_TIMESTAMP: u64 = 0xFFFF_FFFF;
+
+/// The bytes that the timestamps take in a header.
+const TIMESTAMPS_BYTES: usize = 12;
+
+/// Returns whether a packet has room for options and a payload of these sizes.
+fn sizes_fit(mss: Option<usize>, timestamps: Option<usize>, payload: Option<usize>) -> bool
+    ensures { result ≡ spelled.sizes_fit mss timestamps payload }
 {
-    let Some(option) = option else {
+    let Some(mss) = mss else {
+        return false;
+    };
+    let Some(timestamps) = timestamps else {
         return false;
     };
     let Some(payload) = payload else {
         return false;
     };
-    if PACKET - HEADER_BYTES < option {
+    let room = PACKET - HEADER_BYTES;
+    if room < mss {
         return false;
     }
-    payload <= PACKET - HEADER_BYTES - option
+    if room - mss < timestamps {
+        return false;
+    }
+    payload <= room - mss - timestamps
 }
 
-/// Returns whether these are the last words of a segment: its option and its payload, with sizes that fit a packet.
+/// Returns how many bytes the timestamps take that are the last words of a segment: 0 where none follow its text.
+fn timestamps_size(words: Words<'_>) -> Option<usize>
+    ensures { result ≡ spelled.timestamps_size (words_left words.entry.rest) }
+{
+    let mut words = words;
+    let Some(name) = next_word(&mut words) else {
+        return Some(0);
+    };
+    let Some(value) = next_word(&mut words) else {
+        return None;
+    };
+    let Some(echo) = next_word(&mut words) else {
+        return None;
+    };
+    if next_word(&mut words).is_some() {
+        return None;
+    }
+    if is_text(name, "ts")
+        && is_number(LARGEST_TIMESTAMP, value)
+        && is_number(LARGEST_TIMESTAMP, echo)
+    {
+        Some(TIMESTAMPS_BYTES)
+    } else {
+        None
+    }
+}
+
+/// Returns whether these are the last words of a segment: its segment size, its payload and its timestamps, with sizes that fit a packet.
 fn text_fits(words: Words<'_>) -> bool
     ensures { result ≡ spelled.text_fits (words_left words.entry.rest) }
 {
@@ -37,10 +77,10 @@ fn text_fits(words: Words<'_>) -> bool
     let Some(size) = named("mss", &mut words) else {
         return false;
     };
-    let Some(bytes) = last_named("data", words) else {
+    let Some(bytes) = named("data", &mut words) else {
         return false;
     };
-    sizes_fit(option_size(size), byte_count(bytes))
+    sizes_fit(option_size(size), timestamps_size(words), byte_count(bytes))
 }
 
 /// Returns whether these are the words of a segment.

@@ -167,7 +167,7 @@ module _ {State : Type 0} (service : Machine State) where
                 segment = segment_of client m.move (window_of client event);
                 later = later;
                 is_there = ce;
-                move = record { move = m.move; window = window_of client event; may = may client event m.move m.asked m.allowed; fits = advertises client event m.move m.asked m.fits; segment_is = refl; after_is = m.after_is };
+                move = record { move = m.move; window = window_of client event; may = may client event m.move m.asked m.allowed; fits = advertises client event m.move m.asked m.fits; timestamps = None; carries = refl; segment_is = refl; after_is = m.after_is };
                 sent_is = refl;
                 after_is = refl;
               });

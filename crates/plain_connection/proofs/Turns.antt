@@ -59,6 +59,7 @@ live_turn service server boot news p reads live makes =
       congestion = refl;
       sent_units = refl;
       timing = refl;
+      timestamping = refl;
       interval = refl;
       rest = refl;
       end_ticks = refl;

@@ -16,7 +16,7 @@ use logger_wire::Numbers;
 use plain_log::PlainFetched;
 use server_trait::Service;
 use std::alloc::Global;
-use tcp_rules::Profile;
+use tcp_rules::{Profile, Timestamping};
 
 /// A service doesn't read while any of its output isn't released: the contract of `PlainConnection::next_read`.
 #[tactic(auto, unfolding(ft_model::specs::Reads::may_read))]
@@ -73,7 +73,7 @@ fn delays_in_the_plain_profile<S: Service>(
 ) -> Result<PlainConnection<S>, NoMemory>
     ensures { IfOk result (λ c. c.point.delays ≡ false) }
 {
-    PlainConnection::opened(alloc, Profile::Plain, kind, numbers)
+    PlainConnection::opened(alloc, Profile::Plain, Timestamping::Off, kind, numbers)
 }
 
 /// Nothing new is sent past the client's right edge or the congestion window: the clause `value` of `PlainConnection::sent_at_once`.

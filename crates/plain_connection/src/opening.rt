@@ -17,23 +17,24 @@ use plain_log::{EntryParts, PlainFetched};
 use plain_point::PlainPoint;
 use server_trait::Service;
 use std::alloc::Global;
-use tcp_rules::Profile;
+use tcp_rules::{Profile, Timestamping};
 
 impl<S: Service> PlainConnection<S> {
-    /// Creates a connection with these numbers, in a profile and for a service of this kind.
+    /// Creates a connection with these numbers, in a profile and for a service of this kind. Its SYN asked for these timestamps.
     pub fn opened(
         alloc: Global,
         profile: Profile,
+        asked: Timestamping,
         kind: u8,
         numbers: &Numbers,
     ) -> Result<PlainConnection<S>, NoMemory>
-        ensures point { IfOk result (λ c. c.point ≡ point_opened (profile_of profile) (numbers_said numbers.now)) }
+        ensures point { IfOk result (λ c. c.point ≡ point_opened (profile_of profile) asked (numbers_said numbers.now)) }
         ensures kind { IfOk result (λ c. c.kind ≡ kind) }
         ensures served { IfOk result (λ c. IsServed (machine (S.started kind) S.after S.greeting) c) }
     {
         Ok(PlainConnection {
             kind,
-            point: PlainPoint::opened(alloc, profile, numbers),
+            point: PlainPoint::opened(alloc, profile, asked, numbers),
             made: Made::new(alloc, kind)?,
         })
     }

@@ -13,7 +13,7 @@ ghost use Rattle.logger_wire.specs.Value.{body_of, message_of, left_over, IsSend
 
 use crate::number_ranges::fit_numbers;
 use ft_io::NoMemory;
-use limits::{ENTRIES, SEGMENT, SHORTEST_SEGMENT, STREAM, TEXT, UNITS};
+use limits::{ENTRIES, LAST_INDEX, SEGMENT, SHORTEST_SEGMENT, STREAM, TEXT, UNITS};
 use logger_wire::{Body, EntryHead, Grammar, Msg, len_at, put_msg_by};
 use std::alloc::Global;
 
@@ -143,7 +143,7 @@ fn ending_fits(fin: bool, more: bool) -> bool
 fn head_fits(index: u16, head: &EntryHead) -> bool
     ensures { result ≡ all_in_range_by Wide 0 0 (fields_of kinds.Entry) (numbers_of (EntryMsg index (head_said head.now))) }
 {
-    index <= 63
+    index <= LAST_INDEX
         && mss_fits(head.mss)
         && head.length <= STREAM
         && head.reads <= UNITS
@@ -158,7 +158,7 @@ fn numbers_fit(boot: u64, body: &Body<'_>, behind: usize) -> bool
 {
     match *body {
         Body::Summary { count } => count <= ENTRIES,
-        Body::List { index } => index <= 63,
+        Body::List { index } => index <= LAST_INDEX,
         Body::Entry { index, head } => head_fits(index, &head),
         Body::Bytes { offset, .. } | Body::Part { offset, .. } => offset_fits(offset, behind),
         Body::Cuts { first, .. } | Body::Lens { first, .. } => first <= UNITS,

@@ -14,7 +14,7 @@ use std::alloc::Global;
 pub(crate) fn fits_packet(segment: &PacketRef<'_>) -> bool
     ensures { IsTrue result ↔ (packet_length (segment_of segment.now) ≤ longest_packet) }
 {
-    payload_start(segment.head.mss) + segment.payload.len() <= PACKET
+    payload_start(&segment.head) + segment.payload.len() <= PACKET
 }
 
 /// Returns the bytes of a segment that fits a packet.
@@ -22,7 +22,7 @@ pub(crate) fn segment_bytes(alloc: Global, segment: &PacketRef<'_>) -> Result<Ve
     requires { packet_length (segment_of segment.now) ≤ longest_packet }
     ensures { IfOk result (λ bytes. bytes.items ≡ spelling (segment_of segment.now)) }
 {
-    let start = payload_start(segment.head.mss);
+    let start = payload_start(&segment.head);
     let mut bytes = Vec::with_capacity(alloc, start + segment.payload.len())?;
     bytes.resize(start, 0)?;
     bytes.extend_from_slice(segment.payload)?;

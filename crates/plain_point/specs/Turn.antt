@@ -8,6 +8,7 @@ use Rattle.ft_model.specs.Taken.{taken_after, early_after, fin_after}
 use Rattle.ft_model.specs.Answered.{answered_after, reads_answered_after}
 use Rattle.ft_model.specs.Sending.{syn_acked_after, acknowledged_after, edge_after, wl1_after, wl2_after, congestion_after, resends}
 use Rattle.ft_model.specs.Timer.{timing_noted}
+use Rattle.ft_model.specs.Timestamps.{timestamping_after}
 use Rattle.plain_point.specs.declared.sending.Sending.{Sending}
 use Rattle.plain_point.specs.declared.ending.Timer.{Timer}
 use Rattle.plain_point.specs.Values.{congestion_in, timing_in}
@@ -30,6 +31,7 @@ noted news p = record p {
   congestion = congestion_after news p;
   syn_acked = syn_acked_after news p;
   timing = timing_by news p;
+  timestamping = timestamping_after news p;
 }
 
 -- what the sender knows after the news

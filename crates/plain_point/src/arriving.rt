@@ -12,6 +12,7 @@ use plain_packets::{
 use segment_codec::PacketRef;
 use std::alloc::Global;
 use std::mem;
+use tcp_rules::Timestamping;
 
 impl PlainPoint {
     ghost use Rattle.ft_model.specs.News.News.{Comes};
@@ -22,6 +23,7 @@ impl PlainPoint {
     ghost use Rattle.ft_model.specs.PendingAck.{needs_ack_if_acceptable as acceptable_lem, needs_ack as needs_lem};
     ghost use Rattle.ft_model.specs.Segments.{repeats_syn as repeats_lem};
     ghost use Rattle.ft_model.specs.ResetAndEnd.{reset_after};
+    ghost use Rattle.ft_model.specs.Timestamps.{is_timely as timely_lem, timestamping_after};
 
     /// Returns the offset at which a segment begins in the client's stream.
     pub(crate) fn first(&self, segment: &PacketRef<'_>) -> i64
@@ -53,6 +55,24 @@ impl PlainPoint {
     {
         let (next, room) = (self.taken_units(), self.room());
         is_usable(next, room, self.first(segment), segment_len(segment))
+    }
+
+    /// Returns whether the value of a segment counts (RFC 7323, 4.3): the segment is acceptable, no RST, and begins at or before the last acknowledgement sent.
+    #[tactic(auto, unfolding(ft_model::specs::Timestamps::is_timely))]
+    fn is_timely(&self, segment: &PacketRef<'_>) -> bool
+        ensures { result ≡ timely_lem self.now (segment_of segment.now) }
+    {
+        self.accepts(segment)
+            && !has_rst(segment)
+            && self.first(segment) <= self.acknowledgement() as i64
+    }
+
+    /// Returns which value of the client is echoed after a segment.
+    pub(crate) fn timestamping_after(&self, segment: &PacketRef<'_>) -> Timestamping
+        ensures { result ≡ timestamping_after (Comes (segment_of segment.now)) self.now }
+    {
+        self.timestamping
+            .after(self.is_timely(segment), segment.head.timestamps)
     }
 
     /// Returns whether a segment acknowledges something that was never sent, neither by this incarnation nor by an earlier one.

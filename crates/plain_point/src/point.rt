@@ -11,7 +11,7 @@ use logger_wire::Numbers;
 use plain_packets::Held;
 use std::alloc::Global;
 use std::marker::Model;
-use tcp_rules::Profile;
+use tcp_rules::{Profile, Timestamping};
 
 /// The point of a live connection. Counts are of bytes or units from the beginning of a stream.
 #[derive(Drop)]
@@ -49,6 +49,8 @@ pub struct PlainPoint {
     pub(crate) syn_acked: bool,
     /// The estimate of the round-trip time.
     pub(crate) timing: Timing,
+    /// Whether segments carry timestamps, and which value of the client they echo.
+    pub(crate) timestamping: Timestamping,
     /// Whether the ACK of text that isn't logged yet waits for the log.
     pub(crate) delays: bool,
     /// Whether the log answers only the last of the Data that a turn sends.
@@ -96,6 +98,7 @@ impl Model for PlainPoint {
       congestion = congestion_in p.congestion;
       syn_acked = p.syn_acked;
       timing = timing_in p.timing;
+      timestamping = p.timestamping;
       delays = p.delays;
       batches = p.batches;
       interval = p.interval;
@@ -114,9 +117,15 @@ impl PlainPoint {
     ghost use Rattle.ft_model.specs.Opening.{point_opened};
     ghost use Rattle.tcp_rules.specs.Profiles.{profile_of};
 
-    /// Creates the point of a new connection: nothing is taken, and nothing may be sent yet. Allocates nothing.
-    pub fn opened(alloc: Global, profile: Profile, numbers: &Numbers) -> PlainPoint
-        ensures { result ≡ point_opened (profile_of profile) (numbers_said numbers.now) }
+    /// Creates the point of a new connection: nothing is taken, and nothing may be sent yet. `asked` says which timestamps its SYN asked for. Nothing is
+    /// allocated.
+    pub fn opened(
+        alloc: Global,
+        profile: Profile,
+        asked: Timestamping,
+        numbers: &Numbers,
+    ) -> PlainPoint
+        ensures { result ≡ point_opened (profile_of profile) asked (numbers_said numbers.now) }
     {
         let timing = Timing::initial(profile.measures());
         PlainPoint {
@@ -137,6 +146,7 @@ impl PlainPoint {
             congestion: Window::initial(profile.measures(), numbers.mss),
             syn_acked: false,
             timing,
+            timestamping: asked.fitting(numbers.mss),
             delays: profile.delays(),
             batches: profile.batches(),
             interval: timing.base,
@@ -159,7 +169,7 @@ impl PlainPoint {
     /// Returns how many units may be acknowledged: those that are taken and known to be logged.
     pub fn acknowledgement(&self) -> u64
         ensures value { result ≡ acknowledgement_lem self.now }
-        ensures within { result ≤ 2 ^ 63 }
+        ensures within { result ≤ 2 ^ 62 }
     {
         self.taken_units().min(self.answered)
     }

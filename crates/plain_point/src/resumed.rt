@@ -8,7 +8,7 @@ ghost use Rattle.plain_point.specs.Resumed.{point_fetched, with_output_from};
 use crate::point::PlainPoint;
 use logger_wire::Numbers;
 use std::alloc::Global;
-use tcp_rules::Profile;
+use tcp_rules::{Profile, Timestamping};
 
 impl PlainPoint {
     /// Creates the point of a connection whose logged bytes and FIN are taken and known to be logged. One acknowledgement has counted, with window 0.
@@ -31,7 +31,8 @@ impl PlainPoint {
             answered: len + u64::from(fin),
             wl1: len as i64,
             syn_acked: true,
-            ..PlainPoint::opened(alloc, profile, numbers)
+            timestamping: Timestamping::resumed(profile.timestamps(), numbers.mss),
+            ..PlainPoint::opened(alloc, profile, Timestamping::Off, numbers)
         }
     }
 

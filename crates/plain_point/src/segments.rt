@@ -28,6 +28,7 @@ impl PlainPoint {
             flags,
             window: self.window(),
             mss,
+            timestamps: self.timestamping.sent(),
         }
     }
 

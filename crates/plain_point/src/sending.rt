@@ -277,6 +277,7 @@ impl PlainPoint {
         ensures { OnOk result (self.new ≡ noted (Comes (segment_of segment.now)) self.old) }
     {
         let sending = self.after_segment(segment);
+        let timestamping = self.timestamping_after(segment);
         self.take(alloc, segment)?;
         self.una = sending.una;
         self.edge = sending.edge;
@@ -285,6 +286,7 @@ impl PlainPoint {
         self.congestion = sending.congestion;
         self.timing = sending.timing;
         self.syn_acked = sending.syn_acked;
+        self.timestamping = timestamping;
         Ok(())
     }
 }

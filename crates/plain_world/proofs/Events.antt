@@ -326,7 +326,7 @@ module _ {State : Type 0} (service : ℕ → Machine State) (before after : Worl
                   segment = segment_of client a.0 window;
                   later = moved client a.0 window;
                   is_there = c.1;
-                  move = record { move = a.0; window = window; may = move_may client event a.0 alone_asked c.2; fits = window_fits client event a.0 fits alone_asked; segment_is = refl; after_is = refl };
+                  move = record { move = a.0; window = window; may = move_may client event a.0 alone_asked c.2; fits = window_fits client event a.0 fits alone_asked; timestamps = None; carries = refl; segment_is = refl; after_is = refl };
                   sent_is = refl;
                   after_is = next (packets ++ sent) (with_client client.key (λ _. moved client a.0 window) before.clients) one;
                 });

@@ -26,7 +26,7 @@ pub known_is : {S : Type 0} (key : Key) (places : List (PlainPlace S)) → is_kn
 known_is key places = found_is (λ place. key_eq (key_of place) key) place_in places
 
 pending_one : (place : Place) → pending_count (place ∷ []) ≡ bool_byte (is_pending place)
-pending_one (Opens numbers) = refl
+pending_one (Opens numbers timestamping) = refl
 pending_one (Lives p) = refl
 pending_one (Ended key) = refl
 

@@ -1,4 +1,5 @@
 -- The turn of one place.
+use Rattle.tcp_rules.specs.declared.timestamping.Timestamping.{Timestamping}
 use Rattle.std.proofs.Common.{◌≡◌, ◌∙◌, Bool, true, refl, ap, sym, subst, List, []}
 use Rattle.std.specs.Prelude.{Result, Ok, Err, IfOk, OnOk}
 use Rattle.std.specs.Bool.{MatchBool}
@@ -39,11 +40,11 @@ concerned service node input place now old new e h =
     (λ sent m. subst (λ b. MatchBool b (Meets service node input place now sent) (Stays place now sent)) (sym e) m) h
 
 -- Opened with the client's number
-pub opened_same : {S : Type 0} (service : Machine S) (node : Node) (kept asked : Numbers) (now : List Place) (old new : List Wire) → kept.cisn ≡ asked.cisn
-    → SendsBy (LivesOn service node Begins (point_opened node.profile kept) now) old new → SendsBy (Hears service node (OpenedMsg kept) (Opens asked) now) old new
-opened_same service node kept asked now old new e h =
-    sends_as (LivesOn service node Begins (point_opened node.profile kept) now) (Hears service node (OpenedMsg kept) (Opens asked) now) old new
-    (λ sent l. subst (λ b. MatchBool b (LivesOn service node Begins (point_opened node.profile kept) now sent) ((now ≡ []) × (sent ≡ []))) (sym (eq-eqb kept.cisn asked.cisn e)) l) h
+pub opened_same : {S : Type 0} (service : Machine S) (node : Node) (kept asked : Numbers) (timestamping : Timestamping) (now : List Place) (old new : List Wire) → kept.cisn ≡ asked.cisn
+    → SendsBy (LivesOn service node Begins (point_opened node.profile timestamping kept) now) old new → SendsBy (Hears service node (OpenedMsg kept) (Opens asked timestamping) now) old new
+opened_same service node kept asked timestamping now old new e h =
+    sends_as (LivesOn service node Begins (point_opened node.profile timestamping kept) now) (Hears service node (OpenedMsg kept) (Opens asked timestamping) now) old new
+    (λ sent l. subst (λ b. MatchBool b (LivesOn service node Begins (point_opened node.profile timestamping kept) now sent) ((now ≡ []) × (sent ≡ []))) (sym (eq-eqb kept.cisn asked.cisn e)) l) h
 
 -- a place that an input concerns
 pub concerned_turns : {S E : Type 0} (service : Machine S) (who : Incarnation) (input : Input) (place : Place) (key : Key) (left : Bool → List Place) (r : Result Bool E) (old new : List Wire)

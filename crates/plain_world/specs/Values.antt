@@ -28,7 +28,7 @@ IsReadInput (input.Message msg) = IsSendableBy Wide msg
 IsReadInput _ = Unit {0}
 
 abbrev pub place_in : {S : Type 0} → PlainPlace S → law.Place
-place_in (place.Opens numbers) = law.Place.Opens (numbers_said numbers)
+place_in (place.Opens opening) = law.Place.Opens (numbers_said opening.numbers) opening.timestamping
 place_in (place.Lives connection) = law.Place.Lives connection.point
 place_in (place.Ended key) = law.Place.Ended key
 

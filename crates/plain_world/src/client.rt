@@ -219,6 +219,7 @@ impl PlainClient {
             flags: flags(made),
             window,
             mss: None,
+            timestamps: None,
         }
     }
 

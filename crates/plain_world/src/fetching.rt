@@ -47,6 +47,7 @@ fn holding_head(server: Addr, head: &EntryHead) -> Head
         flags: ACK,
         window: 0,
         mss: None,
+        timestamps: None,
     }
 }
 

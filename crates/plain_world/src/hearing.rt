@@ -25,19 +25,21 @@ use plain_connection::{News, PlainConnection};
 use plain_packets::PlainPackets;
 use server_trait::Service;
 use std::alloc::Global;
+use tcp_rules::Timestamping;
 
 /// Creates a connection and takes its first turn. After `NoMemory` the packets may only be dropped.
 fn begin<S: Service>(
     alloc: Global,
     who: Incarnation,
+    asked: Timestamping,
     numbers: &Numbers,
     sent: &mut PlainPackets,
 ) -> Result<PlainConnection<S>, NoMemory>
     ensures turn { IfOk result (λ c. (stage : law.Stage) → SendsBy (LivesOn (machine (S.started who.kind) S.after S.greeting) (node_of who stage) Begins
-        (point_opened (profile_of who.profile) (numbers_said numbers.now)) (Lives c.point ∷ [])) sent.old sent.new) }
+        (point_opened (profile_of who.profile) asked (numbers_said numbers.now)) (Lives c.point ∷ [])) sent.old sent.new) }
     ensures served { IfOk result (λ c. IsServedLive who.kind (machine (S.started who.kind) S.after S.greeting) c) }
 {
-    let mut connection = PlainConnection::opened(alloc, who.profile, who.kind, numbers)?;
+    let mut connection = PlainConnection::opened(alloc, who.profile, asked, who.kind, numbers)?;
     turn_live(alloc, who, &mut connection, &News::Begins, sent)?;
     Ok(connection)
 }
@@ -95,10 +97,10 @@ impl<S: Service> PlainPlace<S> {
         let PlainPlace::Opens(asked) = self else {
             return Ok(true);
         };
-        if numbers.cisn != asked.cisn {
+        if numbers.cisn != asked.numbers.cisn {
             return Ok(false);
         }
-        let connection = begin(alloc, who, numbers, sent)?;
+        let connection = begin(alloc, who, asked.timestamping, numbers, sent)?;
         *self = PlainPlace::Lives(connection);
         Ok(true)
     }
@@ -116,7 +118,7 @@ impl<S: Service> PlainPlace<S> {
         let PlainPlace::Opens(asked) = self else {
             return Ok(true);
         };
-        refuse_full(alloc, who.server, asked, sent)?;
+        refuse_full(alloc, who.server, &asked.numbers, sent)?;
         Ok(false)
     }
 

@@ -7,7 +7,7 @@ ghost use Rattle.std.specs.Option.{option_to_list};
 ghost use Rattle.segment_codec.specs.Value.{segment_of};
 ghost use Rattle.ft_model.specs.Node as law;
 ghost use Rattle.ft_model.specs.Node.Place.{Opens};
-ghost use Rattle.ft_model.specs.Opening.{is_syn as syn_lem, initial_number as initial_lem, numbers_for as numbers_lem};
+ghost use Rattle.ft_model.specs.Opening.{is_syn as syn_lem, initial_number as initial_lem, numbers_for as numbers_lem, timestamping_for as timestamping_lem};
 ghost use Rattle.ft_model.specs.ServingTurn.{is_asked as asked_lem, opens_at, is_strange as strange_lem, newcomers, refusals};
 ghost use Rattle.ft_model.specs.Network.Packet.{To_client};
 ghost use Rattle.ft_model.specs.Connection.{told_by};
@@ -15,20 +15,22 @@ ghost use Rattle.seq_arith.specs.Message.Body.{OpenMsg};
 ghost use Rattle.seq_arith.specs.Value.{said};
 ghost use Rattle.plain_packets.specs.Sent.{Appends};
 ghost use Rattle.logger_wire.specs.Records.{numbers_said};
+ghost use Rattle.tcp_rules.specs.Profiles.{profile_of};
 ghost use Rattle.plain_world.specs.Values.{input_in, place_in, places_in, node_of};
 
 use crate::incarnation::Incarnation;
 use crate::input::Input;
-use crate::place::{PlainPlace, is_for};
+use crate::place::{Opening, PlainPlace, is_for};
 use crate::refusal::as_listen;
 use ft_io::{Key, NoMemory};
 use limits::PENDING;
 use logger_wire::{Body, Msg, Numbers};
 use plain_packets::{PlainPackets, has_ack, has_rst, has_syn};
 use segment_codec::{Head, PacketRef};
-use seq_arith::segment_size;
+use seq_arith::text_size;
 use server_trait::Service;
 use std::alloc::Global;
+use tcp_rules::{Profile, Timestamping};
 
 /// Returns whether a segment opens a connection: a SYN without ACK and RST.
 fn is_syn(segment: &PacketRef<'_>) -> bool
@@ -46,16 +48,23 @@ fn initial_number(isn: u32, n: u64) -> u32
 }
 
 /// Returns the numbers of the nth connection, which a SYN requests.
-fn numbers_for(isn: u32, n: u64, syn: &PacketRef<'_>) -> Numbers
+fn numbers_for(profile: Profile, isn: u32, n: u64, syn: &PacketRef<'_>) -> Numbers
     requires { n ≤ 2 ^ 32 }
-    ensures { numbers_said result ≡ numbers_lem isn n (segment_of syn.now) }
+    ensures { numbers_said result ≡ numbers_lem (profile_of profile) isn n (segment_of syn.now) }
 {
     Numbers {
         key: syn.head.sender(),
         cisn: syn.head.seq.0,
         sisn: initial_number(isn, n),
-        mss: segment_size(syn.head.mss),
+        mss: text_size(syn.head.mss, timestamping_for(profile, syn).sent()),
     }
+}
+
+/// Returns the timestamps that a SYN asks for.
+fn timestamping_for(profile: Profile, syn: &PacketRef<'_>) -> Timestamping
+    ensures { result ≡ timestamping_lem (profile_of profile) (segment_of syn.now) }
+{
+    Timestamping::asked(profile.timestamps(), syn.head.timestamps)
 }
 
 /// Returns whether the log is asked for a pending opening: at its SYN, at each retransmission of the SYN, and at each tick.
@@ -99,13 +108,13 @@ impl<S: Service> PlainPlace<S> {
     ) -> Result<(), NoMemory>
         ensures { OnOk result ((stage : law.Stage) → Appends sent.old sent.new (opens_at (node_of who stage) (input_in input.now) (place_in self.now))) }
     {
-        let PlainPlace::Opens(numbers) = self else {
+        let PlainPlace::Opens(opening) = self else {
             return Ok(());
         };
-        if !is_asked(who, input, numbers) {
+        if !is_asked(who, input, &opening.numbers) {
             return Ok(());
         }
-        send_open(alloc, who, numbers, sent)
+        send_open(alloc, who, &opening.numbers, sent)
     }
 }
 
@@ -169,16 +178,19 @@ pub(crate) fn newcomer<S: Service>(
     input: &Input<'_>,
     opened: u64,
     places: &[PlainPlace<S>],
-) -> Option<Numbers>
+) -> Option<Opening>
     requires { opened ≤ 2 ^ 32 }
-    ensures { (stage : law.Stage) → map (λ n. Opens (numbers_said n)) (option_to_list result)
+    ensures { (stage : law.Stage) → map (λ n. Opens (numbers_said n.numbers) n.timestamping) (option_to_list result)
         ≡ newcomers (node_of who stage) (input_in input.now) opened (places_in places.now) }
 {
     let Input::Packet(segment) = input else {
         return None;
     };
     if may_open(who, segment, places) {
-        Some(numbers_for(who.isn, opened, segment))
+        Some(Opening {
+            numbers: numbers_for(who.profile, who.isn, opened, segment),
+            timestamping: timestamping_for(who.profile, segment),
+        })
     } else {
         None
     }

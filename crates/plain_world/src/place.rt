@@ -23,12 +23,22 @@ use plain_packets::PlainPackets;
 use segment_codec::PacketRef;
 use server_trait::Service;
 use std::alloc::Global;
+use tcp_rules::Timestamping;
+
+/// A pending opening.
+#[derive(Clone, Copy)]
+pub(crate) struct Opening {
+    /// The numbers that the log is asked to keep.
+    pub numbers: Numbers,
+    /// The timestamps that the SYN asked for.
+    pub timestamping: Timestamping,
+}
 
 /// What the server has for a key that it knows.
 #[derive(Drop)]
 pub(crate) enum PlainPlace<S: Service> {
-    /// Its opening is pending: the log is asked to keep these numbers.
-    Opens(Numbers),
+    /// Its opening is pending.
+    Opens(Opening),
     /// Its connection is live.
     Lives(PlainConnection<S>),
     /// It is done.
@@ -88,7 +98,7 @@ impl<S: Service> PlainPlace<S> {
         ensures { result ≡ law.key_of (place_in self.now) }
     {
         match self {
-            PlainPlace::Opens(numbers) => numbers.key,
+            PlainPlace::Opens(opening) => opening.numbers.key,
             PlainPlace::Lives(connection) => connection.point().key(),
             PlainPlace::Ended(key) => *key,
         }

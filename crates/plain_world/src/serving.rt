@@ -18,10 +18,9 @@ ghost use Rattle.plain_world.specs.Values.{input_in, places_in, node_of};
 use crate::incarnation::Incarnation;
 use crate::input::Input;
 use crate::opening::{newcomer, refusal};
-use crate::place::PlainPlace;
+use crate::place::{Opening, PlainPlace};
 use crate::refusal::send_bare;
 use ft_io::NoMemory;
-use logger_wire::Numbers;
 use plain_packets::PlainPackets;
 use segment_codec::Head;
 use server_trait::Service;
@@ -109,17 +108,17 @@ fn refuse(alloc: Global, head: Option<Head>, sent: &mut PlainPackets) -> Result<
 
 impl<S: Service> Serving<S> {
     /// Adds a pending opening, if there is one. After `NoMemory` it may only be dropped.
-    fn open(&mut self, newcomer: Option<Numbers>) -> Result<(), NoMemory>
+    fn open(&mut self, newcomer: Option<Opening>) -> Result<(), NoMemory>
         requires { self.old.opened ≤ 2 ^ 32 }
         ensures opened { OnOk result (self.new.opened ≡ self.old.opened + length (option_to_list newcomer)) }
         ensures few { OnOk result (self.new.opened ≤ self.old.opened + 1) }
         ensures places { OnOk result (places_in self.new.places.items
-            ≡ places_in self.old.places.items ++ map (λ n. Opens (numbers_said n)) (option_to_list newcomer)) }
+            ≡ places_in self.old.places.items ++ map (λ n. Opens (numbers_said n.numbers) n.timestamping) (option_to_list newcomer)) }
         ensures served { OnOk result ((kind : ℕ) (service : Machine S) → AreServed kind service self.old.places.items
             → AreServed kind service self.new.places.items) }
     {
-        if let Some(numbers) = newcomer {
-            self.places.push(PlainPlace::Opens(numbers))?;
+        if let Some(opening) = newcomer {
+            self.places.push(PlainPlace::Opens(opening))?;
             self.opened += 1;
         }
         Ok(())

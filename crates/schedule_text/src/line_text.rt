@@ -3,12 +3,14 @@
 ghost use Rattle.std.specs.Prelude.{◌≡◌, ◌<◌, ◌≤◌, ◌∷◌, [], ◌++◌, ◌+◌, ◌/◌, ◌%◌, codes, decimal, length, take, drop, OnOk};
 ghost use Rattle.hex.specs.Hex.{encode_lower};
 ghost use Rattle.ft_model.specs.Texts.{or_dash, behind_commas, hex_text, list_text, address_text, letter_if, flag_letters, flags_text, mss_text, bit_text};
-ghost use Rattle.ft_model.specs.Texts.{way_text};
+ghost use Rattle.ft_model.specs.Texts.{spaced, way_text};
+ghost use Rattle.ft_model.specs.Report.{timestamps_words};
 
 use crate::line_out::LineOut;
 use ft_io::NoMemory;
 use ft_model::Way;
 use itoa::Buffer;
+use seq_arith::Timestamps;
 
 /// How many bytes are turned into hexadecimal at a time.
 const HEX_BYTES: usize = 64;
@@ -268,6 +270,25 @@ pub(crate) fn put_mss(mss: Option<u16>, line: &mut LineOut) -> Result<(), NoMemo
     match mss {
         None => line.append_text(" mss -"),
         Some(mss) => put_field(" mss ", u64::from(mss), line),
+    }
+}
+
+/// Appends timestamps, if a segment has them: their name, TSval and TSecr, each after a space.
+#[inline]
+#[tactic(auto, using(crate::proofs::LineLemmas::line_rules))]
+pub(crate) fn put_timestamps(
+    timestamps: Option<Timestamps>,
+    line: &mut LineOut,
+) -> Result<(), NoMemory>
+    ensures ok { OnOk result (line.new.words ≡ line.old.words ++ spaced (timestamps_words timestamps)) }
+    ensures before { line.new.before ≡ line.old.before }
+{
+    match timestamps {
+        None => Ok(()),
+        Some(timestamps) => {
+            put_field(" ts ", u64::from(timestamps.value), line)?;
+            put_number(u64::from(timestamps.echo), line)
+        }
     }
 }
 

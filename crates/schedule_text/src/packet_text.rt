@@ -1,6 +1,6 @@
 //! The line of a packet, with its fields by name. The packet is a segment, a message, which may be about marks, or a datagram between two loggers.
 
-ghost use Rattle.std.specs.Prelude.{◌≡◌, ◌++◌, ◌∷◌, ◌↔◌, codes, decimal, [], IsTrue, OnOk, OnErr, IsSome, IfSome};
+ghost use Rattle.std.specs.Prelude.{◌≡◌, ◌++◌, ◌∷◌, ◌↔◌, codes, decimal, [], None, IsTrue, OnOk, OnErr, IsSome, IfSome};
 ghost use Rattle.seq_arith.specs.MarkGrammar.{reading as mark_reading};
 ghost use Rattle.seq_arith.specs.MessageGrammar.{reading_by as message_reading_by};
 ghost use Rattle.seq_arith.specs.TwinGrammar.{reading_by};
@@ -10,7 +10,9 @@ ghost use Rattle.ft_model.specs.Report.{segment_words, line_of_packet};
 ghost use Rattle.schedule_text.specs.Bytes.{content_by, content_in, logged_words, told_words};
 
 use crate::line_out::LineOut;
-use crate::line_text::{put_field, put_flags, put_hex, put_mss, put_number, put_way};
+use crate::line_text::{
+    put_field, put_flags, put_hex, put_mss, put_number, put_timestamps, put_way,
+};
 use crate::mark_text::put_mark_message;
 use crate::message_text::put_message;
 use ft_io::NoMemory;
@@ -171,10 +173,21 @@ fn put_told(grammar: Grammar, bytes: &[u8], line: &mut LineOut) -> Result<(), No
     }
 }
 
-/// Appends a segment: its flags, then its other fields.
+/// Appends a segment: its fields, and its timestamps at the end.
 #[tactic(auto, using(crate::proofs::LineLemmas::line_rules))]
 fn put_segment(head: &Head, payload: &[u8], line: &mut LineOut) -> Result<(), NoMemory>
     ensures ok { OnOk result (line.new.words ≡ line.old.words ++ spaced (segment_words (record { head = said head.now; payload = payload.now }))) }
+    ensures before { line.new.before ≡ line.old.before }
+{
+    put_bare_segment(head, payload, line)?;
+    put_timestamps(head.timestamps, line)
+}
+
+/// Appends a segment's flags, then its other fields, without its timestamps.
+#[tactic(auto, using(crate::proofs::LineLemmas::line_rules))]
+fn put_bare_segment(head: &Head, payload: &[u8], line: &mut LineOut) -> Result<(), NoMemory>
+    ensures ok { OnOk result (line.new.words ≡ line.old.words
+        ++ spaced (segment_words (record { head = record (said head.now) { timestamps = None }; payload = payload.now }))) }
     ensures before { line.new.before ≡ line.old.before }
 {
     put_flags(head.flags, line)?;

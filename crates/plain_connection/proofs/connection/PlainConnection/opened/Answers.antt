@@ -7,4 +7,4 @@ use Rattle.plain_connection.proofs.connection.PlainConnection.opened.Goals as go
 pub returns-clause-served : goal.returns-clause-served
 returns-clause-served g c =
     opened_served (machine (g.S.Service.started c.args.kind) g.S.Service.after g.S.Service.greeting) (record { kind = c.args.kind; point = c.opened.result; made = c.in_ok-new.field-0 })
-    (profile_of c.args.profile) (numbers_said c.args.numbers.now) c.opened.ensures c.in_ok-new.ensures
+    (profile_of c.args.profile) c.args.asked (numbers_said c.args.numbers.now) c.opened.ensures c.in_ok-new.ensures

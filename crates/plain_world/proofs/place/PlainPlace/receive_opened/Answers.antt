@@ -7,4 +7,4 @@ use Rattle.plain_world.proofs.place.PlainPlace.receive_opened.Goals as goal
 pub returns-clause-turn : goal.returns-clause-turn
 returns-clause-turn g c =
     rw c.in-Opens.is
-    (λ (stage : Stage). opened_same _ (node_of c.args.who stage) (numbers_said c.args.numbers.now) (numbers_said c.in-Opens.asked) _ _ _ c.if-numbers-asked.false (c.in_ok-connection.ensures.turn stage))
+    (λ (stage : Stage). opened_same _ (node_of c.args.who stage) (numbers_said c.args.numbers.now) (numbers_said c.in-Opens.asked.numbers) c.in-Opens.asked.timestamping _ _ _ c.if-numbers-asked.false (c.in_ok-connection.ensures.turn stage))

@@ -17,7 +17,7 @@ returns-clause-turn g c =
     (λ asks (stage : Stage).
     serving_turn (machine (g.S.Service.started c.args.who.kind) g.S.Service.after g.S.Service.greeting) (node_of c.args.who stage) (input_in c.args.input.now) c.args.self.now.opened
     c.args.self.now.places.items c.go_all.new.places.items c.open.new.self.places.items
-    (map (λ n. Opens (numbers_said n)) (option_to_list c.newcomer-newcomer.result))
+    (map (λ n. Opens (numbers_said n.numbers) n.timestamping) (option_to_list c.newcomer-newcomer.result))
     (map (λ head. To_client (record { head = said head; payload = [] })) (option_to_list c.refusal-refusal.result))
     c.args.sent.now c.go_all.new.sent c.refuse.new.sent c.ask_all.new.sent
     (c.in_ok-go_all.ensures.turn stage) c.in_ok-open.ensures.places (rw c.as_slice.ensures.value at (c.newcomer-newcomer.ensures stage))
@@ -28,7 +28,7 @@ pub returns-clause-opened : goal.returns-clause-opened
 returns-clause-opened g c =
     on_ok _ c.ask_all.result
     (λ (stage : Stage).
-    opened_more (λ n. Opens (numbers_said n)) c.newcomer-newcomer.result _ c.args.self.now.opened c.open.new.self.opened c.in_ok-open.ensures.opened
+    opened_more (λ n. Opens (numbers_said n.numbers) n.timestamping) c.newcomer-newcomer.result _ c.args.self.now.opened c.open.new.self.opened c.in_ok-open.ensures.opened
     (rw c.as_slice.ensures.value at (c.newcomer-newcomer.ensures stage)))
 
 pub returns-clause-served : goal.returns-clause-served
