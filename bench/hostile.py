@@ -2,7 +2,8 @@
 """Hostile segments in each state of a connection, to a server with each profile: hostile.py [COUNT] [PROGRAM].
 
 COUNT segments in each state have acknowledgements far ahead, wrong edges, RSTs beside the number, overlapping text, odd flags or a SYN, all near the
-connection's numbers. A connection gets 20 of them, and then two ticks pass; so each state is reached COUNT / 20 times. `node_cases node` must send what the
+connection's numbers. A connection gets 20 of them, and then two ticks pass; so each state is reached COUNT / 20 times. With the profile `wan` each state is
+reached a second time by a client whose segments have timestamps, as then the hostile ones have. `node_cases node` must send what the
 model in tools/model.py sends, to the byte, and its connection must have the model's numbers. Defaults: 10,000, and the program
 crates/node_cases/out/node_cases. The stored run of node_cases has over 40,000 such segments with the plain profile and over 7,000 with `wan`, among other
 clients' turns.
@@ -23,8 +24,10 @@ REQUESTS = b"\0\0\7\xff" * 4
 class Met(Target):
     """One client alone, which is brought into a state and sends hostile segments there. Of its stream the first bytes are told in words."""
 
+    stamped = False
+
     def said(self, at, text=b"", flags="A", ack=0):
-        self.comes(at, text, flags, ack, HOSTILE)
+        self.comes(at, text, flags, ack, HOSTILE, stamps=(2**32 - 9, 1) if self.stamped else None)
 
     def place(self):
         return self.server.places.get(HOSTILE)
@@ -55,12 +58,12 @@ class Met(Target):
         self.established()
         self.said(0, REQUESTS)
         self.drain()
-        assert self.place().sent == 4 * 536
+        assert self.place().sent == 4 * self.place().mss
 
     def recovering(self):
         self.sending()
         for _ in range(4):
-            self.said(16, ack=536)
+            self.said(16, ack=self.place().mss)
         assert self.place().congestion.dups == 3
 
     def expired(self):
@@ -147,15 +150,16 @@ STATES = {
 }
 
 
-def meet(state, profile, count):
-    """The lines of so many hostile segments in this state, and what they must print."""
+def meet(state, profile, stamped, count):
+    """The lines of so many hostile segments in this state, with timestamps or without, and what they must print."""
     node_lines.lines.clear()
     node_lines.prints.clear()
     service, reach = STATES[state]
     for seed in range(-(-count // EACH)):
         it = Met(service, profile)
+        it.stamped = stamped
         reach(it)
-        it.blows(min(EACH, count - seed * EACH), seed, 6)
+        it.blows(min(EACH, count - seed * EACH), seed, 6, stamped)
         it.ticks(2)
         if isinstance(it.place(), node_lines.model.Connection):
             it.shows(HOSTILE)
@@ -166,16 +170,16 @@ def main():
     count = int(sys.argv[1]) if sys.argv[1:] else 10000
     program = sys.argv[2] if sys.argv[2:] else str(TOP / "crates/node_cases/out/node_cases")
     all_lines = 0
-    for profile in BOOTS:
+    for profile, stamped in ("plain", False), ("wan", False), ("wan", True):
         for state in STATES:
-            lines, prints = meet(state, profile, count)
+            lines, prints = meet(state, profile, stamped, count)
             said = subprocess.run([program, "node"], input="\n".join(lines) + "\n", capture_output=True, text=True, check=True).stdout.splitlines()
             if said != prints:
                 place = next((place for place, (line, wanted) in enumerate(zip(said, prints)) if line != wanted), min(len(said), len(prints)))
-                print(f"{profile}, {state}: line {place + 1} of {len(said)}: not as the model has it")
+                print(f"{profile}{', timestamps' if stamped else ''}, {state}: line {place + 1} of {len(said)}: not as the model has it")
                 return 1
             all_lines += len(said)
-    print(f"{count} hostile segments in each of {len(STATES)} states with each of {len(BOOTS)} profiles, {all_lines} lines: all as the model has them")
+    print(f"{count} hostile segments in each of {len(STATES)} states with each of {len(BOOTS)} profiles, and with timestamps, {all_lines} lines: all as the model has them")
     return 0
 
 

@@ -36,8 +36,13 @@ def key_of(text):
     ip, port = text.split(":")
     return (ip_of(ip), int(port))
 
-def packet(src, dst, flags, seq, ack, window, mss, data):
-    options = b"" if mss is None else struct.pack(">BBH", 2, 4, mss)
+def stamps_option(value, echo):
+    """The timestamps option behind the two NOPs that align it (RFC 7323, appendix A)."""
+    return struct.pack(">BBBBII", 1, 1, 8, 10, value, echo)
+
+def packet(src, dst, flags, seq, ack, window, mss, data, options=b""):
+    """A packet. `options` stand behind the segment size."""
+    options = (b"" if mss is None else struct.pack(">BBH", 2, 4, mss)) + options
     bits = sum(FLAGS[f] for f in flags if f != "-")
     def tcp(check):
         return struct.pack(">HHIIBBHHH", src[1], dst[1], seq, ack, (20 + len(options)) // 4 << 4, bits, window, check, 0) + options + data
@@ -102,15 +107,17 @@ def body_of(kind, f):
         return struct.pack(">Q", n("newer"))
     raise ValueError(kind)
 
-def segment(way, words, clients):
-    """A segment by the words behind its way in a report."""
+def segment(way, words, clients, options=None):
+    """A segment by the words behind its way in a report. `options` take the place of those that its timestamps are."""
+    if words[-3:-2] == ["ts"]:
+        words, options = words[:-3], stamps_option(*map(int, words[-2:])) if options is None else options
     flags, f = words[0], fields(words[1:])
     data = hex_bytes(f["data"])
     mss = None if f["mss"] == "-" else int(f["mss"])
     left, right = way.split(">")
     src = SERVER if left == "S" else clients[left]
     dst = SERVER if right == "S" else clients[right]
-    return packet(src, dst, flags, int(f["seq"]), int(f["ack"]), int(f["window"]), mss, data)
+    return packet(src, dst, flags, int(f["seq"]), int(f["ack"]), int(f["window"]), mss, data, options or b"")
 
 
 lines, prints = [], []
@@ -179,10 +186,11 @@ class Played:
         for _ in range(times):
             self.turn("tick", self.server.on_tick())
 
-    def comes(self, at, text=b"", flags="A", ack=0, key=K):
-        """A segment of the client at an offset of its stream, whose initial number is 4294967290. Nothing of it is logged yet."""
-        it = model.Segment(flags, (4294967291 + at) % 2**32, (5001 + ack) % 2**32 if "A" in flags else 0, 65535, None, text)
-        self.turn(pkt(segment("1>S", packet_words(it).split(), {"1": key_of(key)})), self.server.on_segment(key, it))
+    def comes(self, at, text=b"", flags="A", ack=0, key=K, stamps=None, options=None, mss=None):
+        """A segment of the client at an offset of its stream, whose initial number is 4294967290. Nothing of it is logged yet. `stamps` are its timestamps, and
+        `options` the bytes that say so, if they aren't the usual ones."""
+        it = model.Segment(flags, (4294967291 + at) % 2**32, (5001 + ack) % 2**32 if "A" in flags else 0, 65535, mss, text, stamps)
+        self.turn(pkt(segment("1>S", packet_words(it).split(), {"1": key_of(key)}, options)), self.server.on_segment(key, it))
 
     def begins(self, key=K):
         self.comes(-1, flags="S", key=key)
@@ -207,8 +215,8 @@ def digest_of(sent, version=1):
             total = (total * 257 + byte + 1) % (2**32 - 5)
     return f"sent {len(sent)} digest {total}"
 
-def hostile(draws, kinds, seq, ack):
-    """Acknowledgements far ahead, wrong edges, RSTs beside the number, text that overlaps with other bytes, odd flags, and SYNs."""
+def hostile(draws, kinds, seq, ack, stamped=False):
+    """Acknowledgements far ahead, wrong edges, RSTs beside the number, text that overlaps with other bytes, odd flags, and SYNs; with timestamps or without."""
     below = lambda bound: draws.draw() % bound
     kind = below(kinds)
     if kind == 0:
@@ -226,14 +234,15 @@ def hostile(draws, kinds, seq, ack):
     else:
         flags, seq, room = "S", seq + [-1, -1, 0, 69999][below(4)], 1
     window = below(65536)
+    stamps = ((2**32 - 8 + below(16)) % 2**32, draws.draw()) if stamped else None
     text = bytes([below(256)]) * 20
     text = text[: below(room)]
-    return model.Segment(flags, seq % 2**32, ack % 2**32 if "A" in flags else 0, window, None, text)
+    return model.Segment(flags, seq % 2**32, ack % 2**32 if "A" in flags else 0, window, None, text, stamps)
 
 class Target(Played):
     """The same, with a further client that sends hostile segments."""
 
-    def blows(self, count, seed, kinds):
+    def blows(self, count, seed, kinds, stamped=False):
         """So many hostile segments, in one line, round the numbers that this client's connection has before them. Returns what is sent."""
         place = self.server.places.get(HOSTILE)
         live = isinstance(place, model.Connection)
@@ -241,8 +250,8 @@ class Target(Played):
         ack = ((place.sisn if live else 5000) + 1 + (place.sent if live else 0)) % 2**32
         draws, sent = Generator(seed), []
         for _ in range(count):
-            sent += self.server.on_segment(HOSTILE, hostile(draws, kinds, seq, ack))
-        say(f"strike {count} {seed} {kinds} {seq} {ack}", digest_of(sent, self.version))
+            sent += self.server.on_segment(HOSTILE, hostile(draws, kinds, seq, ack, stamped))
+        say(f"{'strike-stamped' if stamped else 'strike'} {count} {seed} {kinds} {seq} {ack}", digest_of(sent, self.version))
         return sent
 
 class Guesser(Played):

@@ -15,7 +15,7 @@ sys.path.insert(0, str(pathlib.Path(__file__).parent.parent / "tools"))
 
 import loggers  # noqa: E402
 import model  # noqa: E402
-from node_lines import (BOOTS, VERSIONS, HOSTILE, K, SERVER, SERVICES, Played, Target, conn, fields, guess_in_each_state, key_bytes, key_of, lines, message, msg, numbers, packet, pkt, prints, say, segment, to_client, to_logger, told)  # noqa: E402
+from node_lines import (BOOTS, VERSIONS, HOSTILE, K, SERVER, SERVICES, Played, Target, conn, fields, guess_in_each_state, key_bytes, key_of, lines, message, msg, numbers, packet, pkt, prints, say, segment, stamps_option, to_client, to_logger, told)  # noqa: E402
 from seed_model import packet_words  # noqa: E402
 from stored_parts import FOLDER, write_part  # noqa: E402
 
@@ -700,6 +700,84 @@ it.ticks(1)
 it.comes(20, ack=it.server.places[K].sent)
 it.drain()
 it.shows()
+say("# with the profile wan a SYN with timestamps is answered with them, its size leaves room for them, and every segment to its client carries them. They are 1,"
+    " and the client's latest value of those in time")
+it = Played("transfer", "wan")
+it.comes(-1, flags="S", stamps=(7, 0), mss=1460)
+it.drain()
+assert it.server.places[K].mss == 1448
+it.comes(0, stamps=(8, 1))
+it.comes(0, REQUESTS, stamps=(9, 1))
+it.drain()
+assert it.server.places[K].recent == 9
+it.comes(16, ack=1448, stamps=(10, 1))
+it.ticks(12)
+it.comes(16, ack=it.server.places[K].sent, stamps=(11, 1))
+it.shows()
+say("# a SYN without a size or with a small one, and with the profile plain: there no segment carries timestamps")
+for profile, offered in ("wan", None), ("wan", 70), ("plain", 1460):
+    it = Played("echo", profile)
+    it.comes(-1, flags="S", stamps=(7, 0), mss=offered)
+    it.drain()
+    it.comes(0, b"hello", stamps=(8, 1))
+    it.drain()
+    it.shows()
+say("# values that aren't echoed: of a segment past the last acknowledgement, before the window, past it, of a RST that doesn't reset, and an older one; an echo of"
+    " what was never sent changes nothing, and a segment without timestamps neither")
+it = Played("echo", "wan")
+it.comes(-1, flags="S", stamps=(2**32 - 2, 0))
+it.drain()
+it.comes(0, stamps=(3, 1))
+for at, text, flags, stamps in ((2, b"c", "A", (9, 1)), (-1, b"", "A", (9, 1)), (65536, b"", "A", (9, 1)), (1, b"", "R", (9, 1)), (0, b"", "A", (2, 1)),
+                                (0, b"a", "A", (3, 77)), (1, b"", "A", None), (1, b"b", "A", (4, 2**32 - 1))):
+    it.comes(at, text, flags, stamps=stamps)
+    it.drain()
+it.shows()
+say("# a connection that was opened without timestamps gets none, whatever its segments carry")
+it = Played("echo", "wan")
+it.begins()
+it.comes(0, b"hello", stamps=(9, 1))
+it.drain()
+it.shows()
+say("# after a restart nothing is echoed until a segment of the client brings a value in time")
+it = Played("echo", "wan")
+it.comes(-1, flags="S", stamps=(7, 0), mss=1460)
+it.drain()
+it.comes(0, b"hello", stamps=(8, 1))
+it.drain()
+it.boot(2, 900000)
+it.comes(7, b"x", ack=5, stamps=(30, 1))
+it.ticks(10)
+it.comes(5, b"ab", ack=5, stamps=(9, 1))
+it.drain()
+it.shows()
+say("# the option twice: the first counts; among other NOPs and options; behind the end of the options, and of another length: it isn't read; cut: no segment")
+stamp = stamps_option(9, 1)[2:]
+ways = [("twice", stamps_option(9, 1) + stamps_option(50, 1), (9, 1)), ("NOPs", b"\1" + stamp + b"\1", (9, 1)), ("among", b"\3\3\7" + stamp + b"\4\2\1", (9, 1)),
+        ("end", b"\1\0" + stamp, None), ("short", b"\1\1\x08\x09" + b"\0" * 7 + b"\1", None), ("long", b"\1\x08\x0b" + b"\0" * 9, None)]
+for name, options, stamps in ways:
+    it = Played("echo", "wan")
+    it.comes(-1, flags="S", stamps=(7, 0))
+    it.drain()
+    it.comes(0, b"hi", stamps=stamps, options=options)
+    it.drain()
+    it.shows()
+for options in (b"\1\1\x08\x0a\0\0\0\x09", b"\1\1\1\x08", b"\x08\1\0\0", b"\x08\0\0\0", stamps_option(9, 1) + b"\1\1\1\x08"):
+    say(pkt(packet(key_of(K), SERVER, "A", (4294967291 + 2) % 2**32, 5001, 65535, None, b"no", options)))
+say("# hostile segments with timestamps: before the text, with text that isn't logged, and after a restart")
+it = Target("echo", "wan")
+it.comes(-1, flags="S", key=HOSTILE, stamps=(2**32 - 9, 0))
+it.drain()
+it.comes(0, key=HOSTILE, stamps=(2**32 - 9, 1))
+it.blows(100, 1, 6, True)
+it.shows(HOSTILE)
+it.comes(0, b"hello", key=HOSTILE, stamps=(2**32 - 8, 1))
+it.blows(100, 2, 6, True)
+it.sent = []
+it.shows(HOSTILE)
+it.boot(2, 900000)
+it.blows(100, 3, 6, True)
+it.shows(HOSTILE)
 say("# three clients and a fourth that is hostile, as before")
 struck, count = serve_three(100, "wan")
 assert count >= 7000 and struck == left_alone("wan")

@@ -58,14 +58,19 @@ def byte_count(word):
 
 
 def is_segment(words):
-    """Whether these are a segment's words: its flags by letter, its numbers, its option and its text."""
+    """Whether these are a segment's words: its flags by letter, its numbers, its option, its text, and its timestamps if it has them."""
+    options = 0
+    if words[-3:-2] == ["ts"]:
+        if None in (number_in(it, *LONG) for it in words[-2:]):
+            return False
+        words, options = words[:-3], 12
     if len(words) != 11 or words[1::2] != ["seq", "ack", "window", "mss", "data"]:
         return False
     flags, seq, ack, window, mss, data = words[0], *words[2::2]
     held = byte_count(data)
     numbers = [number_in(seq, *LONG), number_in(ack, *LONG), number_in(window, *WINDOW), 0 if mss == "-" else number_in(mss, *WINDOW)]
     spelled = flags == "-" or re.fullmatch("C?E?U?A?P?R?S?F?", flags) and flags
-    return bool(spelled) and None not in numbers and held is not None and held <= 1460 - (0 if mss == "-" else 4)
+    return bool(spelled) and None not in numbers and held is not None and held <= 1460 - options - (0 if mss == "-" else 4)
 
 
 def is_field(name, word, rule):

@@ -74,6 +74,10 @@ class Verdicts(unittest.TestCase):
         for wrong in (segment.replace("1>S", "2>S"), segment.replace("A seq", "SA seq"), segment.replace("data -", "data 0"), segment.replace("7", "8")):
             self.assertFalse(is_packet_line(wrong, 7, 1), wrong)
         self.assertFalse(is_packet_line(segment.replace("7", str(PACKETS + 1)), PACKETS + 1, 1))
+        stamped = segment + " ts 1 4294967295"
+        self.assertTrue(is_packet_line(stamped, 7, 1))
+        for wrong in stamped + "0", stamped + " 1", stamped.replace("ts", "tS"), stamped.replace("ts 1 ", "ts "), stamped.replace("ts 1", "ts 01"):
+            self.assertFalse(is_packet_line(wrong, 7, 1), wrong)
 
     def test_profile_line(self):
         named, server, end = b"profile wan\n", lines()[2], b"end 0\n"

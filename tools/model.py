@@ -22,7 +22,10 @@ SIZES = {"Hello": 16, "Summary": 18, "List": 18, "Entry": 48, "Bytes": 26, "Part
 SIZES |= {"Data": 31, "Stable": 31, "Read": 28, "Reads": 31, "Done": 22, "Ended": 22, "Stale": 24, "Full": 22}
 SIZES |= {"Mark": 34, "Marked": 26, "Ask": 22, "Held": 34}
 
-Segment = namedtuple("Segment", "flags seq ack window mss text")
+STAMPED = 12  # the bytes of the timestamps option with its two NOPs
+
+# `stamps` is the timestamps option, TSval and TSecr, or None.
+Segment = namedtuple("Segment", "flags seq ack window mss text stamps", defaults=(None,))
 
 
 def number(value):
@@ -42,7 +45,7 @@ def refusal(ack_of, ack=None):
 def size_of(content):
     """The bytes of a packet, a message or a datagram between two loggers."""
     if isinstance(content, Segment):
-        return 40 + (4 if content.mss is not None else 0) + len(content.text)
+        return 40 + (4 if content.mss is not None else 0) + (STAMPED if content.stamps else 0) + len(content.text)
     if isinstance(content, (Forward, Got)):
         return 16 + (size_of(content.message) if isinstance(content, Forward) else 0)
     said = content.fields
@@ -206,7 +209,7 @@ class Marking:
 class Connection(Stream):
     """A live connection of one incarnation, as its point: what is taken, logged, read, sent and acknowledged, in offsets."""
 
-    def __init__(self, key, cisn, sisn, mss, service, every=0, profile="plain"):
+    def __init__(self, key, cisn, sisn, mss, service, every=0, profile="plain", recent=None):
         super().__init__()
         self.key, self.cisn, self.sisn, self.mss = key, cisn, sisn, mss
         self.service = Service(service)
@@ -214,7 +217,8 @@ class Connection(Stream):
         self.fetched, self.fetched_output, self.answered = 0, 0, 0
         self.lengths, self.consumed, self.reads_answered = [], 0, 0
         self.una = self.sent = self.edge = self.wl1 = self.wl2 = 0
-        measures, self.delays, self.batches = PROFILES[profile]
+        measures, self.delays, self.batches, _ = PROFILES[profile]
+        self.stamped, self.recent = recent is not None and mss + STAMPED <= PIECE, recent
         self.timing, self.congestion, self.again = Timing(measures), Congestion(mss, measures), False
         self.counted, self.interval, self.rest = False, self.timing.base, self.timing.base
         self.end_ticks, self.reset = 0, False
@@ -225,6 +229,7 @@ class Connection(Stream):
         """Where a connection stands that is restarted from what was fetched."""
         it = cls(entry["key"], entry["cisn"], entry["sisn"], entry["mss"], service, every, profile)
         it.begin_at(entry.get("mark", NO_MARK))
+        it.stamped = PROFILES[profile].stamps and it.mss + STAMPED <= PIECE
         it.data += entry["data"]
         it.fin, it.fetched, it.answered = entry["fin"], entry["length"], entry["length"] + entry["fin"]
         for length in entry["lengths"]:
@@ -282,7 +287,8 @@ class Connection(Stream):
 
     def out(self, flags, at, text=b"", mss=None):
         acked, window = self.told()
-        return Segment(flags, number(self.sisn + 1 + at), number(self.cisn + 1 + acked), window, mss, text)
+        stamps = (1, self.recent) if self.stamped and self.recent is not None else None
+        return Segment(flags, number(self.sisn + 1 + at), number(self.cisn + 1 + acked), window, mss, text, stamps)
 
     def syn_ack(self):
         return self.out("AS", -1, mss=1460)
@@ -308,6 +314,7 @@ class Connection(Stream):
         segments, owed, copied, silent = [], kind == "live", [], False
         self.again = False
         if kind == "segment":
+            self.note(came)
             if self.is_repeated_syn(came):
                 segments, owed = [self.syn_ack()], False
             else:
@@ -342,6 +349,15 @@ class Connection(Stream):
 
     def is_repeated_syn(self, came):
         return came.flags == "S" and came.seq == self.cisn and self.taken() == 0 and self.una == 0
+
+    def note(self, came):
+        """TS.Recent (RFC 7323, 4.3): the newest value of the acceptable segments that begin at or before the last acknowledgement."""
+        first, length, following, edge = gap(came.seq, self.cisn + 1), length_of(came), self.taken(), self.right()
+        fits = is_acceptable(first, length, following, edge) or is_at_right_edge(first, length, following, edge)
+        if not self.stamped or came.stamps is None or "R" in came.flags or not fits or first > self.told()[0]:
+            return
+        if self.recent is None or gap(came.stamps[0], self.recent) >= 0:
+            self.recent = came.stamps[0]
 
     def arrive(self, came):
         """A segment comes: whether one is owed, whether nothing is to leave, and which parts of the stream the log is to have."""
@@ -476,6 +492,7 @@ class Server:
     def __init__(self, boot, isn, service, every=0, profile="plain"):
         self.boot, self.isn, self.service, self.every, self.profile = boot, isn, service, every, profile
         self.places, self.openings = {}, 0
+        self.recents = {}  # of pending openings: the value of the SYN's timestamps
         self.count, self.entries = None, []
         self.serves, self.question = False, ("Hello", {})
 
@@ -523,6 +540,8 @@ class Server:
         if "S" not in came.flags or sum(isinstance(it, dict) for it in self.places.values()) == OPENINGS:
             return []
         mss = 536 if came.mss is None else min(1460, max(64, came.mss))
+        if came.stamps and PROFILES[self.profile].stamps:
+            self.recents[key], mss = came.stamps[0], max(64, mss - STAMPED)
         self.places[key] = {"cisn": came.seq, "sisn": self.next_isn(), "mss": mss}
         return self.open_of(key, self.places[key])
 
@@ -550,11 +569,11 @@ class Server:
         return []
 
     def on_opening(self, key, opening, came):
-        said = came.fields
+        said, recent = came.fields, self.recents.pop(key, None)
         if came.name == "Full" or said["cisn"] != opening["cisn"]:
             del self.places[key]
             return [(key, refusal(0, opening["cisn"] + 1))] if came.name == "Full" else []
-        place = self.places[key] = Connection(key, said["cisn"], said["sisn"], said["mss"], self.service, self.every, self.profile)
+        place = self.places[key] = Connection(key, said["cisn"], said["sisn"], said["mss"], self.service, self.every, self.profile, recent)
         return self.sent_by(place, *place.turn("start"))
 
     def fetch(self, came):

@@ -191,6 +191,45 @@ class Servers(unittest.TestCase):
         self.assertEqual(opened.name, "Open")
         self.assertEqual(server.on_message(said("Full", key=KEY)), [(KEY, Segment("AR", 0, 1001, 0, None, b""))])
 
+    def opened(self, profile, stamps, mss=1460):
+        """A server, and the segments with which it answers a SYN with these timestamps once the log has the opening."""
+        server = Server(1, 5000, "echo", profile=profile)
+        server.on_message(said("Summary", count=0))
+        (_, asked), = server.on_segment(KEY, Segment("S", 1000, 0, 65535, mss, b"", stamps))
+        return server, asked.fields["mss"], [it for _, it in server.on_message(said("Opened", **asked.fields))]
+
+    def test_timestamps_of_an_opening(self):
+        rows = [("wan", (7, 0), 1460, 1448, (1, 7)), ("wan", None, 1460, 1460, None), ("plain", (7, 0), 1460, 1460, None)]
+        rows += [("wan", (2**32 - 1, 5), None, 524, (1, 2**32 - 1)), ("wan", (0, 0), 70, 64, (1, 0))]
+        for profile, stamps, offered, size, wanted in rows:
+            _, mss, sent = self.opened(profile, stamps, offered)
+            self.assertEqual((mss, [it.stamps for it in sent]), (size, [wanted]), (profile, stamps, offered))
+
+    def test_latest_timestamp(self):
+        """Of the segments that are acceptable and begin at or before what is acknowledged the newest value is echoed."""
+        server, _, _ = self.opened("wan", (2**32 - 2, 0))
+        place = server.places[KEY]
+        place.turn("segment", text(0, b"ab", 5001)._replace(stamps=(3, 1)))
+        rows = [("A", 2, b"c", 9, 3), ("A", 0, b"ab", 9, 3), ("A", -1, b"", 9, 3), ("R", 1, b"", 9, 3), ("A", 2 + 65536, b"", 9, 3)]
+        for flags, at, data, value, wanted in rows:
+            place.turn("segment", text(at, data, 5001)._replace(flags=flags, stamps=(value, 77)))
+            self.assertEqual(place.recent, wanted, (flags, at))
+        segments, _ = place.turn("logged", said("Stable", key=KEY, length=3, fin=0, reads=0))
+        self.assertEqual({it.stamps for it in segments}, {(1, 3)})
+        for value, wanted in ((2, 3), (9, 9), (9 + 2**31, 9), (8 + 2**31, 8 + 2**31)):
+            place.turn("segment", text(3, b"", 5001)._replace(stamps=(value, 1)))
+            self.assertEqual(place.recent, wanted, value)
+
+    def test_timestamps_behind_a_restart(self):
+        entry = {"key": KEY, "cisn": 1000, "sisn": 5000, "data": b"", "length": 0, "fin": 0, "lengths": [], "acked": 0}
+        for mss, wanted in ((1448, (1, 4)), (1449, None)):
+            place = Connection.of_entry({**entry, "mss": mss}, "echo", profile="wan")
+            segments, _ = place.turn("live")
+            self.assertEqual([it.stamps for it in segments], [None])
+            place.turn("segment", text(0, b"ab", 5001)._replace(stamps=(4, 9)))
+            segments, _ = place.turn("logged", said("Stable", key=KEY, length=2, fin=0, reads=0))
+            self.assertEqual([it.stamps for it in segments], [wanted])
+
     def test_full_stream(self):
         place = Connection(KEY, 1000, 5000, 536, "meter")
         place.turn("start")

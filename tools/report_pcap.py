@@ -27,10 +27,11 @@ def address(text):
 
 
 def tcp_bytes(packet, source, destination):
-    """The TCP header, with the segment size where the report has one, and the text; summed with the pseudo-header."""
+    """The TCP header, with the segment size and the timestamps where the report has them, and the text; summed with the pseudo-header."""
     said = packet.fields
     text = b"" if said["data"] == "-" else bytes.fromhex(said["data"])
     options = b"" if said["mss"] == "-" else struct.pack(">BBH", 2, 4, int(said["mss"]))
+    options += b"" if packet.stamps is None else struct.pack(">BBBBII", 1, 1, 8, 10, *packet.stamps)
     flags = sum(FLAGS[letter] for letter in packet.kind if letter != "-")
     offset = (20 + len(options)) // 4 << 4
 

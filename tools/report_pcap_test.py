@@ -122,6 +122,13 @@ class Spelling(unittest.TestCase):
         text = HEAD + "".join(f"packet {place} 1>S {it} seq 1 ack 2 window 3 mss - data -\n" for place, it in enumerate(letters, 1))
         self.assertEqual([data[33] for _, data in records(report_pcap.capture(read_report(text)))], [1, 2, 4, 8, 16, 32, 64, 128])
 
+    def test_timestamps(self):
+        """Timestamps follow the segment size: two NOPs, kind 8, length 10, and both numbers (RFC 7323, appendix A)."""
+        text = HEAD + "packet 1 S>1 AS seq 1 ack 2 window 3 mss 1460 data - ts 1 4294967294\npacket 2 S>1 A seq 1 ack 2 window 3 mss - data 61 ts 1 2\n"
+        first, second = (data for _, data in records(report_pcap.capture(read_report(text))))
+        self.assertEqual((first[32] >> 4, first[40:].hex()), (9, "020405b40101080a00000001fffffffe"))
+        self.assertEqual((second[32] >> 4, second[40:].hex()), (8, "0101080a000000010000000261"))
+
     def test_greatest(self):
         """A segment with the size option, the greatest numbers, odd text, of a client at the greatest address."""
         text = HEAD.replace("192.0.2.1:40000", "255.255.255.255:65535")

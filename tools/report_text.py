@@ -41,6 +41,11 @@ class Packet:
         words = self.words[:3] if self.kind == "Forward" else self.words
         return dict(zip(words[1::2], words[2::2]))
 
+    @property
+    def stamps(self):
+        """A segment's timestamps, TSval and TSecr, which are the last three words of its line; or None."""
+        return (int(self.words[-2]), int(self.words[-1])) if self.is_segment and self.words[-3] == "ts" else None
+
 
 @dataclass
 class Event:

@@ -144,7 +144,8 @@ def packet_words(content):
             words += [name, hexadecimal(value) if name in ("bytes", "state") else ",".join(map(str, value)) if name == "lens" else str(value)]
         return " ".join(words)
     mss = "-" if content.mss is None else content.mss
-    return f"{content.flags} seq {content.seq} ack {content.ack} window {content.window} mss {mss} data {hexadecimal(content.text)}"
+    stamps = "" if content.stamps is None else f" ts {content.stamps[0]} {content.stamps[1]}"
+    return f"{content.flags} seq {content.seq} ack {content.ack} window {content.window} mss {mss} data {hexadecimal(content.text)}{stamps}"
 
 
 def closing(world, done):

@@ -9,9 +9,9 @@ WIDEST = 1 << 20  # the most units of a congestion window
 LONGEST = 64  # the longest interval of the timer
 
 # `measures`: the timer follows measured round trips, and the losses of one flight are recovered one after another. `delays`: the ACK of what isn't logged waits.
-# `batches`: of what a turn copies to the log only the last is answered, and each other says that one follows
-Profile = namedtuple("Profile", "measures delays batches")
-PROFILES = {"plain": Profile(False, False, False), "wan": Profile(True, True, True)}
+# `batches`: of what a turn copies to the log only the last is answered, and each other says that one follows. `stamps`: segments carry timestamps (RFC 7323)
+Profile = namedtuple("Profile", "measures delays batches stamps")
+PROFILES = {"plain": Profile(False, False, False, False), "wan": Profile(True, True, True, True)}
 
 
 class Timing:

@@ -68,6 +68,7 @@ fn packet(draws: &mut Draws, seq: Seq, ack: Seq, out: &mut [u8; limits::PACKET])
         flags: flags(draws),
         window: draws.below(65_536) as u16,
         mss: None,
+        timestamps: None,
     };
     let mut text = [0u8; 60];
     CLIENTS.fill(seq.minus(CISN.add(1)), &mut text);

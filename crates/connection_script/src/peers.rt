@@ -10,7 +10,7 @@ use segment_codec::{Head, read_packet, write_packet};
 use seq_arith::Seq;
 use std::alloc::Global;
 use tcp_endpoint::StateName;
-use tcp_rules::Profile;
+use tcp_rules::{Profile, Timestamping};
 use test_data::seal;
 use wrapped_conn::{Conn, Opened, TurnOut};
 
@@ -57,6 +57,7 @@ pub(crate) fn connection(
         cisn: CISN,
         sisn: SISN,
         mss: 536,
+        timestamping: Timestamping::Off,
     };
     Conn::open_in(profile, alloc, 1, SERVER, opened, kind)
 }
@@ -130,6 +131,7 @@ pub(crate) fn next_acknowledging(
         flags,
         window: 65_535,
         mss: None,
+        timestamps: None,
     };
     let mut packet = [0u8; limits::PACKET];
     let len = write_packet(&head, text, &mut packet);

@@ -153,10 +153,12 @@ impl Attack {
             } else {
                 None
             },
+            timestamps: None,
         }
     }
 
     /// Writes a datagram whose text is that of the peer's stream at its number, and returns its length.
+    #[tactic(auto, using(seq_arith::proofs::Units::options_short))]
     fn write(&mut self, scene: &Scene, out: &mut [u8; limits::PACKET]) -> usize
         ensures { result ≤ 1500 }
     {

@@ -93,6 +93,7 @@ impl Segment<'_> {
             flags: self.flags,
             window: self.window,
             mss: self.mss,
+            timestamps: None,
         }
     }
 }

@@ -29,7 +29,8 @@ fn number(draws: &mut Draws, near: u32) -> Seq {
 
 /// The header of a segment of one of the clients: mostly with ACK as its only flag, else with any flags.
 fn head(draws: &mut Draws) -> Head
-    ensures { result.mss ≡ None }
+    ensures mss { result.mss ≡ None }
+    ensures timestamps { result.timestamps ≡ None }
 {
     let any = draws.byte();
     let flags = if draws.below(3) == 0 { any } else { ACK };
@@ -43,6 +44,7 @@ fn head(draws: &mut Draws) -> Head
         flags,
         window: draws.below(65_536) as u16,
         mss: None,
+        timestamps: None,
     }
 }
 

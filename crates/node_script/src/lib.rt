@@ -9,7 +9,7 @@
 //! - `attack COUNT SEED` gives COUNT datagrams that are drawn from SEED, and prints whether the server sent nothing, or else how many of its packets to
 //!   clients couldn't be read, or went to a live connection and were RSTs or didn't acknowledge exactly what is taken and answered;
 //! - `strike COUNT SEED KINDS SEQ ACK` gives COUNT hostile segments of one client that are drawn from SEED, of the first KINDS kinds of six, around the
-//!   client's next number and the server's, and prints how many packets were sent and a digest of them.
+//!   client's next number and the server's, and prints how many packets were sent and a digest of them; `strike-stamped` gives them with timestamps.
 //!
 //! A boot and a turn print `client IP PORT HEX` or `logger HEX` for each packet, `-` where there is none, and `fenced by BOOT` where a server
 //! with that boot number has ended this one.

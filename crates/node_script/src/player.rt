@@ -53,7 +53,8 @@ impl Player {
                 Ok(())
             }
             "attack" => self.attack(alloc, numbers(rest)),
-            "strike" => self.strike(alloc, numbers(rest)),
+            "strike" => self.strike(alloc, false, numbers(rest)),
+            "strike-stamped" => self.strike(alloc, true, numbers(rest)),
             "packet" => self.deliver(alloc, rest, true),
             "message" => self.deliver(alloc, rest, false),
             _ => {
@@ -142,12 +143,14 @@ impl Player {
     fn strike(
         &mut self,
         alloc: Global,
+        stamped: bool,
         [times, seed, kinds, seq, ack]: [u64; 5],
     ) -> Result<(), NoMemory> {
         let strikes = Strikes {
             times,
             seed,
             kinds: (kinds % 7) as u32,
+            stamped,
             seq: Seq((seq % 4_294_967_296) as u32),
             ack: Seq((ack % 4_294_967_296) as u32),
         };

@@ -1,12 +1,12 @@
 //! Hostile segments of one client from a seed, and a digest of what the server sends at them.
 
-ghost use Rattle.std.specs.Prelude.{◌≡◌, ◌<◌, None};
+ghost use Rattle.std.specs.Prelude.{◌<◌, ◌≤◌};
 
 use crate::player::LOCAL;
 use ft_io::{Key, NoMemory};
 use sample_servers::AnyService;
 use segment_codec::{Head, write_packet};
-use seq_arith::{ACK, FIN, RST, SYN, Seq};
+use seq_arith::{ACK, FIN, RST, SYN, Seq, Timestamps};
 use server_node::{Input, Node, OutPacket, To};
 use std::alloc::Global;
 use test_data::Draws;
@@ -17,12 +17,14 @@ const FROM: Key = Key {
     port: 666,
 };
 
-/// What a line asks for: how many strikes, from which seed, of how many kinds, and the next numbers of the client and of the server.
+/// What a line asks for: how many strikes, from which seed, of how many kinds, with timestamps or without, and the next numbers of the client and of the server.
 #[derive(Clone, Copy)]
 pub(crate) struct Strikes {
     pub times: u64,
     pub seed: u64,
     pub kinds: u32,
+    /// Whether each segment has timestamps.
+    pub stamped: bool,
     pub seq: Seq,
     pub ack: Seq,
 }
@@ -140,9 +142,15 @@ fn draw_blow(draws: &mut Draws, strikes: Strikes) -> Blow
     }
 }
 
-fn head(draws: &mut Draws, blow: Blow) -> Head
-    ensures { result.mss ≡ None }
-{
+/// A value of the client's clock near the one at which it wraps, which is newer or older than others of the same line, and any echo.
+fn timestamps(draws: &mut Draws) -> Timestamps {
+    Timestamps {
+        value: Seq(4_294_967_288).add(draws.below(16)).0,
+        echo: draws.draw(),
+    }
+}
+
+fn head(draws: &mut Draws, blow: Blow, stamped: bool) -> Head {
     Head {
         src: FROM.ip,
         dst: LOCAL.ip,
@@ -153,6 +161,11 @@ fn head(draws: &mut Draws, blow: Blow) -> Head
         flags: blow.flags,
         window: draws.below(65_536) as u16,
         mss: None,
+        timestamps: if stamped {
+            Some(timestamps(draws))
+        } else {
+            None
+        },
     }
 }
 
@@ -185,6 +198,17 @@ impl Digest {
     }
 }
 
+/// Writes the next segment, and returns its length in bytes.
+fn write_next(draws: &mut Draws, strikes: Strikes, bytes: &mut [u8; 2_048]) -> usize
+    ensures { result ≤ 1500 }
+{
+    let blow = draw_blow(draws, strikes);
+    let head = head(draws, blow, strikes.stamped);
+    let text = [draws.byte(); 20];
+    let size = draws.below(blow.room) as usize;
+    write_packet(&head, &text[..size], bytes)
+}
+
 /// Gives a server these segments, one after another.
 pub(crate) fn strike(
     alloc: Global,
@@ -195,11 +219,7 @@ pub(crate) fn strike(
     let mut digest = Digest { sent: 0, sum: 0 };
     let mut bytes = [0u8; 2_048];
     for _ in 0..strikes.times {
-        let blow = draw_blow(&mut draws, strikes);
-        let head = head(&mut draws, blow);
-        let text = [draws.byte(); 20];
-        let size = draws.below(blow.room) as usize;
-        let len = write_packet(&head, &text[..size], &mut bytes).min(limits::PACKET);
+        let len = write_next(&mut draws, strikes, &mut bytes);
         if node.turn(alloc, Input::Packet(&bytes[..len])).is_err() {
             return Err(NoMemory);
         }

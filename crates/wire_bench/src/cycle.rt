@@ -82,6 +82,7 @@ fn push_segment(alloc: Global, is_client: bool, seq: u32, ack: u32, text: &[u8],
         flags: ACK,
         window: 65_535,
         mss: None,
+        timestamps: None,
     };
     let mut out = [0u8; limits::PACKET];
     let len = write_packet(&head, text, &mut out);

@@ -51,6 +51,7 @@ fn push_packets(bytes: usize, packets: &mut Vec<u8>) -> Result<(), AllocError>
             flags: ACK,
             window: 65_535,
             mss: None,
+            timestamps: None,
         };
         let len = write_packet(&head, &text[..bytes - 40], &mut out);
         packets.extend_from_slice(&out[..len])?;

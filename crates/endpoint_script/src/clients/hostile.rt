@@ -83,6 +83,7 @@ fn packet(draws: &mut Draws, known: Known, out: &mut [u8; limits::PACKET]) -> us
         flags: flags(draws),
         window: draws.below(65_536) as u16,
         mss: None,
+        timestamps: None,
     };
     let mut text = [0u8; 60];
     SERVERS.fill(head.seq.minus(known.base.add(1)), &mut text);
@@ -104,6 +105,7 @@ fn syn_ack(out: &mut [u8; limits::PACKET]) -> usize
         flags: SYN | ACK,
         window: 10,
         mss: None,
+        timestamps: None,
     };
     write_packet(&head, b"", out)
 }

@@ -249,7 +249,8 @@ fn turn(
 }
 
 fn head_of(i: u16, place: u32, acked: u32, flags: u8) -> Head
-    ensures { result.mss ≡ None }
+    ensures mss { result.mss ≡ None }
+    ensures timestamps { result.timestamps ≡ None }
 {
     Head {
         src: CLIENT.ip,
@@ -263,5 +264,6 @@ fn head_of(i: u16, place: u32, acked: u32, flags: u8) -> Head
         flags,
         window: 65_535,
         mss: None,
+        timestamps: None,
     }
 }
