@@ -5,13 +5,13 @@ use Rattle.std.proofs.lemmas.List.Concat.{flat_map-append}
 use Rattle.std.proofs.lemmas.Option.{get_or_from_slice_get}
 use Rattle.std.proofs.Math.Seq.{take-suc}
 use Rattle.std.specs.List.{slice_get}
-use Rattle.ft_io.specs.Link.{send_told}
-use Rattle.ft_io.specs.Told.{Tells}
+use Rattle.ft_io.specs.Link.{send_reported}
+use Rattle.ft_io.specs.Reported.{Reports}
 use Rattle.ft_io.specs.declared.Addr.{Addr}
 use Rattle.ft_io.specs.declared.Failed.{Failed}
 use Rattle.ft_io.specs.declared.link_call.LinkCall.{LinkCall}
 use Rattle.ft_io.specs.declared.link_call.LinkCall.TheVariants.{Handed}
-use Rattle.ft_io.proofs.Tellings.{tells_on, none_told}
+use Rattle.ft_io.proofs.Recordings.{reports_on, none_reported}
 use Rattle.link_parts.proofs.Calls.{with_both, with_none, few_calls, IsFew}
 use Rattle.link_parts.specs.Counts.{counts_of, with_calls, HasRoom}
 use Rattle.link_parts.specs.declared.counts.Counts.{Counts}
@@ -26,24 +26,24 @@ abbrev datagram_of : Outgoing → Addr × List ℕ
 datagram_of o = (o.to, o.bytes)
 
 -- one datagram
-pub handed : (to : Addr) (bytes : List ℕ) (old new : Option (List LinkCall)) (c c' : Counts) (r : Result (Unit {0}) Failed) → Tells old new (send_told to bytes r)
-    → c' ≡ with_calls c (send_told to bytes r) → HasSent ((to, bytes) ∷ []) old new c c'
+pub handed : (to : Addr) (bytes : List ℕ) (old new : Option (List LinkCall)) (c c' : Counts) (r : Result (Unit {0}) Failed) → Reports old new (send_reported to bytes r)
+    → c' ≡ with_calls c (send_reported to bytes r) → HasSent ((to, bytes) ∷ []) old new c c'
 handed to bytes old new c c' (Ok x) t k =
-    record { sent = record { to = to; bytes = bytes; is_lost = false } ∷ []; datagrams_are = refl; tells = t; counts_are = k }
+    record { sent = record { to = to; bytes = bytes; is_lost = false } ∷ []; datagrams_are = refl; reports = t; counts_are = k }
 handed to bytes old new c c' (Err e) t k =
-    record { sent = record { to = to; bytes = bytes; is_lost = true } ∷ []; datagrams_are = refl; tells = t; counts_are = k }
+    record { sent = record { to = to; bytes = bytes; is_lost = true } ∷ []; datagrams_are = refl; reports = t; counts_are = k }
 
 -- none
-pub sent_none : (told : Option (List LinkCall)) (c : Counts) → HasSent [] told told c c
-sent_none told c = record { sent = []; datagrams_are = refl; tells = none_told told; counts_are = sym (with_none c) }
+pub sent_none : (reported : Option (List LinkCall)) (c : Counts) → HasSent [] reported reported c c
+sent_none reported c = record { sent = []; datagrams_are = refl; reports = none_reported reported; counts_are = sym (with_none c) }
 
 -- by its address
 pub sent_to : (to : Option Addr) (at : Addr) (bytes : List ℕ) (old new : Option (List LinkCall)) (c c' : Counts) (r : Result (Unit {0}) Failed) → to ≡ Some at
-    → Tells old new (send_told at bytes r) → c' ≡ with_calls c (send_told at bytes r) → HasSent (addressed_to to bytes) old new c c'
+    → Reports old new (send_reported at bytes r) → c' ≡ with_calls c (send_reported at bytes r) → HasSent (addressed_to to bytes) old new c c'
 sent_to to at bytes old new c c' r is t k = subst (λ o. HasSent (addressed_to o bytes) old new c c') (sym is) (handed at bytes old new c c' r t k)
 
-pub sent_nowhere : (to : Option Addr) (bytes : List ℕ) (told : Option (List LinkCall)) (c : Counts) → to ≡ None → HasSent (addressed_to to bytes) told told c c
-sent_nowhere to bytes told c is = subst (λ o. HasSent (addressed_to o bytes) told told c c) (sym is) (sent_none told c)
+pub sent_nowhere : (to : Option Addr) (bytes : List ℕ) (reported : Option (List LinkCall)) (c : Counts) → to ≡ None → HasSent (addressed_to to bytes) reported reported c c
+sent_nowhere to bytes reported c is = subst (λ o. HasSent (addressed_to o bytes) reported reported c c) (sym is) (sent_none reported c)
 
 -- some, and then others
 pub sent_more : (xs ys : List (Addr × List ℕ)) (old mid new : Option (List LinkCall)) (c c' c'' : Counts) → HasSent xs old mid c c' → HasSent ys mid new c' c''
@@ -53,7 +53,7 @@ sent_more xs ys old mid new c c' c'' h k =
     record {
       sent = h.sent ++ k.sent;
       datagrams_are = map-append datagram_of h.sent k.sent ∙ ap₂ (λ a b. a ++ b) h.datagrams_are k.datagrams_are;
-      tells = subst (Tells old new) (sym together) (tells_on old mid new (sending h.sent) (sending k.sent) h.tells k.tells);
+      reports = subst (Reports old new) (sym together) (reports_on old mid new (sending h.sent) (sending k.sent) h.reports k.reports);
       counts_are = k.counts_are
           ∙ (ap (λ x. with_calls x (sending k.sent)) h.counts_are ∙ (with_both c (sending h.sent) (sending k.sent) ∙ ap (with_calls c) (sym together)));
     }

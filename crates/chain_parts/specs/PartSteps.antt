@@ -2,11 +2,11 @@
 use Rattle.std.specs.Prelude.{◌≡◌, ◌⊎◌, ◌≤◌, ◌+◌, ◌*◌, ◌^◌, ℕ, Option, List, [], ◌++◌, length}
 use Rattle.ft_io.specs.declared.Addr.{Addr}
 use Rattle.ft_io.specs.declared.link_call.LinkCall.{LinkCall}
-use Rattle.ft_io.specs.Told.{Tells}
+use Rattle.ft_io.specs.Reported.{Reports}
 use Rattle.link_parts.specs.Counts.{counts_of, with_calls}
 use Rattle.link_parts.specs.LoggerParts.{IsCutOff}
 use Rattle.link_parts.specs.declared.counts.Counts.{Counts}
-use Rattle.chain_parts.specs.PartTurns.{Standing, Outgoing, PartTurn, datagrams_in, sending, turn_calls, calls_of, heard_in, sends, standing_at}
+use Rattle.chain_parts.specs.PartTurns.{Standing, Outgoing, PartTurn, datagrams_in, sending, turn_calls, calls_of, received_in, sends, standing_at}
 use Rattle.chain_parts.specs.PartTurns.{AreByDefinition}
 use Rattle.chain_parts.specs.declared.part.Twin.{Twin}
 use Rattle.chain_parts.specs.declared.pair_role.PartRole.{PartRole}
@@ -25,7 +25,7 @@ standing_of twin = record { kept = twin.log; server = twin.server }
 pub record HasSent (datagrams : List (Addr × List ℕ)) (old new : Option (List LinkCall)) (counted counts : Counts) : Type 0 where
   pub sent : List Outgoing
   pub datagrams_are : datagrams_in sent ≡ datagrams
-  pub tells : Tells old new (sending sent)
+  pub reports : Reports old new (sending sent)
   pub counts_are : counts ≡ with_calls counted (sending sent)
 
 -- a whole turn
@@ -33,8 +33,8 @@ pub record HasTurned (other : Addr) (before after : Standing) (old new : Option 
   pub turn : PartTurn
   pub few : length turn.sent ≤ 2 ^ 64
   pub defined : datagrams_in turn.sent ≡ sends other turn.received before
-  pub after_is : after ≡ (heard_in other turn.received before).next
-  pub tells : Tells old new (turn_calls turn)
+  pub after_is : after ≡ (received_in other turn.received before).next
+  pub reports : Reports old new (turn_calls turn)
   pub counts_are : counts ≡ with_calls counted (turn_calls turn)
 
 -- so many turns were done
@@ -44,7 +44,7 @@ pub record IsServing (role : PartRole) (count : ℕ) (s : Standing) (old new : O
   pub defined : AreByDefinition role turns
   pub at_is : s ≡ standing_at role turns
   pub total : length (calls_of turns) ≤ count * (2 ^ 64 + 1)
-  pub tells : Tells old new (calls_of turns)
+  pub reports : Reports old new (calls_of turns)
   pub counts_are : counts ≡ counts_of (calls_of turns)
 
 -- all turns were done
@@ -52,7 +52,7 @@ pub record HasServed (role : PartRole) (old new : Option (List LinkCall)) (count
   pub turns : List PartTurn
   pub count_is : length turns ≡ role.logger.turns
   pub defined : AreByDefinition role turns
-  pub tells : Tells old new (calls_of turns)
+  pub reports : Reports old new (calls_of turns)
   pub counts_are : counts ≡ counts_of (calls_of turns)
 
 -- at most so many turns were done, and then one was cut off, or none
@@ -62,4 +62,4 @@ pub record IsCutServing (role : PartRole) (old new : Option (List LinkCall)) : T
   pub within : length turns ≤ role.logger.turns
   pub defined : AreByDefinition role turns
   pub cut_off : (cut ≡ []) ⊎ IsCutOff cut
-  pub tells : Tells old new (calls_of turns ++ cut)
+  pub reports : Reports old new (calls_of turns ++ cut)

@@ -42,23 +42,23 @@ server_after sides.Server from server = Some from
 server_after sides.Other from server = server
 
 -- the logger's next state, and what it sends: each datagram with the side to which it is sent
-pub record Hears : Type 0 where
+pub record OnReceipt : Type 0 where
   pub next : Standing
   pub sent : List (Side × List ℕ)
 
-abbrev pub delivered : Side → (from : Addr) → List ℕ → Standing → Hears
+abbrev pub delivered : Side → (from : Addr) → List ℕ → Standing → OnReceipt
 delivered side from bytes s =
     record { next = record { kept = (kept_does side bytes s.kept).next; server = server_after side from s.server }; sent = (kept_does side bytes s.kept).sent }
 
 -- A datagram comes. After an Alone a logger serves alone from then on, however many of them come
-abbrev pub heard : (other from : Addr) → List ℕ → Standing → Hears
-heard other from bytes s =
+abbrev pub receipt : (other from : Addr) → List ℕ → Standing → OnReceipt
+receipt other from bytes s =
     if says_alone bytes then record { next = record s { kept = left_alone s.kept }; sent = [] } else delivered (side_of other from) from bytes s
 
-abbrev pub heard_in : Addr → Received → Standing → Hears
-heard_in other (datagram from bytes) s = heard other from bytes s
-heard_in other silence s = record { next = s; sent = [] }
-heard_in other failure s = record { next = s; sent = [] }
+abbrev pub received_in : Addr → Received → Standing → OnReceipt
+received_in other (datagram from bytes) s = receipt other from bytes s
+received_in other silence s = record { next = s; sent = [] }
+received_in other failure s = record { next = s; sent = [] }
 
 abbrev pub address_for : (server : Option Addr) → (other : Addr) → Side → Option Addr
 address_for server other sides.Server = server
@@ -74,7 +74,7 @@ addressed server other sent = flat_map (λ s. addressed_to (address_for server o
 
 -- what a turn sends by its logger's definition
 abbrev pub sends : (other : Addr) → Received → Standing → List (Addr × List ℕ)
-sends other received s = addressed (heard_in other received s).next.server other (heard_in other received s).sent
+sends other received s = addressed (received_in other received s).next.server other (received_in other received s).sent
 
 -- a datagram that was handed to send, and whether that failed: then it is lost
 pub record Outgoing : Type 0 where
@@ -104,7 +104,7 @@ calls_of (turn ∷ earlier) = calls_of earlier ++ turn_calls turn
 -- the state of a logger of these words after turns, the newest first, from an empty log on
 abbrev pub standing_at : PartRole → List PartTurn → Standing
 standing_at role [] = at_start (grammar_for role.logger) role.part
-standing_at role (turn ∷ earlier) = (heard_in role.other turn.received (standing_at role earlier)).next
+standing_at role (turn ∷ earlier) = (received_in role.other turn.received (standing_at role earlier)).next
 
 -- each turn sends what the logger's definition says
 abbrev pub AreByDefinition : PartRole → List PartTurn → Type 0

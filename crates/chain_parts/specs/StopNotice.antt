@@ -4,7 +4,7 @@ use Rattle.ft_io.specs.declared.Failed.{Failed}
 use Rattle.ft_io.specs.declared.link_call.LinkCall.{LinkCall}
 use Rattle.ft_io.specs.declared.link_call.LinkCall.TheVariants.{Bound, Handed}
 use Rattle.ft_io.specs.Sink.{AppendsFront}
-use Rattle.ft_io.specs.Told.{Tells}
+use Rattle.ft_io.specs.Reported.{Reports}
 use Rattle.seq_arith.specs.TwinDatagram.{TwinDatagram as datagrams}
 use Rattle.seq_arith.specs.TwinGrammar.{spelling}
 use Rattle.link_parts.specs.declared.status.NodeEnd.{NodeEnd}
@@ -21,13 +21,13 @@ line_of (Ok _) = sent_line false
 line_of (Err _) = sent_line true
 
 -- it bound to its address, and handed this one datagram to send
-pub record IsTeller (role : AloneRole) (old new : Option (List LinkCall)) (Writes : List ℕ → Type 0) : Type 0 where
+pub record IsNotifier (role : AloneRole) (old new : Option (List LinkCall)) (Writes : List ℕ → Type 0) : Type 0 where
   pub is_lost : Bool
-  pub tells : Tells old new (Bound role.local ∷ Handed role.to (spelling datagrams.Alone) is_lost ∷ [])
+  pub reports : Reports old new (Bound role.local ∷ Handed role.to (spelling datagrams.Alone) is_lost ∷ [])
   pub written : Writes (sent_line is_lost)
 
 -- how it stops early: nothing was written where the bind failed, and a prefix of the line where a write did
-abbrev pub TellerStops : AloneRole → (old new : Option (List LinkCall)) → (out_old out_new : Option (List ℕ)) → NodeEnd → Type 0
-TellerStops role old new out_old out_new LinkFault = Tells old new [] × (out_new ≡ out_old)
-TellerStops role old new out_old out_new WriteFault = IsTeller role old new (AppendsFront out_old out_new)
-TellerStops role old new out_old out_new _ = ⊥
+abbrev pub NotifierStops : AloneRole → (old new : Option (List LinkCall)) → (out_old out_new : Option (List ℕ)) → NodeEnd → Type 0
+NotifierStops role old new out_old out_new LinkFault = Reports old new [] × (out_new ≡ out_old)
+NotifierStops role old new out_old out_new WriteFault = IsNotifier role old new (AppendsFront out_old out_new)
+NotifierStops role old new out_old out_new _ = ⊥

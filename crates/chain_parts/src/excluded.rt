@@ -4,7 +4,7 @@
 ghost use Rattle.std.specs.Prelude.{◌≡◌, ◌∷◌, true, None, OnOk};
 ghost use Rattle.seq_arith.specs.declared.kinds.Grammar.TheVariants as grammars;
 ghost use Rattle.tcp_rules.specs.declared.profile.Profile.TheVariants as profiles;
-ghost use Rattle.ft_io.specs.Told.{Tells};
+ghost use Rattle.ft_io.specs.Reported.{Reports};
 ghost use Rattle.ft_io.specs.declared.link_call.LinkCall.TheVariants.{Bound};
 ghost use Rattle.chain_parts.specs.PartSteps.{standing_of};
 ghost use Rattle.chain_parts.specs.PartTurns.{PartTurn, at_start, datagrams_in, says_alone, sends, turn_calls};
@@ -47,7 +47,7 @@ fn a_pair_ignores_the_profile<L: Link, O: Sink>(
 ) -> Result<(), NodeEnd>
     requires once { role.now.logger.turns ≡ 1 }
     requires chosen { role.now.logger.profile ≡ profiles.Wan }
-    ensures { OnOk result ((turn : PartTurn) × Tells (L.told link.old) (L.told link.new) (Bound role.now.logger.local ∷ turn_calls turn)
+    ensures { OnOk result ((turn : PartTurn) × Reports (L.reported link.old) (L.reported link.new) (Bound role.now.logger.local ∷ turn_calls turn)
         × (datagrams_in turn.sent ≡ sends role.now.other turn.received (at_start grammars.Wide role.now.part))) }
 {
     run_part(alloc, role, link, out)

@@ -4,10 +4,10 @@
 
 pub use pair_role::{AloneRole, PartRole, TwinRole, read_twin_role};
 pub use part::run_part;
-pub use teller::run_teller;
+pub use notifier::run_notifier;
 
 mod excluded;
 mod pair_role;
 mod part;
 mod sending;
-mod teller;
+mod notifier;

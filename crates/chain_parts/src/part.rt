@@ -4,14 +4,14 @@ ghost use Rattle.std.specs.Prelude.{◌≡◌, ◌≤◌, ◌^◌, [], ◌∷◌
 ghost use Rattle.std.specs.Io.KnownBytes.{Appends};
 ghost use Rattle.std.specs.declared.option.Option.{Option};
 ghost use Rattle.ft_io.specs.Faults.{Rose};
-ghost use Rattle.ft_io.specs.Told.{Tells};
+ghost use Rattle.ft_io.specs.Reported.{Reports};
 ghost use Rattle.ft_io.specs.declared.link_call.LinkCall.{LinkCall};
 ghost use Rattle.ft_io.specs.declared.link_call.LinkCall.TheVariants.{Bound};
 ghost use Rattle.link_parts.specs.Counts.{HasRoom};
 ghost use Rattle.link_parts.specs.Ends.{UnlessFault};
 ghost use Rattle.link_parts.specs.LoggerParts.{IsCutOff};
 ghost use Rattle.twin_laws.specs.StoredState.{left_alone};
-ghost use Rattle.chain_parts.specs.PartTurns.{says_alone as says_alone_lem, side_of as side_of_lem, server_after, at_start, heard};
+ghost use Rattle.chain_parts.specs.PartTurns.{says_alone as says_alone_lem, side_of as side_of_lem, server_after, at_start, receipt};
 ghost use Rattle.chain_parts.specs.PartLife.{IsPart, PartStops};
 ghost use Rattle.chain_parts.specs.PartSteps.{standing_of, HasTurned, HasServed, IsCutServing};
 ghost use Rattle.link_parts.specs.Ranges.{most_turns};
@@ -77,8 +77,8 @@ pub(crate) fn take(
     from: Addr,
     bytes: &[u8],
 ) -> Result<(), NoMemory>
-    ensures next { OnOk result (standing_of twin.new ≡ (heard other from bytes.now (standing_of twin.old)).next) }
-    ensures sent { OnOk result (twin.new.out ≡ (heard other from bytes.now (standing_of twin.old)).sent) }
+    ensures next { OnOk result (standing_of twin.new ≡ (receipt other from bytes.now (standing_of twin.old)).next) }
+    ensures sent { OnOk result (twin.new.out ≡ (receipt other from bytes.now (standing_of twin.old)).sent) }
 {
     if is_stop_notice(bytes) {
         serve_alone(&mut twin.log);
@@ -99,8 +99,8 @@ fn take_turn<L: Link>(
     counts: &mut Counts,
 ) -> Result<(), NoMemory>
     requires { HasRoom (2 ^ 64) counts.old }
-    ensures turned { OnOk result (HasTurned other (standing_of twin.old) (standing_of twin.new) (L.told link.old) (L.told link.new) counts.old counts.new) }
-    ensures cut_off { OnErr result ((calls : List LinkCall) × IsCutOff calls × Tells (L.told link.old) (L.told link.new) calls) }
+    ensures turned { OnOk result (HasTurned other (standing_of twin.old) (standing_of twin.new) (L.reported link.old) (L.reported link.new) counts.old counts.new) }
+    ensures cut_off { OnErr result ((calls : List LinkCall) × IsCutOff calls × Reports (L.reported link.old) (L.reported link.new) calls) }
     ensures no_bind_fault { L.bind_fault_count link.new ≡ L.bind_fault_count link.old }
 {
     let mut buffer = [0; DATAGRAM_ROOM];
@@ -126,8 +126,8 @@ fn new_twin(alloc: Global, grammar: Grammar, part: Part) -> Result<Twin, NoMemor
 /// Takes all turns of a new logger, and returns the counts of their calls.
 fn serve<L: Link>(alloc: Global, role: &PartRole, link: &mut L) -> Result<Counts, NoMemory>
     requires { role.now.logger.turns ≤ most_turns }
-    ensures served { IfOk result (λ counts. HasServed role.now (L.told link.old) (L.told link.new) counts) }
-    ensures cut_off { OnErr result (IsCutServing role.now (L.told link.old) (L.told link.new)) }
+    ensures served { IfOk result (λ counts. HasServed role.now (L.reported link.old) (L.reported link.new) counts) }
+    ensures cut_off { OnErr result (IsCutServing role.now (L.reported link.old) (L.reported link.new)) }
     ensures no_bind_fault { L.bind_fault_count link.new ≡ L.bind_fault_count link.old }
 {
     let mut twin = new_twin(alloc, role.logger.profile.grammar(), role.part)?;
@@ -139,17 +139,17 @@ fn serve<L: Link>(alloc: Global, role: &PartRole, link: &mut L) -> Result<Counts
 }
 
 /// Runs a logger of a pair after its bind: takes its turns, and writes the line of the counts.
-fn serve_and_tell<L: Link, O: Sink>(
+fn serve_and_report<L: Link, O: Sink>(
     alloc: Global,
     role: &PartRole,
     link: &mut L,
     out: &mut O,
 ) -> Result<(), NodeEnd>
     requires { role.now.logger.turns ≤ most_turns }
-    ensures done { OnOk result ((before : Option (List LinkCall)) → Tells before (L.told link.old) (Bound role.now.logger.local ∷ [])
-        → IsPart role.now before (L.told link.new) (Appends (O.taken out.old) (O.taken out.new))) }
-    ensures stops { IfErr result (λ end. (before : Option (List LinkCall)) → Tells before (L.told link.old) (Bound role.now.logger.local ∷ [])
-        → PartStops role.now before (L.told link.new) (O.taken out.old) (O.taken out.new) end) }
+    ensures done { OnOk result ((before : Option (List LinkCall)) → Reports before (L.reported link.old) (Bound role.now.logger.local ∷ [])
+        → IsPart role.now before (L.reported link.new) (Appends (O.taken out.old) (O.taken out.new))) }
+    ensures stops { IfErr result (λ end. (before : Option (List LinkCall)) → Reports before (L.reported link.old) (Bound role.now.logger.local ∷ [])
+        → PartStops role.now before (L.reported link.new) (O.taken out.old) (O.taken out.new) end) }
     ensures write_cause { IsErrOf result NodeEnd.WriteFault → Rose (O.fault_count out.old) (O.fault_count out.new) }
     ensures bound { IsErrOf result NodeEnd.LinkFault → ⊥ }
     ensures no_bind_fault { L.bind_fault_count link.new ≡ L.bind_fault_count link.old }
@@ -169,8 +169,8 @@ pub fn run_part<L: Link, O: Sink>(
     out: &mut O,
 ) -> Result<(), NodeEnd>
     requires { role.now.logger.turns ≤ most_turns }
-    ensures done { OnOk result (IsPart role.now (L.told link.old) (L.told link.new) (Appends (O.taken out.old) (O.taken out.new))) }
-    ensures stops { IfErr result (PartStops role.now (L.told link.old) (L.told link.new) (O.taken out.old) (O.taken out.new)) }
+    ensures done { OnOk result (IsPart role.now (L.reported link.old) (L.reported link.new) (Appends (O.taken out.old) (O.taken out.new))) }
+    ensures stops { IfErr result (PartStops role.now (L.reported link.old) (L.reported link.new) (O.taken out.old) (O.taken out.new)) }
     ensures bind_cause { IsErrOf result NodeEnd.LinkFault → Rose (L.bind_fault_count link.old) (L.bind_fault_count link.new) }
     ensures write_cause { IsErrOf result NodeEnd.WriteFault → Rose (O.fault_count out.old) (O.fault_count out.new) }
     ensures no_bind_fault { UnlessFault result (L.bind_fault_count link.new ≡ L.bind_fault_count link.old) }
@@ -178,6 +178,6 @@ pub fn run_part<L: Link, O: Sink>(
 {
     match link.bind(role.logger.local) {
         Err(Failed) => Err(NodeEnd::LinkFault),
-        Ok(()) => serve_and_tell(alloc, role, link, out),
+        Ok(()) => serve_and_report(alloc, role, link, out),
     }
 }

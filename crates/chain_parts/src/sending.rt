@@ -22,7 +22,7 @@ pub(crate) fn address_for(server: Option<Addr>, other: Addr, side: Side) -> Opti
 /// Hands a datagram to send, unless its address isn't known.
 fn hand<L: Link>(link: &mut L, to: Option<Addr>, bytes: &[u8], counts: &mut Counts)
     requires { HasRoom 1 counts.old }
-    ensures sent { HasSent (addressed_to to bytes.now) (L.told link.old) (L.told link.new) counts.old counts.new }
+    ensures sent { HasSent (addressed_to to bytes.now) (L.reported link.old) (L.reported link.new) counts.old counts.new }
     ensures no_bind_fault { L.bind_fault_count link.new ≡ L.bind_fault_count link.old }
 {
     if let Some(to) = to {
@@ -40,7 +40,7 @@ pub(crate) fn send_all<L: Link>(
     counts: &mut Counts,
 )
     requires { HasRoom (2 ^ 64 - 1) counts.old }
-    ensures sent { HasSent (addressed server other out.now) (L.told link.old) (L.told link.new) counts.old counts.new }
+    ensures sent { HasSent (addressed server other out.now) (L.reported link.old) (L.reported link.new) counts.old counts.new }
     ensures short { length out.now < 2 ^ 64 }
     ensures no_bind_fault { L.bind_fault_count link.new ≡ L.bind_fault_count link.old }
 {

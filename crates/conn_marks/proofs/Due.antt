@@ -11,11 +11,11 @@ use Rattle.mark_laws.specs.Marking.{Marking, with_new}
 use Rattle.mark_laws.specs.Quiet.{IsQuiet, is_quiet}
 use Rattle.wrapped_conn.specs.ConnState.{ConnState}
 use Rattle.wrapped_conn.specs.declared.quiet.Quiet.{Quiet}
-use Rattle.wrapped_conn.specs.Quiet.{quiet_in, quiet_at, TellsQuiet}
+use Rattle.wrapped_conn.specs.Quiet.{quiet_in, quiet_at, ReportsQuiet}
 use Rattle.wrapped_conn.specs.Sound.{IsSound}
-use Rattle.wrapped_conn.specs.Refinement.{Stands, Tells}
-use Rattle.wrapped_conn.proofs.Lending.{tells}
-use Rattle.wrapped_conn.proofs.Quieting.{tells_quiet, service_is}
+use Rattle.wrapped_conn.specs.Refinement.{Stands, Reports}
+use Rattle.wrapped_conn.proofs.Lending.{reports}
+use Rattle.wrapped_conn.proofs.Quieting.{reports_quiet, service_is}
 use Rattle.conn_marks.specs.Marks.{due_in, with_due, mark_with}
 
 -- the four tests, where the connection is quiet and where it isn't
@@ -53,12 +53,12 @@ pub advances : {S : Type 0} (service : Machine S) (written : Writing S) (every :
     → ((is_quiet service p ≡ true) ↔ IsQuiet service p) → IsSound c → Stands service c p → (0 < every → IsQuiet service p → length (written.form (whole_run service p).state) ≤ 1100)
     → with_due (due_in every m c) (written.form c.north.run.service) m ≡ with_new service written every p m
 advances service written every p m c ends found sound st short =
-    let told : Tells p c = tells service p c sound st in
-    let quiet : TellsQuiet service p (quiet_in c) = tells_quiet service p c ends sound st in
+    let reported : Reports p c = reports service p c sound st in
+    let quiet : ReportsQuiet service p (quiet_in c) = reports_quiet service p c ends sound st in
     let state : List ℕ = written.form (whole_run service p).state in
     let same : with_due (due_in every m c) (written.form c.north.run.service) m
     ≡ with_due (if nat_lt 0 every && is_none m.outstanding && nat_le (m.last + every) (length p.lengths) then quiet_in c else None) state m =
-    λ j. with_due (if nat_lt 0 every && is_none m.outstanding && nat_le (m.last + every) (told.reads j) then quiet_in c else None)
+    λ j. with_due (if nat_lt 0 every && is_none m.outstanding && nat_le (m.last + every) (reported.reads j) then quiet_in c else None)
     (written.form (service_is service p c st j)) m in
     same
     ∙ by_cases (is_quiet service p)

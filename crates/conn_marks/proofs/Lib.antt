@@ -1,4 +1,4 @@
-pub mod Tellable
+pub mod Writable
 pub mod Due
 pub mod Marked
 pub mod HeldBytes

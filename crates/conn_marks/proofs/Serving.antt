@@ -28,10 +28,10 @@ use Rattle.ft_model.specs.Refusal.{as_listen}
 use Rattle.ft_model.specs.ServingTurn.{PlaceTurn, ServingTurn, concerns, newcomers, refusals, opens_at, is_strange}
 use Rattle.ft_model.specs.Wire.{Wire, wire_by, HasWireBy}
 use Rattle.ft_model.specs.Keys.{AreDistinct, has_key}
-use Rattle.ft_model.proofs.Distinct.{KeepsKey, keeps_key, no_key_after, distinct_goes_on}
+use Rattle.ft_model.proofs.Distinct.{KeepsKey, keeps_key, no_key_after, distinct_proceeds}
 use Rattle.ft_model.proofs.Keys.{key_eq_turns, finds_itself, all_from_get, found_has_key, absent_key}
 use Rattle.ft_model.proofs.Lists.{same_key, all_slice_get, all_append, all_find, found_passes}
-use Rattle.ft_model.proofs.PlaceTurns.{PlaceWent, IsNews, place_went, all_go_on}
+use Rattle.ft_model.proofs.PlaceTurns.{PlaceWent, IsNews, place_went, all_proceed}
 use Rattle.ft_model.proofs.PlaceTurns.PlaceWent.{stayed, went_on, began, dropped, ended, refused}
 use Rattle.ft_model.proofs.StageTurns.{either_turn}
 use Rattle.mark_laws.specs.Marking.{Marking, Outgoing, is_due, with_new, new_marks, with_marks, marks_out}
@@ -223,10 +223,10 @@ module _ {State : Type 0} (by : Marker State) (node : MarkedNode) (input : Input
     keeping place now sent x = keeps_key by.service node.plain input place now sent (place_went by.service node.plain input place now sent x)
 
     went_apart : AreDistinct (map key_of t.went)
-    went_apart = distinct_goes_on (PlaceTurn by.service node.plain input) keeping before t.went t.by_places t.all_go apart
+    went_apart = distinct_proceeds (PlaceTurn by.service node.plain input) keeping before t.went t.by_places t.all_go apart
 
     went_well : AllByRecursion After t.went
-    went_well = (all_go_on (PlaceTurn by.service node.plain input) (IsSettledPlace by node.marking) After (λ packet. Unit {0}) step_after before t.went t.by_places ok t.all_go).0
+    went_well = (all_proceed (PlaceTurn by.service node.plain input) (IsSettledPlace by node.marking) After (λ packet. Unit {0}) step_after before t.went t.by_places ok t.all_go).0
 
     later_settled : AllSettled by (then_in t.went) later
     later_settled =

@@ -10,7 +10,7 @@ use Rattle.ft_model.specs.Network.{Packet}
 use Rattle.ft_model.specs.News.{News}
 use Rattle.ft_model.specs.Point.{Point}
 use Rattle.ft_model.proofs.StageTurns.{either_turn}
-use Rattle.ft_model.proofs.TurnTells.{settled_reads}
+use Rattle.ft_model.proofs.TurnReports.{settled_reads}
 use Rattle.mark_laws.specs.Quiet.{is_quiet, mark_of}
 use Rattle.mark_laws.specs.Marking.{Marking, IsSettled, is_due, with_new, new_marks, outstanding_in}
 use Rattle.mark_laws.proofs.MarksSent.{not_twice}

@@ -12,7 +12,7 @@ abbrev pub mark_with : Quiet → List ℕ → Mark
 mark_with quiet state = record { reads = quiet.reads; length = quiet.length; made = quiet.made; state = state }
 
 -- a mark that a message can hold
-pub record IsTellableMark (m : Mark) : Type 0 where
+pub record IsWritableMark (m : Mark) : Type 0 where
   pub some : 1 ≤ m.reads
   pub reads : m.reads ≤ most_units
   pub bytes : m.length ≤ longest_stream

@@ -11,7 +11,7 @@ ghost use Rattle.mark_laws.specs.Marking.{is_due, with_new, marking_answered};
 ghost use Rattle.wrapped_conn.specs.Sound.{IsSound};
 ghost use Rattle.wrapped_conn.specs.Refinement.{Stands};
 ghost use Rattle.wrapped_conn.proofs.Sendable.{FitsKey};
-ghost use Rattle.conn_marks.specs.Marks.{due_in, is_made, with_due, mark_with, IsTellableMark};
+ghost use Rattle.conn_marks.specs.Marks.{due_in, is_made, with_due, mark_with, IsWritableMark};
 
 use ft_io::{Key, NoMemory};
 use logger_wire::{Mark, MarkBody, MarkMsg};
@@ -37,13 +37,13 @@ pub struct Marking {
 impl Model for Marking {
     ghost use Rattle.std.specs.Prelude.{option_map, IfSome};
     ghost use Rattle.mark_laws.specs.Marking.{Marking as Stored};
-    ghost use Rattle.conn_marks.specs.Marks.{mark_with, IsTellableMark};
+    ghost use Rattle.conn_marks.specs.Marks.{mark_with, IsWritableMark};
 
     ghost Value = { Stored };
 
     ghost view = { λ m. record { last = m.last; outstanding = option_map (λ quiet. mark_with quiet m.state.items) m.outstanding } };
 
-    ghost invariant = { λ m. IfSome m.outstanding (λ quiet. IsTellableMark (mark_with quiet m.state.items)) };
+    ghost invariant = { λ m. IfSome m.outstanding (λ quiet. IsWritableMark (mark_with quiet m.state.items)) };
 }
 
 impl Marking {
@@ -129,7 +129,7 @@ impl Marking {
 /// The message with a mark.
 fn mark_message<'a>(boot: u64, key: Key, quiet: Quiet, state: &'a [u8]) -> MarkMsg<'a>
     requires boot { 1 ≤ boot }
-    requires tellable { IsTellableMark (mark_with quiet state.now) }
+    requires writable { IsWritableMark (mark_with quiet state.now) }
     ensures value { message_of result ≡ record { boot = boot; body = Marks key (mark_with quiet state.now) } }
     ensures sendable { IsSpellable (message_of result) }
 {

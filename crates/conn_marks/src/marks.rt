@@ -1,7 +1,7 @@
 //! What is stored of the marks of all connections of a node.
 
 ghost use Rattle.std.specs.Prelude.{◌≡◌, ◌<◌, ◌≤◌, ℕ, true, None, [], nat_lt, option_map, OnOk, IfSome};
-ghost use Rattle.seq_arith.specs.Mark.MarkBody.{MarkMsg as Told};
+ghost use Rattle.seq_arith.specs.Mark.MarkBody.{MarkMsg as Reported};
 ghost use Rattle.seq_arith.specs.MarkGrammar.{IsSpellable};
 ghost use Rattle.server_trait.specs.Service.{machine, AreBytes};
 ghost use Rattle.server_trait.specs.Saved.{writing};
@@ -99,7 +99,7 @@ impl Marks {
     /// Returns the message with a connection's outstanding mark, if there is one.
     pub fn message(&self, boot: u64, key: Key) -> Option<MarkMsg<'_>>
         requires { 1 ≤ boot }
-        ensures value { option_map message_of result ≡ option_map (λ mark. record { boot = boot; body = Told key mark }) (marking_in self.now key).outstanding }
+        ensures value { option_map message_of result ≡ option_map (λ mark. record { boot = boot; body = Reported key mark }) (marking_in self.now key).outstanding }
         ensures sendable { IfSome result (λ m. IsSpellable (message_of m)) }
     {
         match self.of.get(&key) {

@@ -16,7 +16,7 @@ use Rattle.ft_model.specs.Taken.{counts, taken_after, early_after, fin_after}
 use Rattle.ft_model.specs.Sending.{syn_acked_after, acknowledged_after, edge_after, wl2_after, sent_at_once, sent_after, acknowledged_by, window_by}
 use Rattle.ft_model.specs.Timer.{probes, expires}
 use Rattle.ft_model.specs.Connection.{LiveTurn}
-use Rattle.connection_laws.specs.Inside.{GoesOn}
+use Rattle.connection_laws.specs.Inside.{Proceeds}
 use Rattle.south_wrap.specs.Translation.{inward}
 use Rattle.south_wrap.specs.SouthPoint.{south_at}
 use Rattle.connection_laws.specs.Turn.{SegmentFits, NewsFit}
@@ -39,7 +39,7 @@ pub record Stays (u : ℕ) (news : News) (p : Point) : Type 0 where
   edge : u ≤ edge_after news p
   wl2 : u ≤ wl2_after news p
 
-by_ack : (u i delta : ℕ) (segment : Segment) (b : Bool) → has_ack segment ≡ b → (p : Point) → GoesOn u i delta p → SegmentFits p segment → Stays u (Comes segment) p
+by_ack : (u i delta : ℕ) (segment : Segment) (b : Bool) → has_ack segment ≡ b → (p : Point) → Proceeds u i delta p → SegmentFits p segment → Stays u (Comes segment) p
 unfolding acknowledged_after edge_after wl2_after
 by_ack u i delta segment true h p g f =
     let l : LowersAt u i delta p segment = lowers u i delta p segment g f.ack (f.near h) in
@@ -61,7 +61,7 @@ by_ack u i delta segment false h p g f =
     let wl2 : p.wl2 ≡ wl2_after (Comes segment) p = minus_none p.wl2 (wl2_after (Comes segment) p) m.wl2 in
     record { una = omega (arith, g.una, una); most = omega (arith, g.order, una); edge = omega (arith, g.edge, edge); wl2 = omega (arith, g.wl2, wl2) }
 
-pub stays : (u i delta : ℕ) (news : News) (p : Point) → GoesOn u i delta p → NewsFit p news → Stays u news p
+pub stays : (u i delta : ℕ) (news : News) (p : Point) → Proceeds u i delta p → NewsFit p news → Stays u news p
 unfolding acknowledged_after edge_after wl2_after
 stays u i delta (Comes segment) p g f = by_ack u i delta segment (has_ack segment) refl p g f
 stays u i delta (Logged kept) p g f = record { una = g.una; most = g.order; edge = g.edge; wl2 = g.wl2 }
@@ -89,10 +89,10 @@ same i Begins p keeps h = record { syn_acked = h; taken = refl; fin = refl; earl
 pub none_sent : (t e : ℕ) → max 0 (min t (min 0 e)) + 0 ≡ 0
 none_sent t e = omega arith
 
-pub goes_on_again : {State : Type 0} (service : Machine State) (server : Addr) (boot u i delta : ℕ) (news : News) (p q : Point) (sent : List Packet)
-    → GoesOn u i delta p → NewsFit p news → LiveTurn service server boot news p q sent → q.sent ≤ 2 ^ 25 + 1 → KeepsTime q.timing → GoesOn u i delta q
+pub proceeds_again : {State : Type 0} (service : Machine State) (server : Addr) (boot u i delta : ℕ) (news : News) (p q : Point) (sent : List Packet)
+    → Proceeds u i delta p → NewsFit p news → LiveTurn service server boot news p q sent → q.sent ≤ 2 ^ 25 + 1 → KeepsTime q.timing → Proceeds u i delta q
 unfolding sent_after sent_at_once
-goes_on_again service server boot u i delta news p q sent g f l few keeps =
+proceeds_again service server boot u i delta news p q sent g f l few keeps =
     let s : Stays u news p = stays u i delta news p g f in
     record {
       shift = g.shift ∙ ap (λ n. (n + u) % 2 ^ 32) (sym l.same.sisn);

@@ -10,7 +10,7 @@ use Rattle.ft_model.specs.Network.{Packet}
 use Rattle.ft_model.specs.News.{News}
 use Rattle.ft_model.specs.Taken.{taken_after}
 use Rattle.ft_model.specs.Sending.{acknowledged_after}
-use Rattle.ft_model.proofs.Services.{RunExtends, reads_go_on, more_bytes, prefix_length, sum_take}
+use Rattle.ft_model.proofs.Services.{RunExtends, reads_proceed, more_bytes, prefix_length, sum_take}
 use Rattle.tcp_endpoint.specs.ReceiveHalf.{taken}
 use Rattle.tcp_endpoint.specs.SendHalf.{Sending, bytes_end}
 use Rattle.tcp_endpoint.specs.Tcb.{Tcb}
@@ -35,7 +35,7 @@ use Rattle.connection_laws.specs.Turn.{StandsInside}
 use Rattle.connection_laws.specs.OutputFeed.{tcp_reader, tcp_writer, Feeds, north_calls, before_reads, TurnsNorth, given_after, FedBy, FedInside}
 use Rattle.connection_laws.proofs.Swallowed.{inside_runs, inside_released}
 use Rattle.connection_laws.proofs.Whole.{usual_news, above}
-use Rattle.connection_laws.proofs.Outliving.{front_goes_on, reads_rise}
+use Rattle.connection_laws.proofs.Outliving.{front_proceeds, reads_rise}
 use Rattle.connection_laws.proofs.Meets.{laws_inside}
 use Rattle.connection_laws.proofs.Again.{stays}
 use Rattle.connection_laws.proofs.TcpEnd.{unreset, flushed_reset}
@@ -86,7 +86,7 @@ answered_goes service news p q more enough taken rises lengths =
     let here : reference service q.taken (take p.reads_answered p.lengths) ≡ answered_run service p = more_bytes service p.taken q.taken (take p.reads_answered p.lengths) front few in
     subst (λ r. RunExtends r (answered_run service q)) here
     (subst (λ l. RunExtends (reference service q.taken (take p.reads_answered p.lengths)) (reference service q.taken (take q.reads_answered l))) (sym lengths)
-    (reads_go_on service q.taken (take p.reads_answered p.lengths) (take q.reads_answered (p.lengths ++ more)) (front_goes_on p.reads_answered q.reads_answered p.lengths more rises)))
+    (reads_proceed service q.taken (take p.reads_answered p.lengths) (take q.reads_answered (p.lengths ++ more)) (front_proceeds p.reads_answered q.reads_answered p.lengths more rises)))
 
 -- what TCP holds, step by step: more may leave, some is acknowledged, some is written, and a flush
 pub fed_later : {State : Type 0} (service : Machine State) (u : ℕ) (p q : Point) (given : ℕ) (e : Tcb) → RunExtends (answered_run service p) (answered_run service q)
@@ -348,15 +348,15 @@ north_feeds service boot u i delta given news p q sent old new reads e t st k =
     let enough : sum p.lengths ≤ length p.taken = omega (arith, r.read, r.long) in
     let rises : p.reads_answered ≤ q.reads_answered = omega (arith, reads_rise news p, k.goes.reads_answered) in
     let goes : RunExtends (answered_run service p) (answered_run service q) = answered_goes service news p q (lengths_of reads) enough k.goes.taken rises k.lengths in
-    let usual : IsUsualNews inner e = usual_news u i delta p e news st.goes_on st.stands k.fits in
+    let usual : IsUsualNews inner e = usual_news u i delta p e news st.proceeds st.stands k.fits in
     let came : Arrived inner (inside u i p) e m = arrives inner (inside u i p) e st.begun st.between st.stands usual in
     let keeps : KeepsOutput e.sending m.sending = news_keep inner e st.begun st.between.bounds usual in
     let none : m.reset ≡ false = reset_law inner [] e st.begun ∙ (λ j. k.kept j || unreset u i delta p e news st k.unreset k.fits k.goes_unreset j) in
     let arrived_fed : Feeds service u q given m =
     fed_arrived service u q given e m keeps came.una came.bounds.order st.between.bounds.flight (fed_later service u p q given e goes k.feeds) in
     let above_u : u ≤ released service q = from_start u given (bytes_end e.sending) (released service q) k.feeds.until arrived_fed.low in
-    let laws = laws_inside service e.local boot u i delta news p q sent st.goes_on k.fits
-    (above u (acknowledged_after news p) q.una (stays u i delta news p st.goes_on k.fits).una k.goes.una) above_u k.goes in
+    let laws = laws_inside service e.local boot u i delta news p q sent st.proceeds k.fits
+    (above u (acknowledged_after news p) q.una (stays u i delta news p st.proceeds k.fits).una k.goes.una) above_u k.goes in
     let fed = north_calls_feed service u i given p.lengths q old new reads m t (record {
       fed = arrived_fed;
       bounds = came.bounds;

@@ -28,7 +28,7 @@ use Rattle.endpoint_laws.proofs.FirstPoint.{begins_law}
 use Rattle.endpoint_laws.proofs.EndingLaw.{begun_named_law}
 use Rattle.endpoint_laws.proofs.Listening.{listens_at_listen_measuring}
 use Rattle.endpoint_laws.proofs.Timings.{initial_keeps}
-use Rattle.connection_laws.specs.Inside.{inside, GoesOn}
+use Rattle.connection_laws.specs.Inside.{inside, Proceeds}
 use Rattle.connection_laws.specs.Traffic.{passed}
 use Rattle.connection_laws.specs.FirstSyn.{MayOpen, opened_syn, listens_with, BeginsInside}
 use Rattle.connection_laws.proofs.Sent.{same_lengths, nothing_at_once, never, nothing_long}
@@ -90,8 +90,8 @@ led_to profile timestamping local numbers o =
       congestion = initial_congestion profile.measures (size_stays numbers.mss o.least o.most j);
     }
 
-goes_on : (profile : Profile) (timestamping : Timestamping) (numbers : Numbers) → MayOpen numbers → GoesOn 0 numbers.sisn 0 (begun profile timestamping numbers)
-goes_on profile timestamping numbers o = record {
+proceeds : (profile : Profile) (timestamping : Timestamping) (numbers : Numbers) → MayOpen numbers → Proceeds 0 numbers.sisn 0 (begun profile timestamping numbers)
+proceeds profile timestamping numbers o = record {
   shift = refl;
   small = omega arith;
   sisn = o.sisn;
@@ -138,7 +138,7 @@ begins_inside service profile timestamping boot local numbers q calls sent o may
         begun = b.begun;
         between = b.between;
         stands = subst (λ r. StandsAt (inside 0 numbers.sisn r) t) (sym q_is) at;
-        goes_on = subst (GoesOn 0 numbers.sisn 0) (sym q_is) (goes_on profile timestamping numbers o);
+        proceeds = subst (Proceeds 0 numbers.sisn 0) (sym q_is) (proceeds profile timestamping numbers o);
       };
       named = begun_named_law e numbers.sisn (2 ^ 24) syn calls listens refl;
       segments = subst (λ r. passed 0 r (sent_in (Comes syn) calls e) ≡ segments_of service local Begins (point_opened profile timestamping numbers) r) (sym q_is)

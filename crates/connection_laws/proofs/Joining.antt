@@ -44,7 +44,7 @@ parts_stand service p b given n st = record {
   run = st.run;
   rest = st.rest;
   keeps = st.keeps;
-  told = st.told;
+  reported = st.reported;
   numbered = st.numbered;
   unanswered = st.unanswered;
   read = st.read;
@@ -67,21 +67,21 @@ takes : {S : Type 0} (service : Machine S) (p b : Point) (given : ℕ) (n : Nort
     → p.reads_answered ≡ b.reads_answered → p.fetched ≡ b.fetched → NorthStands service p given n → NorthStands service b given n
 takes service p b given n taken front t l a f st = north_alike service (with_taken front.0 p) b given n (front.1 ∙ t) l a f (taking_stands service p given n front.0 st)
 
-pub hears : {S : Type 0} (service : Machine S) (news : News) (p b : Point) (given : ℕ) (n : NorthState S) → b.taken ≡ taken_after news p → b.lengths ≡ p.lengths
+pub on_receipt : {S : Type 0} (service : Machine S) (news : News) (p b : Point) (given : ℕ) (n : NorthState S) → b.taken ≡ taken_after news p → b.lengths ≡ p.lengths
     → b.reads_answered ≡ reads_answered_after news p → b.fetched ≡ p.fetched → NorthStands service p given n → NorthStands service b given (north_after_news news n)
 unfolding taken_after reads_answered_after
-hears service (Comes segment) p b given n t l a f st = takes service p b given n (taken_after (Comes segment) p) (taken_grows (Comes segment) p) (sym t) (sym l) (sym a) (sym f) st
-hears service (Logged kept) p b given n t l a f st =
+on_receipt service (Comes segment) p b given n t l a f st = takes service p b given n (taken_after (Comes segment) p) (taken_grows (Comes segment) p) (sym t) (sym l) (sym a) (sym f) st
+on_receipt service (Logged kept) p b given n t l a f st =
     north_alike service (with_answered kept.reads p) b given (answered_on kept.reads n) (sym t) (sym l) (sym a) (sym f) (answers_stand service p given n kept.reads st)
-hears service Ticks p b given n t l a f st = north_alike service p b given n (sym t) (sym l) (sym a) (sym f) st
-hears service Begins p b given n t l a f st = north_alike service p b given n (sym t) (sym l) (sym a) (sym f) st
+on_receipt service Ticks p b given n t l a f st = north_alike service p b given n (sym t) (sym l) (sym a) (sym f) st
+on_receipt service Begins p b given n t l a f st = north_alike service p b given n (sym t) (sym l) (sym a) (sym f) st
 
-pub heard_shut : {S : Type 0} (news : News) (n : NorthState S) → (north_after_news news n).shut ≡ n.shut
+pub received_shut : {S : Type 0} (news : News) (n : NorthState S) → (north_after_news news n).shut ≡ n.shut
 unfolding answered_on
-heard_shut (Comes segment) n = refl
-heard_shut (Logged kept) n = refl
-heard_shut Ticks n = refl
-heard_shut Begins n = refl
+received_shut (Comes segment) n = refl
+received_shut (Logged kept) n = refl
+received_shut Ticks n = refl
+received_shut Begins n = refl
 
 or_none : (c r x : Bool) → r ≡ false → c ≡ x → (c || r) ≡ x
 or_none true r x off is = is
@@ -97,12 +97,12 @@ socket_stands b n m read unread fin kept shut = record {
 }
 
 -- and where the client has reset the connection
-pub reset_hears : {S : Type 0} (service : Machine S) (boot : ℕ) (news : News) (p q : Point) (given : ℕ) (n : NorthState S) (sent : List Packet) → NorthStands service p given n
+pub reset_receives : {S : Type 0} (service : Machine S) (boot : ℕ) (news : News) (p q : Point) (given : ℕ) (n : NorthState S) (sent : List Packet) → NorthStands service p given n
     → ResetTurn boot news p q sent → NorthStands service q given (north_after_news news n)
 unfolding reads_answered_after
-reset_hears service boot (Comes segment) p q given n sent st t = subst (λ r. NorthStands service r given n) (sym t.point) (north_alike service p _ given n refl refl refl refl st)
-reset_hears service boot (Logged kept) p q given n sent st t =
+reset_receives service boot (Comes segment) p q given n sent st t = subst (λ r. NorthStands service r given n) (sym t.point) (north_alike service p _ given n refl refl refl refl st)
+reset_receives service boot (Logged kept) p q given n sent st t =
     subst (λ r. NorthStands service r given (answered_on kept.reads n)) (sym t.point)
     (north_alike service (with_answered kept.reads p) _ given (answered_on kept.reads n) refl refl refl refl (answers_stand service p given n kept.reads st))
-reset_hears service boot Ticks p q given n sent st t = subst (λ r. NorthStands service r given n) (sym t.point) (north_alike service p _ given n refl refl refl refl st)
-reset_hears service boot Begins p q given n sent st t = subst (λ r. NorthStands service r given n) (sym t.point) (north_alike service p _ given n refl refl refl refl st)
+reset_receives service boot Ticks p q given n sent st t = subst (λ r. NorthStands service r given n) (sym t.point) (north_alike service p _ given n refl refl refl refl st)
+reset_receives service boot Begins p q given n sent st t = subst (λ r. NorthStands service r given n) (sym t.point) (north_alike service p _ given n refl refl refl refl st)

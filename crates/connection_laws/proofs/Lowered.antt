@@ -11,17 +11,17 @@ use Rattle.seq_arith.proofs.Shifts.{gap_from, offset_shift, offset_of_number}
 use Rattle.ft_model.specs.Offset.{ack_of}
 use Rattle.ft_model.specs.Point.{Point, most}
 use Rattle.ft_model.specs.Taken.{acknowledges_unsent}
-use Rattle.connection_laws.specs.Inside.{inside, GoesOn}
+use Rattle.connection_laws.specs.Inside.{inside, Proceeds}
 use Rattle.south_wrap.specs.Translation.{inward}
 use Rattle.south_wrap.specs.SouthState.{is_high}
 use Rattle.south_wrap.specs.SouthPoint.{south_at}
 use Rattle.ft_io.proofs.Booleans.{and_false}
 use Rattle.ft_io.proofs.Choices.{if_false, if_true}
 
-goes_on : (sisn u number : ℕ) → number < 2 ^ 32 → u ≤ 2 ^ 24 → (pos 0 -ℤ pos (2 ^ 30)) ≤ℤ offset_of sisn number
+proceeds : (sisn u number : ℕ) → number < 2 ^ 32 → u ≤ 2 ^ 24 → (pos 0 -ℤ pos (2 ^ 30)) ≤ℤ offset_of sisn number
     → offset_of ((sisn + u) % 2 ^ 32) number ≡ offset_of sisn number -ℤ pos u
 unfolding offset_of
-goes_on sisn u number fits small near =
+proceeds sisn u number fits small near =
     let start : ((sisn + u) % 2 ^ 32 + 1) % 2 ^ 32 ≡ ((sisn + 1) % 2 ^ 32 + u) % 2 ^ 32 = omega arith in
     ap (gap number) start ∙ gap_from number ((sisn + 1) % 2 ^ 32) u fits (omega arith) (omega (arith, small)) (omega (arith, ints, small, near))
 
@@ -32,7 +32,7 @@ lowered_offset i delta sisn u number shift fits delta_fits small near =
     let back : (distance number delta + delta) % 2 ^ 32 ≡ number = omega (arith, fits, delta_fits) in
     let moved : offset_of ((i + delta) % 2 ^ 32) ((distance number delta + delta) % 2 ^ 32) ≡ offset_of i (distance number delta) =
     offset_shift i (distance number delta) delta (omega arith) in
-    sym moved ∙ (λ j. offset_of (shift j) (back j)) ∙ goes_on sisn u number fits small near
+    sym moved ∙ (λ j. offset_of (shift j) (back j)) ∙ proceeds sisn u number fits small near
 
 -- an acknowledgement of what only an earlier incarnation can have sent; a usual one; one of what was acknowledged before it went on; one of nothing; one of what
 -- was never sent
@@ -117,7 +117,7 @@ lowers_by u sent most (negsuc k) inner false beyond t n h a b =
     inr (inr (inr (inl (record { negative = grind (arith, ints); inside = rw (b refl) (grind (arith, ints)); to = b refl }))))
 
 -- the acknowledgement of a near segment
-pub lowers : (u i delta : ℕ) (p : Point) (segment : Segment) → GoesOn u i delta p → segment.head.ack < 2 ^ 32
+pub lowers : (u i delta : ℕ) (p : Point) (segment : Segment) → Proceeds u i delta p → segment.head.ack < 2 ^ 32
     → (pos 0 -ℤ pos (2 ^ 30)) ≤ℤ ack_of p.sisn segment → LowersAt u i delta p segment
 lowers u i delta p segment g fits near =
     let high : Bool = is_high (south_at delta p) segment.head.ack in
@@ -257,7 +257,7 @@ beyond_inside u sent most ack inner a b (inr (inr (inl h))) = below_none (sent -
 beyond_inside u sent most ack inner a b (inr (inr (inr (inl h)))) = below_none (sent - u) inner h.inside ∙ sym (below_none most ack h.negative)
 beyond_inside u sent most ack inner a b (inr (inr (inr (inr h)))) = rw (h.is, h.to) (grind (arith, ints, h.over, h.beyond, a))
 
-pub unsent_inside : (u i delta : ℕ) (p : Point) (segment : Segment) → GoesOn u i delta p → LowersAt u i delta p segment
+pub unsent_inside : (u i delta : ℕ) (p : Point) (segment : Segment) → Proceeds u i delta p → LowersAt u i delta p segment
     → acknowledges_unsent (inside u i p) (inward (south_at delta p) segment) ≡ acknowledges_unsent p segment
 unfolding acknowledges_unsent
 unsent_inside u i delta p segment g l =

@@ -20,7 +20,7 @@ use Rattle.ft_model.specs.Timer.{timing_noted, must_run, interval_after, rest_af
 use Rattle.ft_model.specs.Segments.{repeats_syn}
 use Rattle.ft_model.specs.Connection.{LiveTurn}
 use Rattle.ft_model.proofs.Stamped.{stays_off}
-use Rattle.connection_laws.specs.Inside.{swallowing, inside, GoesOn}
+use Rattle.connection_laws.specs.Inside.{swallowing, inside, Proceeds}
 use Rattle.connection_laws.specs.Traffic.{news_inside}
 use Rattle.south_wrap.specs.Translation.{inward}
 use Rattle.south_wrap.specs.SouthPoint.{south_at}
@@ -54,7 +54,7 @@ pub record Moves (news : News) (p : Point) (u i : ℕ) (inner : News) : Type 0 w
       ≡ timing_noted news (resends news p) p (acknowledged_after news p)
 
 -- a segment that goes inside
-counts_is : (u i delta : ℕ) (p : Point) (segment : Segment) → GoesOn u i delta p → LowersAt u i delta p segment
+counts_is : (u i delta : ℕ) (p : Point) (segment : Segment) → Proceeds u i delta p → LowersAt u i delta p segment
     → counts (inside u i p) (inward (south_at delta p) segment) ≡ counts p segment
 unfolding counts uses
 counts_is u i delta p segment g l =
@@ -63,7 +63,7 @@ counts_is u i delta p segment g l =
     λ j. has_ack segment && not (has_syn segment) && not (has_rst segment) && uses p segment && acks j && not (unsent j)
 
 -- .. so its text and FIN make the same of the stream
-came_is : (u i delta : ℕ) (p : Point) (segment : Segment) → GoesOn u i delta p → LowersAt u i delta p segment
+came_is : (u i delta : ℕ) (p : Point) (segment : Segment) → Proceeds u i delta p → LowersAt u i delta p segment
     → came (inside u i p) (inward (south_at delta p) segment) ≡ came p segment
 unfolding came
 came_is u i delta p segment g l =
@@ -73,7 +73,7 @@ came_is u i delta p segment g l =
 both_less : (u a b : ℕ) → u ≤ a → a ≤ b → (b - u) - (a - u) ≡ b - a
 both_less u a b h k = omega (arith, h, k)
 
-comes_inside : (u i delta : ℕ) (p : Point) (segment : Segment) → GoesOn u i delta p → LowersAt u i delta p segment
+comes_inside : (u i delta : ℕ) (p : Point) (segment : Segment) → Proceeds u i delta p → LowersAt u i delta p segment
     → Moves (Comes segment) p u i (Comes (inward (south_at delta p) segment))
 unfolding taken_after early_after fin_after syn_acked_after acknowledged_after edge_after wl1_after wl2_after is_duplicate is_third_duplicate is_partial_ack congestion_after timing_noted
 comes_inside u i delta p segment g l =
@@ -229,12 +229,12 @@ idle_inside u i delta p segment keeps h =
       noted = idle_noted u i delta p segment a b;
     }
 
-comes_any : (u i delta : ℕ) (p : Point) (segment : Segment) (b : Bool) → has_ack segment ≡ b → GoesOn u i delta p → SegmentFits p segment
+comes_any : (u i delta : ℕ) (p : Point) (segment : Segment) (b : Bool) → has_ack segment ≡ b → Proceeds u i delta p → SegmentFits p segment
     → Moves (Comes segment) p u i (Comes (inward (south_at delta p) segment))
 comes_any u i delta p segment true h g f = comes_inside u i delta p segment g (lowers u i delta p segment g f.ack (f.near h))
 comes_any u i delta p segment false h g f = idle_inside u i delta p segment g.timing h
 
-by_repeat : (u i delta : ℕ) (p : Point) (segment : Segment) (b : Bool) → repeats_syn p segment ≡ b → GoesOn u i delta p → SegmentFits p segment
+by_repeat : (u i delta : ℕ) (p : Point) (segment : Segment) (b : Bool) → repeats_syn p segment ≡ b → Proceeds u i delta p → SegmentFits p segment
     → Moves (Comes segment) p u i (if b then Begins else Comes (inward (south_at delta p) segment))
 by_repeat u i delta p segment true h g f =
     stays_inside u i p segment g.timing (nothing_counts p segment
@@ -253,7 +253,7 @@ ticks_same u i p a =
     then with_expiry p.mss (flight_inside u p.una p.sent a j) (is_first_expiry p) p.congestion
     else p.congestion
 
-pub moves_inside_all : (u i delta : ℕ) (p : Point) (news : News) → GoesOn u i delta p → NewsFit p news → Moves news p u i (news_inside delta p news)
+pub moves_inside_all : (u i delta : ℕ) (p : Point) (news : News) → Proceeds u i delta p → NewsFit p news → Moves news p u i (news_inside delta p news)
 unfolding taken_after early_after fin_after syn_acked_after acknowledged_after edge_after wl1_after wl2_after is_duplicate is_third_duplicate is_partial_ack congestion_after timing_noted
 moves_inside_all u i delta p (Comes segment) g f = by_repeat u i delta p segment (repeats_syn p segment) refl g f
 moves_inside_all u i delta p (Logged kept) g f = record {
@@ -318,7 +318,7 @@ place_less : (u s a : ℕ) → u ≤ s → u ≤ a → s - u + 1 - (a - u) ≡ s
 place_less u s a h k = omega (arith, h, k)
 
 pub laws_inside : {State : Type 0} (service : Machine State) (server : Addr) (boot u i delta : ℕ) (news : News) (p q : Point) (sent : List Packet)
-    → GoesOn u i delta p → NewsFit p news → u ≤ q.una → u ≤ released service q → LiveTurn service server boot news p q sent
+    → Proceeds u i delta p → NewsFit p news → u ≤ q.una → u ≤ released service q → LiveTurn service server boot news p q sent
     → MeetsLaws (swallowing u service) (news_inside delta p news) (inside u i p) (inside u i q)
 unfolding sent_after sent_at_once timing_after interval_after rest_after must_run
 laws_inside service server boot u i delta news p q sent g f above given l =

@@ -17,7 +17,7 @@ use Rattle.ft_model.specs.Sending.{acknowledged_after}
 use Rattle.ft_model.specs.Taken.{taken_after, fin_after}
 use Rattle.ft_model.proofs.Services.{prefix_length}
 use Rattle.ft_model.proofs.Settled.{settled}
-use Rattle.ft_model.proofs.TurnTells.{settled_reads}
+use Rattle.ft_model.proofs.TurnReports.{settled_reads}
 use Rattle.ft_model.proofs.Turns.{all_is_sent}
 use Rattle.tcp_endpoint.specs.Arrival.{received, begun}
 use Rattle.tcp_endpoint.specs.Output.{full_out, leaving}
@@ -42,7 +42,7 @@ use Rattle.connection_laws.specs.Parts.{PartsTurn}
 use Rattle.connection_laws.proofs.Delaying.{waits_segment}
 use Rattle.connection_laws.proofs.FirstSyn.{begins_inside}
 use Rattle.connection_laws.proofs.Fed.{reading, north_calls_feed}
-use Rattle.connection_laws.proofs.Joining.{socket_laws, hears, socket_stands}
+use Rattle.connection_laws.proofs.Joining.{socket_laws, on_receipt, socket_stands}
 use Rattle.connection_laws.proofs.Together.{goes}
 use Rattle.endpoint_laws.proofs.SegmentsLaw.{begun_open}
 
@@ -94,7 +94,7 @@ starts_together service profile timestamping boot local numbers old new reads t 
     let b : Point = reading [] q in
     let m : Tcb = received (listens_with profile.measures local numbers) (opened_syn local numbers) in
     let f : IsFreshTcp m = fresh_tcp profile.measures local numbers in
-    let north : NorthStands service b 0 old = hears service Begins p b 0 old refl refl refl refl st in
+    let north : NorthStands service b 0 old = on_receipt service Begins p b 0 old refl refl refl refl st in
     let socket : SocketStands b old m.receiving.unread m.receiving.fin (is_ended m) =
     socket_stands b old m (at_none m.receiving.read f.read) (ap (λ n. drop (n + 0) []) f.read ∙ sym f.unread) (sym f.fin) f.kept (f.closed ∙ sym open_still) in
     let turn : NorthTurn service tcp_reader tcp_writer b 0 old m reads new t =

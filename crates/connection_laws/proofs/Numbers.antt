@@ -30,4 +30,4 @@ behind i delta sisn u k shift above fits = omega (arith, shift, above, fits)
 pub sent_behind : (u i delta : ℕ) (p : Point) (e : Tcb) → StandsInside u i delta p e → sent_number e ≡ distance (number_at p.sisn p.sent) delta
 sent_behind u i delta p e st =
     (λ j. if listens_not e.name st.begun j then e.sending.iss else number_at (sym st.stands.sends.sisn j) (sym st.stands.sent j))
-    ∙ behind i delta p.sisn u p.sent st.goes_on.shift (omega (arith, st.goes_on.una, st.goes_on.order)) st.goes_on.delta_fits
+    ∙ behind i delta p.sisn u p.sent st.proceeds.shift (omega (arith, st.proceeds.una, st.proceeds.order)) st.proceeds.delta_fits

@@ -24,7 +24,7 @@ use Rattle.ft_model.specs.Timer.{is_tick, must_run, expires, rest_after, interva
 use Rattle.ft_model.specs.Segments.{opens_with}
 use Rattle.ft_model.specs.Opening.{is_syn}
 use Rattle.ft_model.specs.Connection.{LiveTurn}
-use Rattle.ft_model.proofs.Services.{RunExtends, reads_go_on}
+use Rattle.ft_model.proofs.Services.{RunExtends, reads_proceed}
 use Rattle.tcp_endpoint.specs.declared.states.StateName.TheVariants.{Closed}
 use Rattle.tcp_endpoint.specs.Arrival.{received, received_in, in_closed, with_reset_reply, with_reset_reply_without_ack}
 use Rattle.tcp_endpoint.specs.ReceiveHalf.{Receiving}
@@ -50,18 +50,18 @@ use Rattle.south_wrap.specs.SouthPoint.{south_at}
 use Rattle.connection_laws.specs.Traffic.{news_inside, passed}
 use Rattle.endpoint_laws.specs.Refinement.{ReceivesAt}
 use Rattle.endpoint_laws.proofs.Calls.{FinIsLast, IsUsed, used_is, bounded_used, last_used}
-use Rattle.connection_laws.specs.ClosedTcp.{StandsClosed, ReadsOn, GoesOnClosed}
+use Rattle.connection_laws.specs.ClosedTcp.{StandsClosed, ReadsOn, ProceedsClosed}
 use Rattle.connection_laws.proofs.SendBuffer.{KeepsOutput, kept_same, kept_ticked}
 use Rattle.connection_laws.proofs.Quiet.{resends_still, quiet_sends}
 use Rattle.connection_laws.proofs.Forged.{either}
 use Rattle.connection_laws.proofs.Reassembly.{behind_at}
 
 -- a front goes on where the list does
-pub front_goes_on : (a b : ℕ) (xs ys : List ℕ) → a ≤ b → IsPrefix (take a xs) (take b (xs ++ ys))
-front_goes_on zero b xs ys h = (take b (xs ++ ys), refl)
-front_goes_on (suc a) zero xs ys h = absurd (omega (arith, h))
-front_goes_on (suc a) (suc b) [] ys h = (take (suc b) ys, refl)
-front_goes_on (suc a) (suc b) (x ∷ xs) ys h = let rest = front_goes_on a b xs ys (omega (arith, h)) in (rest.0, ap (λ l. x ∷ l) rest.1)
+pub front_proceeds : (a b : ℕ) (xs ys : List ℕ) → a ≤ b → IsPrefix (take a xs) (take b (xs ++ ys))
+front_proceeds zero b xs ys h = (take b (xs ++ ys), refl)
+front_proceeds (suc a) zero xs ys h = absurd (omega (arith, h))
+front_proceeds (suc a) (suc b) [] ys h = (take (suc b) ys, refl)
+front_proceeds (suc a) (suc b) (x ∷ xs) ys h = let rest = front_proceeds a b xs ys (omega (arith, h)) in (rest.0, ap (λ l. x ∷ l) rest.1)
 
 pub reads_rise : (news : News) (p : Point) → p.reads_answered ≤ reads_answered_after news p
 unfolding reads_answered_after
@@ -245,7 +245,7 @@ refusals_stay delta q local Ticks = refl
 refusals_stay delta q local Begins = refl
 
 pub outlives : {State : Type 0} (service : Machine State) (server : Addr) (boot u i delta : ℕ) (news : News) (p q : Point) (calls : List Call) (e : Tcb) (sent : List Packet)
-    → StandsClosed service u i delta p e → LiveTurn service server boot news p q sent → ReadsOn delta news p q calls e → GoesOnClosed service server u i delta news p q calls e
+    → StandsClosed service u i delta p e → LiveTurn service server boot news p q sent → ReadsOn delta news p q calls e → ProceedsClosed service server u i delta news p q calls e
 unfolding sent_after sent_at_once
 outlives service server boot u i delta news p q calls e sent st l reads =
     let over = and_parts p.fin (nat_lt (released service p) p.una) st.over in
@@ -259,7 +259,7 @@ outlives service server boot u i delta news p q calls e sent st l reads =
     λ j. reference service (taken j) (take q.reads_answered (l.reads.lengths j)) in
     let more : p.reads_answered ≤ q.reads_answered = omega (arith, reads_rise news p, l.reads_answered) in
     let goes : RunExtends (answered_run service p) (reference service p.taken (take q.reads_answered (p.lengths ++ l.reads.news))) =
-    reads_go_on service p.taken (take p.reads_answered p.lengths) (take q.reads_answered (p.lengths ++ l.reads.news)) (front_goes_on p.reads_answered q.reads_answered p.lengths l.reads.news more) in
+    reads_proceed service p.taken (take p.reads_answered p.lengths) (take q.reads_answered (p.lengths ++ l.reads.news)) (front_proceeds p.reads_answered q.reads_answered p.lengths l.reads.news more) in
     let out : released service q ≡ released service p = ap (λ r. length r.output) run_is ∙ ap length (goes.closed closed).0 in
     let closed_then : (answered_run service q).closed ≡ true = ap (λ r. r.closed) run_is ∙ (goes.closed closed).1 in
     let all : target service q ≡ target service p = λ j. out j + one_if ((closed_then ∙ sym closed) j) in

@@ -43,7 +43,7 @@ pub over_is : {State : Type 0} (service : Machine State) (u i delta given : ℕ)
     → (e.sending.closed ≡ true → given ≡ released service p) → is_over service p ≡ is_time_wait e.name
 over_is service u i delta given p e st named fed all =
     let s : Sending = e.sending in
-    let una : p.una ≡ s.una + u = raised u p.una s.una st.goes_on.una st.stands.sends.una in
+    let una : p.una ≡ s.una + u = raised u p.una s.una st.proceeds.una st.stands.sends.una in
     let acked : nat_lt (released service p) (s.una + u) ≡ fin_acked s =
     acked_is s.fin_sent u s.una s.sent (length s.held) (released service p) given fed.until fed.low (λ h. all (st.between.fin_last h).0) (λ h. (st.between.fin_last h).1) st.between.bounds.order in
     (λ j. st.stands.receives.fin j && nat_lt (released service p) (una j))

@@ -32,7 +32,7 @@ use Rattle.connection_laws.specs.Traffic.{news_inside}
 use Rattle.connection_laws.specs.Turn.{NewsFit}
 use Rattle.connection_laws.specs.ClosedTcp.{StandsClosed, CountsFrom}
 use Rattle.connection_laws.specs.Parts.{StandsOpen, PartsStand}
-use Rattle.connection_laws.specs.PointNumbers.{raised_by, units_before, tells_fin, acked_at, PartsTell, NewsTell}
+use Rattle.connection_laws.specs.PointNumbers.{raised_by, units_before, reports_fin, acked_at, PartsShow, NewsShow}
 use Rattle.connection_laws.proofs.Meets.{Moves, moves_inside_all}
 use Rattle.connection_laws.proofs.Again.{stays}
 use Rattle.connection_laws.proofs.Numbers.{behind, sent_behind}
@@ -104,7 +104,7 @@ few_open : {S : Type 0} (service : Machine S) (u i delta given : ℕ) (p : Point
 few_open service u i delta given p n e st o =
     let b = o.stands.between in
     sent_few e.sending.fin_sent e.sending.una e.sending.sent (length e.sending.held) u given n.run.made p.sent st.feeds.until b.bounds.flight (λ h. (b.fin_last h).1) o.stands.stands.sent
-    (omega (arith, o.stands.goes_on.una, o.stands.goes_on.order)) (omega (arith, st.north.run.made, st.north.run.within))
+    (omega (arith, o.stands.proceeds.una, o.stands.proceeds.order)) (omega (arith, st.north.run.made, st.north.run.within))
 
 few_by : (c : Bool) (sent released made : ℕ) → sent ≡ released + (if c then 1 else 0) → released ≤ made → sent ≤ made + 1
 few_by true sent released made a b = omega (arith, a, b)
@@ -118,15 +118,15 @@ few_closed service u i delta given p n e st c =
 
 acked_open : (u i delta : ℕ) (p : Point) (e : Tcb) → StandsOpen u i delta p e → acked_number e ≡ distance (acked_at p.syn_acked p.sisn p.una) delta
 acked_open u i delta p e o =
-    let g = o.stands.goes_on in
+    let g = o.stands.proceeds in
     let s = o.stands.stands.sends in
     acked_by p.syn_acked e.sending.syn_acked e.sending.iss e.sending.una i delta p.sisn u p.una s.syn_acked (sym s.sisn) (sym s.una) g.shift g.una g.delta_fits g.i_fits g.sisn (λ h. (g.syn_unacked h).0)
 
-tell_open : {S : Type 0} (service : Machine S) (u i delta given : ℕ) (p : Point) (n : NorthState S) (e : Tcb) → PartsStand service u i delta given p n e → StandsOpen u i delta p e
-    → PartsTell service delta p n e
-tell_open service u i delta given p n e st o =
+report_open : {S : Type 0} (service : Machine S) (u i delta given : ℕ) (p : Point) (n : NorthState S) (e : Tcb) → PartsStand service u i delta given p n e → StandsOpen u i delta p e
+    → PartsShow service delta p n e
+report_open service u i delta given p n e st o =
     let r : ReceivesAt (inside u i p) e = o.stands.stands.receives in
-    let g = o.stands.goes_on in
+    let g = o.stands.proceeds in
     let is_open : is_closed e.name ≡ false = begun_open e.name o.stands.begun in
     record {
       taken = bytes_by (length p.taken) p.fetched e.receiving.read (length e.receiving.unread) n.read r.long (ap (max p.fetched) st.north.read ∙ r.read);
@@ -146,9 +146,9 @@ small_sent : (u p_sent sent : ℕ) (f : Bool) → u ≤ 2 ^ 24 → p_sent - u �
 small_sent u p_sent sent true a b c = omega (arith, a, b, c)
 small_sent u p_sent sent false a b c = omega (arith, a, b, c)
 
-tell_closed : {S : Type 0} (service : Machine S) (u i delta given : ℕ) (p : Point) (n : NorthState S) (e : Tcb) → PartsStand service u i delta given p n e → StandsClosed service u i delta p e
-    → PartsTell service delta p n e
-tell_closed service u i delta given p n e st c =
+report_closed : {S : Type 0} (service : Machine S) (u i delta given : ℕ) (p : Point) (n : NorthState S) (e : Tcb) → PartsStand service u i delta given p n e → StandsClosed service u i delta p e
+    → PartsShow service delta p n e
+report_closed service u i delta given p n e st c =
     let r : ReceivesAt p e = c.receives in
     let k : CountsFrom u i delta p e = c.counts in
     let closed : is_closed e.name ≡ true = ap is_closed c.name in
@@ -172,8 +172,8 @@ tell_closed service u i delta given p n e st c =
       few = few_closed service u i delta given p n e st c;
     }
 
-pub parts_tell : {S : Type 0} (service : Machine S) (u i delta given : ℕ) (p : Point) (n : NorthState S) (e : Tcb) → PartsStand service u i delta given p n e → PartsTell service delta p n e
-parts_tell service u i delta given p n e st = ⊎_elim (tell_open service u i delta given p n e st) (tell_closed service u i delta given p n e st) st.tcp
+pub parts_show : {S : Type 0} (service : Machine S) (u i delta given : ℕ) (p : Point) (n : NorthState S) (e : Tcb) → PartsStand service u i delta given p n e → PartsShow service delta p n e
+parts_show service u i delta given p n e st = ⊎_elim (report_open service u i delta given p n e st) (report_closed service u i delta given p n e st) st.tcp
 
 -- after the news: the state tells the FIN, too where it has become CLOSED
 closed_of_placed : (name : StateName) (o c f a : Bool) → has_begun name ≡ false → IsPlaced name o c f a → (is_closed name ≡ true) × (f ≡ true)
@@ -202,22 +202,22 @@ named_of_placed Closing o c f a begun h = h
 named_of_placed LastAck o c f a begun h = h
 named_of_placed TimeWait o c f a begun h = h
 
-fin_told : (inner : News) (e : Tcb) (b : Bool) → has_begun (arrived inner e).name ≡ b → FollowsAt (arrived inner e) → (arrived inner e).receiving.fin ≡ tells_fin (arrived inner e)
-fin_told inner e true begun f =
+fin_reported : (inner : News) (e : Tcb) (b : Bool) → has_begun (arrived inner e).name ≡ b → FollowsAt (arrived inner e) → (arrived inner e).receiving.fin ≡ reports_fin (arrived inner e)
+fin_reported inner e true begun f =
     let m : Tcb = arrived inner e in
     fin_by_name m.name m.sending.syn_acked m.sending.closed m.receiving.fin (fin_acked m.sending) begun (named_of_placed m.name m.sending.syn_acked m.sending.closed m.receiving.fin (fin_acked m.sending) begun f.placed)
     ∙ sym (off_or (has_taken_fin m.name) (is_closed m.name) (begun_open m.name begun))
-fin_told inner e false ended f =
+fin_reported inner e false ended f =
     let m : Tcb = arrived inner e in
     let c = closed_of_placed m.name m.sending.syn_acked m.sending.closed m.receiving.fin (fin_acked m.sending) ended f.placed in
     c.1 ∙ sym (or_right (has_taken_fin m.name) (is_closed m.name) c.0)
 
 news_open : {S : Type 0} (service : Machine S) (u i delta given : ℕ) (news : News) (p : Point) (n : NorthState S) (e : Tcb) → PartsStand service u i delta given p n e → NewsFit p news
-    → reset_after news p ≡ false → StandsOpen u i delta p e → NewsTell delta news p n (arrived (news_inside delta p news) e)
+    → reset_after news p ≡ false → StandsOpen u i delta p e → NewsShow delta news p n (arrived (news_inside delta p news) e)
 news_open service u i delta given news p n e st fits off o =
     let inner : News = news_inside delta p news in
     let m : Tcb = arrived inner e in
-    let g = o.stands.goes_on in
+    let g = o.stands.proceeds in
     let usual : IsUsualNews inner e = usual_news u i delta p e news g o.stands.stands fits in
     let came : Arrived inner (inside u i p) e m = arrives inner (inside u i p) e o.stands.begun o.stands.between o.stands.stands usual in
     let moves : Moves news p u i inner = moves_inside_all u i delta p news g fits in
@@ -229,7 +229,7 @@ news_open service u i delta given news p n e st fits off o =
     record {
       unread = (λ j. drop ((ap (max p.fetched) st.north.read ∙ came.receives.read) j) (sym moves.taken j)) ∙ came.receives.unread;
       taken = ap length (sym moves.taken) ∙ bytes_by _ p.fetched m.receiving.read (length m.receiving.unread) n.read came.receives.long (ap (max p.fetched) st.north.read ∙ came.receives.read);
-      fin = sym moves.fin ∙ came.receives.fin ∙ fin_told inner e (has_begun m.name) refl follows;
+      fin = sym moves.fin ∙ came.receives.fin ∙ fin_reported inner e (has_begun m.name) refl follows;
       acked = acked;
       acked_units = acked_units_at (syn_acked_after news p) p.sisn delta (acked_number m) (acknowledged_after news p) acked g.delta_fits (omega (arith, rises.most, g.sent)) g.sisn
           (λ h. let s : p.sent ≡ 0 = (g.syn_unacked (still_syn_unacked news p h)).1 in omega (arith, s, rises.most));
@@ -237,7 +237,7 @@ news_open service u i delta given news p n e st fits off o =
     }
 
 news_closed : {S : Type 0} (service : Machine S) (u i delta given : ℕ) (news : News) (p : Point) (n : NorthState S) (e : Tcb) → PartsStand service u i delta given p n e
-    → StandsClosed service u i delta p e → NewsTell delta news p n (arrived (news_inside delta p news) e)
+    → StandsClosed service u i delta p e → NewsShow delta news p n (arrived (news_inside delta p news) e)
 news_closed service u i delta given news p n e st c =
     let inner : News = news_inside delta p news in
     let m : Tcb = arrived inner e in
@@ -264,7 +264,7 @@ news_closed service u i delta given news p n e st c =
       few = omega (arith, una, c.acknowledged, few_closed service u i delta given p n e st c);
     }
 
-pub news_tell : {S : Type 0} (service : Machine S) (u i delta given : ℕ) (news : News) (p : Point) (n : NorthState S) (e : Tcb) → PartsStand service u i delta given p n e → NewsFit p news
-    → reset_after news p ≡ false → NewsTell delta news p n (arrived (news_inside delta p news) e)
-news_tell service u i delta given news p n e st fits off =
+pub news_show : {S : Type 0} (service : Machine S) (u i delta given : ℕ) (news : News) (p : Point) (n : NorthState S) (e : Tcb) → PartsStand service u i delta given p n e → NewsFit p news
+    → reset_after news p ≡ false → NewsShow delta news p n (arrived (news_inside delta p news) e)
+news_show service u i delta given news p n e st fits off =
     ⊎_elim (news_open service u i delta given news p n e st fits off) (news_closed service u i delta given news p n e st) st.tcp

@@ -24,7 +24,7 @@ use Rattle.ft_model.specs.Refusal.{rst_at_ack}
 use Rattle.ft_model.specs.Opening.{is_syn}
 use Rattle.ft_model.specs.Segments.{syn_ack, repeats_syn, opens_with, full_segments, segments_of, or_bare, bare_segment, resent, new_texts, new_fin, is_unacknowledged, first_unacknowledged, probe}
 use Rattle.ft_model.specs.Connection.{LiveTurn}
-use Rattle.connection_laws.specs.Inside.{swallowing, inside, GoesOn}
+use Rattle.connection_laws.specs.Inside.{swallowing, inside, Proceeds}
 use Rattle.connection_laws.specs.Traffic.{news_inside, passed, asks_besides, needs_ack_besides, leaves}
 use Rattle.south_wrap.specs.Translation.{inward}
 use Rattle.south_wrap.specs.SouthPoint.{south_at}
@@ -60,7 +60,7 @@ refused_by u sent most false has unsent inner_unsent ack inner o s l =
     let less : int_lt inner (pos 0) ≡ int_lt ack (pos 0) = less_is inner ∙ ap not (same_sign u sent most ack inner (o refl) l) ∙ sym (less_is ack) in
     λ j. true && has && (less j || s j)
 
-refused_any : (u i delta : ℕ) (p : Point) (segment : Segment) (b : Bool) → has_ack segment ≡ b → GoesOn u i delta p → SegmentFits p segment
+refused_any : (u i delta : ℕ) (p : Point) (segment : Segment) (b : Bool) → has_ack segment ≡ b → Proceeds u i delta p → SegmentFits p segment
     → is_refused (inside u i p) (inward (south_at delta p) segment) ≡ is_refused p segment
 refused_any u i delta p segment true h g f =
     let inner : Segment = inward (south_at delta p) segment in
@@ -72,11 +72,11 @@ refused_any u i delta p segment false h g f =
     middle_false (not p.syn_acked) (has_ack segment) (int_lt (ack_of i inner) (pos 0) || acknowledges_unsent (inside u i p) inner) h
     ∙ sym (middle_false (not p.syn_acked) (has_ack segment) (int_lt (ack_of p.sisn segment) (pos 0) || acknowledges_unsent p segment) h)
 
-refused_is : (u i delta : ℕ) (p : Point) (segment : Segment) → GoesOn u i delta p → SegmentFits p segment
+refused_is : (u i delta : ℕ) (p : Point) (segment : Segment) → Proceeds u i delta p → SegmentFits p segment
     → is_refused (inside u i p) (inward (south_at delta p) segment) ≡ is_refused p segment
 refused_is u i delta p segment g f = refused_any u i delta p segment (has_ack segment) refl g f
 
-unsent_any : (u i delta : ℕ) (p : Point) (segment : Segment) (b : Bool) → has_ack segment ≡ b → GoesOn u i delta p → SegmentFits p segment
+unsent_any : (u i delta : ℕ) (p : Point) (segment : Segment) (b : Bool) → has_ack segment ≡ b → Proceeds u i delta p → SegmentFits p segment
     → is_unsent_ack (inside u i p) (inward (south_at delta p) segment) ≡ is_unsent_ack p segment
 unsent_any u i delta p segment true h g f =
     ap (λ b. has_ack segment && b) (unsent_inside u i delta p segment g (lowers u i delta p segment g f.ack (f.near h)))
@@ -84,7 +84,7 @@ unsent_any u i delta p segment false h g f =
     and_left (has_ack segment) (acknowledges_unsent (inside u i p) (inward (south_at delta p) segment)) h
     ∙ sym (and_left (has_ack segment) (acknowledges_unsent p segment) h)
 
-needs_ack_is : (u i delta : ℕ) (p : Point) (segment : Segment) → GoesOn u i delta p → SegmentFits p segment
+needs_ack_is : (u i delta : ℕ) (p : Point) (segment : Segment) → Proceeds u i delta p → SegmentFits p segment
     → needs_ack (inside u i p) (inward (south_at delta p) segment) ≡ needs_ack p segment
 unfolding needs_ack accepts
 needs_ack_is u i delta p segment g f =
@@ -244,7 +244,7 @@ record IsRefused (p q : Point) (segment : Segment) : Type 0 where
   again : resends (Comes segment) p ≡ false
 
 refused_turn : {State : Type 0} (service : Machine State) (server : Addr) (boot : ℕ) (segment : Segment) (p q : Point) (sent : List Packet) (u i delta : ℕ)
-    → GoesOn u i delta p → refuses p segment ≡ true → LiveTurn service server boot (Comes segment) p q sent → IsRefused p q segment
+    → Proceeds u i delta p → refuses p segment ≡ true → LiveTurn service server boot (Comes segment) p q sent → IsRefused p q segment
 unfolding needs_ack counts answered_after taken_after fin_after edge_after is_third_duplicate is_partial_ack
 refused_turn service server boot segment p q sent u i delta g r l =
     let f = four_of (accepts p segment) (has_rst segment) (has_syn segment) (is_refused p segment) r in
@@ -272,7 +272,7 @@ refused_turn service server boot segment p q sent u i delta g r l =
     }
 
 refused : {State : Type 0} (service : Machine State) (server : Addr) (boot : ℕ) (segment inner : Segment) (p q : Point) (sent : List Packet) (u i delta : ℕ)
-    → GoesOn u i delta p → refuses p segment ≡ true → refuses (inside u i p) inner ≡ true → LiveTurn service server boot (Comes segment) p q sent
+    → Proceeds u i delta p → refuses p segment ≡ true → refuses (inside u i p) inner ≡ true → LiveTurn service server boot (Comes segment) p q sent
     → leaves service server (Comes segment) p q (passed delta q (out_by_laws service server u i (Comes segment) (Comes inner) p q))
     ≡ segments_of service server (Comes segment) p q
 unfolding segments_of full_segments outer.is_ack_due outer.is_ack_pending resent new_texts new_fin sent_at_once
@@ -306,7 +306,7 @@ still_syn_unacked Ticks p h = h
 still_syn_unacked Begins p h = h
 
 sends : {State : Type 0} (service : Machine State) (server : Addr) (boot : ℕ) (news : News) (p q : Point) (sent : List Packet) (u i delta : ℕ)
-    → Turns service server boot news p q sent u i delta → GoesOn u i delta p → GoesOn u i delta q → Sends service news (news_inside delta p news) p q u i delta
+    → Turns service server boot news p q sent u i delta → Proceeds u i delta p → Proceeds u i delta q → Sends service news (news_inside delta p news) p q u i delta
 sends service server boot news p q sent u i delta t before after = record {
   shift = after.shift;
   sisn = after.sisn;
@@ -320,7 +320,7 @@ sends service server boot news p q sent u i delta t before after = record {
 }
 
 comes : {State : Type 0} (service : Machine State) (server : Addr) (boot : ℕ) (segment : Segment) (p q : Point) (sent : List Packet) (u i delta : ℕ) (b : Bool)
-    → Turns service server boot (Comes segment) p q sent u i delta → GoesOn u i delta p → GoesOn u i delta q → refuses p segment ≡ b → repeats_syn p segment ≡ false
+    → Turns service server boot (Comes segment) p q sent u i delta → Proceeds u i delta p → Proceeds u i delta q → refuses p segment ≡ b → repeats_syn p segment ≡ false
     → Sends service (Comes segment) (Comes (inward (south_at delta p) segment)) p q u i delta → AddsNone service (Comes segment) p q
     → leaves service server (Comes segment) p q (passed delta q (out_by_laws service server u i (Comes segment) (Comes (inward (south_at delta p) segment)) p q))
     ≡ segments_of service server (Comes segment) p q
@@ -340,7 +340,7 @@ comes service server boot segment p q sent u i delta false t before after r open
     usually service server (Comes segment) (Comes inner) p q u i delta (omega (arith, after.una, after.order)) s none opens asked alone
 
 by_syn : {State : Type 0} (service : Machine State) (server : Addr) (boot : ℕ) (segment : Segment) (p q : Point) (sent : List Packet) (u i delta : ℕ) (b : Bool)
-    → repeats_syn p segment ≡ b → Turns service server boot (Comes segment) p q sent u i delta → GoesOn u i delta p → GoesOn u i delta q
+    → repeats_syn p segment ≡ b → Turns service server boot (Comes segment) p q sent u i delta → Proceeds u i delta p → Proceeds u i delta q
     → Sends service (Comes segment) (if b then Begins else Comes (inward (south_at delta p) segment)) p q u i delta
     → MeetsLaws (swallowing u service) (if b then Begins else Comes (inward (south_at delta p) segment)) (inside u i p) (inside u i q)
     → AddsNone service (Comes segment) p q
@@ -352,7 +352,7 @@ by_syn service server boot segment p q sent u i delta false opens t before after
     comes service server boot segment p q sent u i delta (refuses p segment) t before after refl opens s alone
 
 pub sent_is : {State : Type 0} (service : Machine State) (server : Addr) (boot : ℕ) (news : News) (p q : Point) (sent : List Packet) (u i delta : ℕ)
-    → Turns service server boot news p q sent u i delta → GoesOn u i delta p → GoesOn u i delta q → AddsNone service news p q
+    → Turns service server boot news p q sent u i delta → Proceeds u i delta p → Proceeds u i delta q → AddsNone service news p q
     → leaves service server news p q (passed delta q (out_by_laws service server u i news (news_inside delta p news) p q)) ≡ segments_of service server news p q
 sent_is service server boot (Comes segment) p q sent u i delta t before after alone =
     by_syn service server boot segment p q sent u i delta (repeats_syn p segment) refl t before after (sends service server boot (Comes segment) p q sent u i delta t before after)

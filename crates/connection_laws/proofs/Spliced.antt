@@ -43,12 +43,12 @@ use Rattle.north_wrap.specs.NorthState.{NorthState}
 use Rattle.north_wrap.specs.Refinement.{HasReplayed}
 use Rattle.north_wrap.proofs.Offline.{begins_here}
 use Rattle.endpoint_laws.proofs.EndingLaw.{reset_law}
-use Rattle.connection_laws.specs.Inside.{GoesOn}
+use Rattle.connection_laws.specs.Inside.{Proceeds}
 use Rattle.connection_laws.specs.OutputFeed.{Feeds}
 use Rattle.connection_laws.specs.Parts.{PartsStand}
 use Rattle.connection_laws.specs.Splice.{delta_from}
 use Rattle.connection_laws.proofs.TcpEnd.{flushed_reset}
-use Rattle.connection_laws.specs.Splice.{GoesOnFrom, StandsAtEntry, forged_syn, forged_ack, forged_fin, connected_measuring, spliced_measuring}
+use Rattle.connection_laws.specs.Splice.{ProceedsFrom, StandsAtEntry, forged_syn, forged_ack, forged_fin, connected_measuring, spliced_measuring}
 use Rattle.connection_laws.proofs.Forged.{silent, IsForged, IsFresh, after_forged, forged_laws, run_is}
 use Rattle.ft_io.proofs.Choices.{by_cases}
 use Rattle.ft_io.proofs.Booleans.{false_by}
@@ -130,7 +130,7 @@ forged_turn p e segment fin t f s few seq =
 abbrev begun_at : (measures : Bool) → Key → Addr → Entry → ℕ → Point
 begun_at measures key local e i = point_begun measures e.bytes (numbers_with e.cisn i (forged_syn key local e.cisn (length e.bytes) e.mss))
 
-syn_turn : {State : Type 0} (service : Machine State) (measures : Bool) (local : Addr) (e : Entry) (i : ℕ) → GoesOnFrom service e i
+syn_turn : {State : Type 0} (service : Machine State) (measures : Bool) (local : Addr) (e : Entry) (i : ℕ) → ProceedsFrom service e i
     → Stood (begun_at measures e.key local e i) (turned (Comes (forged_syn e.key local e.cisn (length e.bytes) e.mss)) [] (listening_measuring measures local i (2 ^ 24 - length e.bytes)))
 unfolding listening_measuring listening begun
 syn_turn service measures local e i g =
@@ -184,7 +184,7 @@ acked_fresh measures local e i = record {
   rest = λ h. refl;
 }
 
-ack_is_forged : {State : Type 0} (service : Machine State) (measures : Bool) (local : Addr) (e : Entry) (i : ℕ) → GoesOnFrom service e i → IsForged (begun_at measures e.key local e i) (forged_ack e.key local e.cisn (length e.bytes) i) false
+ack_is_forged : {State : Type 0} (service : Machine State) (measures : Bool) (local : Addr) (e : Entry) (i : ℕ) → ProceedsFrom service e i → IsForged (begun_at measures e.key local e i) (forged_ack e.key local e.cisn (length e.bytes) i) false
 ack_is_forged service measures local e i g = record {
   ack = refl;
   syn = refl;
@@ -196,7 +196,7 @@ ack_is_forged service measures local e i g = record {
   back = offset_of_number i 0 (omega arith);
 }
 
-fin_is_forged : {State : Type 0} (service : Machine State) (measures : Bool) (local : Addr) (e : Entry) (i : ℕ) → GoesOnFrom service e i
+fin_is_forged : {State : Type 0} (service : Machine State) (measures : Bool) (local : Addr) (e : Entry) (i : ℕ) → ProceedsFrom service e i
     → IsForged (after_forged false (begun_at measures e.key local e i)) (forged_fin e.key local e.cisn (length e.bytes) i) true
 fin_is_forged service measures local e i g = record {
   ack = refl;
@@ -212,13 +212,13 @@ fin_is_forged service measures local e i g = record {
 number_fits : (n k : ℕ) → number_at n k < 2 ^ 32
 number_fits n k = omega arith
 
-ack_turn : {State : Type 0} (service : Machine State) (measures : Bool) (local : Addr) (e : Entry) (i : ℕ) → GoesOnFrom service e i → Stood (after_forged false (begun_at measures e.key local e i)) (connected_measuring measures e.key local e.cisn (length e.bytes) e.mss i)
+ack_turn : {State : Type 0} (service : Machine State) (measures : Bool) (local : Addr) (e : Entry) (i : ℕ) → ProceedsFrom service e i → Stood (after_forged false (begun_at measures e.key local e i)) (connected_measuring measures e.key local e.cisn (length e.bytes) e.mss i)
 unfolding connected_measuring
 ack_turn service measures local e i g =
     forged_turn (begun_at measures e.key local e i) _ (forged_ack e.key local e.cisn (length e.bytes) i) false (syn_turn service measures local e i g) (begun_fresh measures local e i) (ack_is_forged service measures local e i g)
     (λ h. absurd (false≢true h)) (number_fits e.cisn (length e.bytes))
 
-whole : {State : Type 0} (service : Machine State) (measures : Bool) (local : Addr) (e : Entry) (i : ℕ) (fin : Bool) → GoesOnFrom service e i → (fin ≡ true → length e.bytes < 2 ^ 24)
+whole : {State : Type 0} (service : Machine State) (measures : Bool) (local : Addr) (e : Entry) (i : ℕ) (fin : Bool) → ProceedsFrom service e i → (fin ≡ true → length e.bytes < 2 ^ 24)
     → Stood (record (after_forged fin (begun_at measures e.key local e i)) { fin = fin; answered = length e.bytes + one_if fin }) (spliced_measuring measures e.key local e.cisn (length e.bytes) e.mss i fin)
 whole service measures local e i true g few =
     forged_turn (after_forged false (begun_at measures e.key local e i)) (connected_measuring measures e.key local e.cisn (length e.bytes) e.mss i) (forged_fin e.key local e.cisn (length e.bytes) i) true
@@ -231,7 +231,7 @@ size_stays mss a b = omega (arith, a, b)
 cut_read : (f s r : ℕ) → s ≤ f → max f 0 ≡ r + f → max f s ≡ r + f
 cut_read f s r a b = omega (arith, a, b)
 
-at_entry : {State : Type 0} (service : Machine State) (profile : Profile) (local : Addr) (e : Entry) (i : ℕ) (t : Tcb) → GoesOnFrom service e i
+at_entry : {State : Type 0} (service : Machine State) (profile : Profile) (local : Addr) (e : Entry) (i : ℕ) (t : Tcb) → ProceedsFrom service e i
     → StandsAt (record (after_forged e.fin (begun_at profile.measures e.key local e i)) { fin = e.fin; answered = length e.bytes + one_if e.fin }) t
     → StandsAt (inside (resumed_at service e) i (point_of service profile e)) t
 at_entry service profile local e i t g st =
@@ -290,9 +290,9 @@ fed_nothing service profile local e i t between idle una =
       queued = subst (λ (l : List ℕ). length l ≤ 65535) (sym idle.held) (omega arith);
     }
 
-goes_on_from : {State : Type 0} (service : Machine State) (profile : Profile) (e : Entry) (i : ℕ) → GoesOnFrom service e i
-    → GoesOn (resumed_at service e) i (delta_from service e i) (point_of service profile e)
-goes_on_from service profile e i g = record {
+proceeds_from : {State : Type 0} (service : Machine State) (profile : Profile) (e : Entry) (i : ℕ) → ProceedsFrom service e i
+    → Proceeds (resumed_at service e) i (delta_from service e i) (point_of service profile e)
+proceeds_from service profile e i g = record {
   shift = back_again (resumed_at service e) i e.sisn g.i_fits;
   small = g.small;
   sisn = g.sisn;
@@ -310,21 +310,21 @@ goes_on_from service profile e i g = record {
     back_again : (u i sisn : ℕ) → i < 2 ^ 32 → (i + ((sisn + u) % 2 ^ 32 + 2 ^ 32 - i) % 2 ^ 32) % 2 ^ 32 ≡ (sisn + u) % 2 ^ 32
     back_again u i sisn h = omega (arith, h)
 
-pub splices : {State : Type 0} (service : Machine State) (profile : Profile) (local : Addr) (e : Entry) (i : ℕ) → GoesOnFrom service e i
+pub splices : {State : Type 0} (service : Machine State) (profile : Profile) (local : Addr) (e : Entry) (i : ℕ) → ProceedsFrom service e i
     → StandsAtEntry service profile e i (spliced_measuring profile.measures e.key local e.cisn (length e.bytes) e.mss i e.fin)
 splices service profile local e i g =
     let t = whole service profile.measures local e i e.fin g g.fin in
     let tcb : Tcb = spliced_measuring profile.measures e.key local e.cisn (length e.bytes) e.mss i e.fin in
     let at = at_entry service profile local e i tcb g t.stands in
     record {
-      tcp = record { stands = record { begun = t.begun; between = t.between; stands = at; goes_on = goes_on_from service profile e i g }; named = t.named };
+      tcp = record { stands = record { begun = t.begun; between = t.between; stands = at; proceeds = proceeds_from service profile e i g }; named = t.named };
       feeds = fed_nothing service profile local e i tcb t.between t.idle (sym (itself_less (resumed_at service e)) ∙ at.sends.una);
       kept = t.kept;
       open_still = t.idle.closed;
     }
 
 -- with the north wrapper beside it that was replayed
-pub splices_parts : {S : Type 0} (service : Machine S) (profile : Profile) (local : Addr) (e : Entry) (i : ℕ) (n : NorthState S) → GoesOnFrom service e i
+pub splices_parts : {S : Type 0} (service : Machine S) (profile : Profile) (local : Addr) (e : Entry) (i : ℕ) (n : NorthState S) → ProceedsFrom service e i
     → HasReplayed service (point_of service profile e) (resumed_at service e) n
     → PartsStand service (resumed_at service e) i (delta_from service e i) (resumed_at service e) (point_of service profile e) n
     (spliced_measuring profile.measures e.key local e.cisn (length e.bytes) e.mss i e.fin)

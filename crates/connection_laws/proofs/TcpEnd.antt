@@ -168,11 +168,11 @@ ends_inside service boot u i delta news p q calls e sent st named unreset_p off 
     let inner : News = news_inside delta p news in
     let m : Tcb = arrived inner e in
     let w : Tcb = before_flush inner calls e in
-    let rises = stays u i delta news p st.goes_on t.fits in
+    let rises = stays u i delta news p st.proceeds t.fits in
     let una_above : u ≤ q.una = above u (acknowledged_after news p) q.una rises.una t.goes.una in
     let laws : MeetsLaws (swallowing u service) inner (inside u i p) (inside u i q) =
-    laws_inside service e.local boot u i delta news p q sent st.goes_on t.fits una_above t.given t.goes in
-    let usual = usual_news u i delta p e news st.goes_on st.stands t.fits in
+    laws_inside service e.local boot u i delta news p q sent st.proceeds t.fits una_above t.given t.goes in
+    let usual = usual_news u i delta p e news st.proceeds st.stands t.fits in
     let none : resets inner e ≡ false = unreset u i delta p e news st unreset_p t.fits off in
     let end : EndsAt (inside u i q) w =
     ends_law (swallowing u service) inner calls (inside u i p) (inside u i q) e st.begun st.between named st.stands usual l.may none l.ended laws l.used in
@@ -199,13 +199,13 @@ ends_inside service boot u i delta news p q calls e sent st named unreset_p off 
     let at_tick : is_tick news ≡ true → (p.rest == 1) ≡ false =
     λ tick.
     let same : q.una ≡ p.una = t.goes.una ∙ una_ticks news p tick in
-    let una : e.sending.una ≡ e.sending.sent = sym st.stands.sends.una ∙ less_same u q.una p.una w.sending.sent una_above st.goes_on.una same una_is ∙ sym e_sent in
+    let una : e.sending.una ≡ e.sending.sent = sym st.stands.sends.una ∙ less_same u q.una p.una w.sending.sent una_above st.proceeds.una same una_is ∙ sym e_sent in
     ap (λ n. n == 1) st.stands.rest
     ∙ stands_by e.sending.rest (must_run e.sending) st.between.runs
     (runs_not e.sending.syn_acked e.sending.fin_sent e.sending.una e.sending.sent (e.sending.una + length e.sending.held + one_if e.sending.closed) e_syn_acked fin_sent una) in
     let fin : q.fin ≡ true = end.receives.fin ∙ over.0 in
     let few : p.congestion.lost ≤ p.sent - p.una =
-    omega (arith, st.between.bounds.lost, st.stands.sent, st.stands.sends.una, ap (λ (c : Congestion). c.lost) st.stands.sends.congestion, st.goes_on.una) in
+    omega (arith, st.between.bounds.lost, st.stands.sent, st.stands.sends.una, ap (λ (c : Congestion). c.lost) st.stands.sends.congestion, st.proceeds.una) in
     let r : ReceivesAt (inside u i q) (flushed w) = flushed_receives (inside u i q) w end.receives in
     record {
       stands = record {
@@ -222,10 +222,10 @@ ends_inside service boot u i delta news p q calls e sent st named unreset_p off 
           una = end.sends.una ∙ sym (flush_keeps (λ (s : Sending). s.una) w (record { sends = λ s n. refl; ends = λ s. refl; times = λ s t x y. refl }));
           sent = end.sent ∙ sym (closed_sent w l.ended);
           above = una_above;
-          small = st.goes_on.small;
-          sisn = subst (λ n. n < 2 ^ 32) (sym t.goes.same.sisn) st.goes_on.sisn;
-          shift = st.goes_on.shift ∙ ap (λ n. (n + u) % 2 ^ 32) (sym t.goes.same.sisn);
-          delta_fits = st.goes_on.delta_fits;
+          small = st.proceeds.small;
+          sisn = subst (λ n. n < 2 ^ 32) (sym t.goes.same.sisn) st.proceeds.sisn;
+          shift = st.proceeds.shift ∙ ap (λ n. (n + u) % 2 ^ 32) (sym t.goes.same.sisn);
+          delta_fits = st.proceeds.delta_fits;
         };
         receives = record { cisn = r.cisn; limit = r.limit; read = r.read; long = r.long; unread = r.unread; fin = r.fin; early = r.early };
         over = λ j. fin j && lt_by (released service q) q.una past j;

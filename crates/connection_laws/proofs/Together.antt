@@ -22,7 +22,7 @@ use Rattle.ft_model.specs.Sending.{acknowledged_after, edge_after, congestion_af
 use Rattle.ft_model.specs.Taken.{taken_after, fin_after}
 use Rattle.ft_model.specs.Timer.{interval_after, rest_after, must_run, timing_noted}
 use Rattle.ft_model.proofs.Settled.{settled}
-use Rattle.ft_model.proofs.TurnTells.{settled_reads}
+use Rattle.ft_model.proofs.TurnReports.{settled_reads}
 use Rattle.tcp_endpoint.specs.declared.states.StateName.TheVariants.{Closed}
 use Rattle.tcp_endpoint.specs.Output.{full_out, leaving, flushed}
 use Rattle.tcp_endpoint.specs.ReceiveHalf as receiver
@@ -45,7 +45,7 @@ use Rattle.ft_model.proofs.Services.{RunExtends, goes_refl, prefix_length}
 use Rattle.connection_laws.specs.Inside.{inside}
 use Rattle.connection_laws.specs.Traffic.{news_inside, passed, tcp_out, needs_ack_besides, leaves}
 use Rattle.connection_laws.specs.Turn.{NewsFit, IsLater, TurnsInside}
-use Rattle.connection_laws.specs.ClosedTcp.{StandsClosed, EndsInside, GoesOnClosed}
+use Rattle.connection_laws.specs.ClosedTcp.{StandsClosed, EndsInside, ProceedsClosed}
 use Rattle.connection_laws.specs.OutputFeed.{tcp_reader, tcp_writer, Feeds, north_calls, FedBy}
 use Rattle.connection_laws.specs.Parts.{StandsOpen, PartsStand, PartsRest, PartsTurn, north_after_news, repeats, adds, leaves_with}
 use Rattle.connection_laws.proofs.Meets.{Moves, moves_inside_all, stays_inside, nothing_counts, is_syn_has, minus_none}
@@ -57,7 +57,7 @@ use Rattle.connection_laws.proofs.TcpEnd.{unreset, flushed_reset, ends_inside, o
 use Rattle.connection_laws.proofs.SendBuffer.{KeepsOutput, news_keep}
 use Rattle.connection_laws.proofs.Fed.{reading, answered_goes, fed_later, fed_arrived, fed_flushed, full_flushed, used_inside, from_start, north_calls_feed}
 use Rattle.connection_laws.proofs.Reassembly.{behind_at}
-use Rattle.connection_laws.proofs.Joining.{socket_laws, hears, heard_shut, socket_stands}
+use Rattle.connection_laws.proofs.Joining.{socket_laws, on_receipt, received_shut, socket_stands}
 use Rattle.endpoint_laws.proofs.SegmentsLaw.{begun_open}
 use Rattle.ft_io.proofs.Booleans.{second_of_three}
 use Rattle.ft_io.proofs.Numbers.{not_less_itself}
@@ -258,7 +258,7 @@ done_open service boot u i delta given given' news p q old new calls e sent true
     (record { may = s.by.may; begun = begun; used = s.by.is_used }) in
     record {
       tcp = inl (record { stands = t.stands; named = named_law inner calls e st.stands.begun st.stands.between st.named });
-      segments = open_leaves service e.local boot delta news p q sent (before_flush inner calls e) begun s.later st.stands.goes_on.timing s.before.north.fetched s.before.all_sent l t.segments;
+      segments = open_leaves service e.local boot delta news p q sent (before_flush inner calls e) begun s.later st.stands.proceeds.timing s.before.north.fetched s.before.all_sent l t.segments;
       closed = λ h. absurd (false≢true (sym (begun_open (before_flush inner calls e).name begun) ∙ h));
     }
 done_open service boot u i delta given given' news p q old new calls e sent false s l st ended =
@@ -279,7 +279,7 @@ done_closed : {S : Type 0} (service : Machine S) (boot u i delta given given' : 
     → IsDone service e.local u i delta news p q (before_flush (news_inside delta p news) calls e)
 done_closed service boot u i delta given given' news p q old new calls e sent s l st =
     let w : Tcb = before_flush (news_inside delta p news) calls e in
-    let t : GoesOnClosed service e.local u i delta news p q calls e =
+    let t : ProceedsClosed service e.local u i delta news p q calls e =
     outlives service e.local boot u i delta news p q calls e sent st l (record { may = s.by.may; read = s.by.is_used.read }) in
     record {
       tcp = inr t.stands;
@@ -341,9 +341,9 @@ at_open : {S : Type 0} (service : Machine S) (u i delta given : ℕ) (news : New
 at_open service u i delta given news p b n e stand fits off taken fin lengths fetched st =
     let inner : News = news_inside delta p news in
     let m : Tcb = arrived inner e in
-    let usual : IsUsualNews inner e = usual_news u i delta p e news st.stands.goes_on st.stands.stands fits in
+    let usual : IsUsualNews inner e = usual_news u i delta p e news st.stands.proceeds st.stands.stands fits in
     let came : Arrived inner (inside u i p) e m = arrives inner (inside u i p) e st.stands.begun st.stands.between st.stands.stands usual in
-    let moves : Moves news p u i inner = moves_inside_all u i delta p news st.stands.goes_on fits in
+    let moves : Moves news p u i inner = moves_inside_all u i delta p news st.stands.proceeds fits in
     let r = came.receives in
     let taken_is : taken_after inner (inside u i p) ≡ b.taken = moves.taken ∙ sym taken in
     let long : length b.taken ≡ receiver.taken m.receiving + b.fetched = ap length (sym taken_is) ∙ r.long ∙ ap (λ k. receiver.taken m.receiving + k) (sym fetched) in
@@ -405,8 +405,8 @@ turns_together service boot u i delta given news p old new reads e t st fits lat
     let run : RunExtends (answered_run service p) (answered_run service q) = answered_goes service news p q ks enough refl (reads_rise news p) refl in
     let run_b : RunExtends (answered_run service p) (answered_run service b) = answered_goes service news p b [] enough refl (reads_rise news p) (sym (append-nil p.lengths)) in
     let longer : released service p ≤ released service b = prefix_length _ _ run_b.output in
-    let north : NorthStands service b given (north_after_news news old) = hears service news p b given old refl refl refl refl st.north in
-    let shut : m.sending.closed ≡ (north_after_news news old).shut = at.keeps.closed ∙ st.shut ∙ sym (heard_shut news old) in
+    let north : NorthStands service b given (north_after_news news old) = on_receipt service news p b given old refl refl refl refl st.north in
+    let shut : m.sending.closed ≡ (north_after_news news old).shut = at.keeps.closed ∙ st.shut ∙ sym (received_shut news old) in
     let socket : SocketStands b (north_after_news news old) m.receiving.unread m.receiving.fin (is_ended m) = socket_stands b (north_after_news news old) m at.read at.unread at.fin at.kept shut in
     let turn : NorthTurn service tcp_reader tcp_writer b given (north_after_news news old) m reads new t =
     whole_turn service tcp_reader tcp_writer b given (acknowledged_after news p) (north_after_news news old) m reads new t socket_laws north socket refl (omega (arith, longer, st.feeds.low)) turns in
@@ -472,8 +472,8 @@ ticks_together service boot u i delta given p n e r =
     ⊎_elim (λ o. at_open service u i delta given Ticks p b n e st tt off refl refl refl refl o) (λ c. at_closed service u i delta given Ticks p b n e st refl refl refl refl c) st.tcp in
     let run : answered_run service q ≡ answered_run service p = same_run service p in
     let released_is : released service p ≡ released service q = ap (λ x. length x.output) (sym run) in
-    let goes_on : RunExtends (answered_run service p) (answered_run service q) = subst (RunExtends (answered_run service p)) (sym run) (goes_refl (answered_run service p)) in
-    let fed : Feeds service u q given m = fed_arrived service u q given e m at.keeps at.rises at.bounds.order at.flight (fed_later service u p q given e goes_on st.feeds) in
+    let proceeds : RunExtends (answered_run service p) (answered_run service q) = subst (RunExtends (answered_run service p)) (sym run) (goes_refl (answered_run service p)) in
+    let fed : Feeds service u q given m = fed_arrived service u q given e m at.keeps at.rises at.bounds.order at.flight (fed_later service u p q given e proceeds st.feeds) in
     let shut : m.sending.closed ≡ n.shut = at.keeps.closed ∙ st.shut in
     let exact : n.shut ≡ is_all_given service q given = r.exact ∙ sym (λ j. (run j).closed && same_made service p j == given) in
     let full : (given ≡ released service q) ⊎ (length m.sending.held ≡ 65535) =
@@ -494,7 +494,7 @@ ticks_together service boot u i delta given p n e r =
         exact = exact;
         all_or_full = full_flushed service q given m full;
       };
-      north = hears service Ticks p q given n refl (append-nil p.lengths) refl refl st.north;
+      north = on_receipt service Ticks p q given n refl (append-nil p.lengths) refl refl st.north;
     }) refl (goes service e.local boot Ticks p [] (no_more service p (p.lengths ++ []) r.no_read))
 
 -- at a tick no ACK waits for the log

@@ -8,7 +8,7 @@ use Rattle.ft_model.specs.Point.{Point, most}
 use Rattle.tcp_endpoint.specs.Tcb.{Tcb}
 use Rattle.endpoint_laws.specs.Laws.{IsUsual}
 use Rattle.endpoint_laws.specs.Refinement.{StandsAt}
-use Rattle.connection_laws.specs.Inside.{inside, GoesOn}
+use Rattle.connection_laws.specs.Inside.{inside, Proceeds}
 use Rattle.south_wrap.specs.Translation.{inward}
 use Rattle.south_wrap.specs.SouthState.{is_high}
 use Rattle.south_wrap.specs.SouthPoint.{south_at}
@@ -25,7 +25,7 @@ raised : (b : Bool) (w a s : ℕ) → w ≤ 65535 → (if b then min 65535 (w + 
 raised true w a s h = omega arith
 raised false w a s h = h
 
-pub usual_inside : (u i delta : ℕ) (p : Point) (e : Tcb) (segment : Segment) → GoesOn u i delta p → StandsAt (inside u i p) e
+pub usual_inside : (u i delta : ℕ) (p : Point) (e : Tcb) (segment : Segment) → Proceeds u i delta p → StandsAt (inside u i p) e
     → segment.head.ack < 2 ^ 32 → segment.head.seq < 2 ^ 32 → segment.head.window ≤ 65535 → length segment.payload ≤ 65535
     → (has_ack segment ≡ true → (pos 0 -ℤ pos (2 ^ 30)) ≤ℤ ack_of p.sisn segment) → IsUsual e (inward (south_at delta p) segment)
 usual_inside u i delta p e segment g st fits seq window text near =

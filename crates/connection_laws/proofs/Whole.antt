@@ -18,7 +18,7 @@ use Rattle.endpoint_laws.specs.Turn.{Call, IsUsualNews, before_flush, turned}
 use Rattle.tcp_endpoint.specs.Output.{flushed, with_turn_ended, with_advertised, after_full, with_fin_out, with_text_sent, with_probe, with_timed}
 use Rattle.endpoint_laws.specs.Refinement.{StandsAt, LeadsTo}
 use Rattle.endpoint_laws.proofs.Turns.{leads_law}
-use Rattle.connection_laws.specs.Inside.{swallowing, inside, GoesOn}
+use Rattle.connection_laws.specs.Inside.{swallowing, inside, Proceeds}
 use Rattle.connection_laws.specs.Traffic.{news_inside, passed, leaves}
 use Rattle.south_wrap.specs.Translation.{inward}
 use Rattle.south_wrap.specs.SouthPoint.{south_at}
@@ -27,15 +27,15 @@ use Rattle.connection_laws.proofs.Meets.{laws_inside}
 use Rattle.connection_laws.proofs.Sent.{sent_is}
 use Rattle.connection_laws.proofs.Delaying.{adds_none}
 use Rattle.connection_laws.proofs.Reassembly.{behind_at}
-use Rattle.connection_laws.proofs.Again.{stays, goes_on_again}
+use Rattle.connection_laws.proofs.Again.{stays, proceeds_again}
 use Rattle.connection_laws.proofs.Usual.{usual_inside}
 
-usual_by : (u i delta : ℕ) (p : Point) (e : Tcb) (segment : Segment) (b : Bool) → GoesOn u i delta p → StandsAt (inside u i p) e → SegmentFits p segment
+usual_by : (u i delta : ℕ) (p : Point) (e : Tcb) (segment : Segment) (b : Bool) → Proceeds u i delta p → StandsAt (inside u i p) e → SegmentFits p segment
     → IsUsualNews (if b then Begins else Comes (inward (south_at delta p) segment)) e
 usual_by u i delta p e segment true g st f = tt
 usual_by u i delta p e segment false g st f = usual_inside u i delta p e segment g st f.ack f.seq f.window f.text f.near
 
-pub usual_news : (u i delta : ℕ) (p : Point) (e : Tcb) (news : News) → GoesOn u i delta p → StandsAt (inside u i p) e → NewsFit p news → IsUsualNews (news_inside delta p news) e
+pub usual_news : (u i delta : ℕ) (p : Point) (e : Tcb) (news : News) → Proceeds u i delta p → StandsAt (inside u i p) e → NewsFit p news → IsUsualNews (news_inside delta p news) e
 usual_news u i delta p e (Comes segment) g st f = usual_by u i delta p e segment (repeats_syn p segment) g st f
 usual_news u i delta p e (Logged kept) g st f = tt
 usual_news u i delta p e Ticks g st f = tt
@@ -57,17 +57,17 @@ pub turns_inside : {State : Type 0} (service : Machine State) (boot u i delta : 
     → TurnsInside service u i delta news p q calls e
 turns_inside service boot u i delta news p q calls e sent st t uses =
     let inner : News = news_inside delta p news in
-    let rises = stays u i delta news p st.goes_on t.fits in
+    let rises = stays u i delta news p st.proceeds t.fits in
     let led : LeadsTo (swallowing u service) inner (inside u i p) (inside u i q) e calls =
-    leads_law (swallowing u service) inner calls (inside u i p) (inside u i q) e st.begun st.between st.stands (usual_news u i delta p e news st.goes_on st.stands t.fits) uses.may uses.begun
-    (laws_inside service e.local boot u i delta news p q sent st.goes_on t.fits (above u (acknowledged_after news p) q.una rises.una t.goes.una) t.given t.goes) uses.used in
-    let after : GoesOn u i delta q =
-    goes_on_again service e.local boot u i delta news p q sent st.goes_on t.fits t.goes
-    (short u q.sent (turned inner calls e).sending.sent (turned inner calls e).sending.fin_sent st.goes_on.small led.stands.sent led.between.bounds.sent)
+    leads_law (swallowing u service) inner calls (inside u i p) (inside u i q) e st.begun st.between st.stands (usual_news u i delta p e news st.proceeds st.stands t.fits) uses.may uses.begun
+    (laws_inside service e.local boot u i delta news p q sent st.proceeds t.fits (above u (acknowledged_after news p) q.una rises.una t.goes.una) t.given t.goes) uses.used in
+    let after : Proceeds u i delta q =
+    proceeds_again service e.local boot u i delta news p q sent st.proceeds t.fits t.goes
+    (short u q.sent (turned inner calls e).sending.sent (turned inner calls e).sending.fin_sent st.proceeds.small led.stands.sent led.between.bounds.sent)
     (subst KeepsTime (sym led.stands.timing) led.between.bounds.timing) in
     record {
-      stands = record { begun = begun_still (before_flush inner calls e) ∙ uses.begun; between = led.between; stands = led.stands; goes_on = after };
+      stands = record { begun = begun_still (before_flush inner calls e) ∙ uses.begun; between = led.between; stands = led.stands; proceeds = after };
       segments = (λ j. leaves service e.local news p q (passed delta q (if is_delayed news p q then led.full j else led.segments j)))
-          ∙ sent_is service e.local boot news p q sent u i delta t st.goes_on after
+          ∙ sent_is service e.local boot news p q sent u i delta t st.proceeds after
           (adds_none service e.local boot news p q sent (behind_at (inside u i p) e st.stands.receives st.between.bounds) t.goes);
     }

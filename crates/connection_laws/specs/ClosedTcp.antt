@@ -71,7 +71,7 @@ pub record ReadsOn (delta : ℕ) (news : News) (p q : Point) (calls : List Call)
   pub read : max q.fetched (sum q.lengths) ≡ (before_flush (news_inside delta p news) calls e).receiving.read + q.fetched
 
 -- TCP then answers at most with a RST, which isn't passed on
-pub record GoesOnClosed {State : Type 0} (service : Machine State) (server : Addr) (u i delta : ℕ) (news : News) (p q : Point) (calls : List Call)
+pub record ProceedsClosed {State : Type 0} (service : Machine State) (server : Addr) (u i delta : ℕ) (news : News) (p q : Point) (calls : List Call)
     (e : Tcb) : Type 0 where
   pub stands : StandsClosed service u i delta q (turned (news_inside delta p news) calls e)
   pub silent : passed delta q (sent_in (news_inside delta p news) calls e) ≡ []

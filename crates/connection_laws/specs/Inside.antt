@@ -44,7 +44,7 @@ inside u i p =
 
 -- The output of a connection continues inside at u, with the initial sequence number i: delta is the difference of one unit's sequence numbers, and u isn't
 -- past what is acknowledged, sent, or allowed by the client's window
-pub record GoesOn (u i delta : ℕ) (p : Point) : Type 0 where
+pub record Proceeds (u i delta : ℕ) (p : Point) : Type 0 where
   pub shift : (i + delta) % 2 ^ 32 ≡ (p.sisn + u) % 2 ^ 32
   pub small : u ≤ longest_stream
   pub sisn : p.sisn < 2 ^ 32

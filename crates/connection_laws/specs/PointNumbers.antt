@@ -14,11 +14,11 @@ use Rattle.endpoint_laws.specs.ConnectionEnd.{has_taken_fin}
 use Rattle.north_wrap.specs.NorthState.{NorthState}
 
 -- a TCP that isn't reset shows by its state whether the client's FIN is taken, and whether the connection is over
-abbrev pub tells_fin : Tcb → Bool
-tells_fin e = has_taken_fin e.name || is_closed e.name
+abbrev pub reports_fin : Tcb → Bool
+reports_fin e = has_taken_fin e.name || is_closed e.name
 
-abbrev pub tells_over : Tcb → Bool
-tells_over e = is_time_wait e.name || is_closed e.name
+abbrev pub reports_over : Tcb → Bool
+reports_over e = is_time_wait e.name || is_closed e.name
 
 -- the sequence number up to which output is acknowledged; until the SYN is acknowledged, that of the SYN
 abbrev pub acked_at : (syn_acked : Bool) → (sisn una : ℕ) → ℕ
@@ -32,10 +32,10 @@ abbrev pub units_before : (sisn number : ℕ) → ℕ
 units_before sisn number = from_start (offset_of sisn number)
 
 -- between two turns: the bytes taken, the FIN, whether it is over, and TCP's numbers, which are delta below the client's
-pub record PartsTell {S : Type 0} (service : Machine S) (delta : ℕ) (p : Point) (n : NorthState S) (e : Tcb) : Type 0 where
+pub record PartsShow {S : Type 0} (service : Machine S) (delta : ℕ) (p : Point) (n : NorthState S) (e : Tcb) : Type 0 where
   pub taken : length p.taken ≡ max p.fetched n.read + length e.receiving.unread
-  pub fin : p.fin ≡ tells_fin e
-  pub over : is_over service p ≡ tells_over e
+  pub fin : p.fin ≡ reports_fin e
+  pub over : is_over service p ≡ reports_over e
   pub sent : sent_number e ≡ distance (number_at p.sisn p.sent) delta
   pub acked : acked_number e ≡ distance (acked_at p.syn_acked p.sisn p.una) delta
   pub sent_outside : raised_by delta (sent_number e) ≡ number_at p.sisn p.sent
@@ -45,10 +45,10 @@ pub record PartsTell {S : Type 0} (service : Machine S) (delta : ℕ) (p : Point
   pub few : p.sent ≤ n.run.made + 1
 
 -- once the news has arrived, before the north wrapper's turn
-pub record NewsTell {S : Type 0} (delta : ℕ) (news : News) (p : Point) (n : NorthState S) (m : Tcb) : Type 0 where
+pub record NewsShow {S : Type 0} (delta : ℕ) (news : News) (p : Point) (n : NorthState S) (m : Tcb) : Type 0 where
   pub taken : length (taken_after news p) ≡ max p.fetched n.read + length m.receiving.unread
   pub unread : drop (max p.fetched n.read) (taken_after news p) ≡ m.receiving.unread
-  pub fin : fin_after news p ≡ tells_fin m
+  pub fin : fin_after news p ≡ reports_fin m
   pub acked : acked_number m ≡ distance (acked_at (syn_acked_after news p) p.sisn (acknowledged_after news p)) delta
   pub acked_units : units_before p.sisn (raised_by delta (acked_number m)) ≡ acknowledged_after news p
   pub few : acknowledged_after news p ≤ n.run.made + 1

@@ -65,7 +65,7 @@ abbrev pub spliced : Key → Addr → (cisn fetched mss i : ℕ) → (fin : Bool
 spliced = spliced_measuring false
 
 -- the entry and the initial sequence number from which a restart continues
-pub record GoesOnFrom {State : Type 0} (service : Machine State) (e : Entry) (i : ℕ) : Type 0 where
+pub record ProceedsFrom {State : Type 0} (service : Machine State) (e : Entry) (i : ℕ) : Type 0 where
   pub least : least_segment ≤ e.mss
   pub most : e.mss ≤ largest_segment
   pub short : length e.bytes ≤ longest_stream

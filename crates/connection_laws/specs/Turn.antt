@@ -14,7 +14,7 @@ use Rattle.tcp_endpoint.specs.States.{has_begun}
 use Rattle.tcp_endpoint.specs.Tcb.{Tcb}
 use Rattle.endpoint_laws.specs.Turn.{Call, MayUse, IsBetweenTurns, arrived, before_flush, turned}
 use Rattle.endpoint_laws.specs.Refinement.{StandsAt, IsUsedAt}
-use Rattle.connection_laws.specs.Inside.{swallowing, inside, GoesOn}
+use Rattle.connection_laws.specs.Inside.{swallowing, inside, Proceeds}
 use Rattle.connection_laws.specs.Traffic.{news_inside, passed, tcp_out, leaves}
 
 -- a segment whose fields fit their bytes, and which acknowledges nothing far before the stream
@@ -48,7 +48,7 @@ pub record StandsInside (u i delta : ℕ) (p : Point) (e : Tcb) : Type 0 where
   pub begun : has_begun e.name ≡ true
   pub between : IsBetweenTurns e
   pub stands : StandsAt (inside u i p) e
-  pub goes_on : GoesOn u i delta p
+  pub proceeds : Proceeds u i delta p
 
 -- what the connection does with TCP in a turn: TCP's user reads and writes as the service without the swallowed output, and the turn doesn't end TCP
 pub record UsesInside {State : Type 0} (service : Machine State) (u i delta : ℕ) (news : News) (p q : Point) (calls : List Call) (e : Tcb) : Type 0 where

@@ -27,13 +27,13 @@ ghost use Rattle.north_wrap.specs.declared.read_record.ReadRecord.{ReadRecord};
 ghost use Rattle.north_wrap.specs.NorthState.{Turns as NorthTurns, NorthState, lengths_of};
 ghost use Rattle.north_wrap.specs.Refinement.{NorthStands, HasReplayed, given_text, off_socket};
 ghost use Rattle.connection_laws.specs.FirstSyn.{MayOpen, BeginsInside, opened_syn, listens_with};
-ghost use Rattle.connection_laws.specs.ClosedTcp.{StandsClosed, LeavesInside, EndsInside, ReadsOn, GoesOnClosed};
+ghost use Rattle.connection_laws.specs.ClosedTcp.{StandsClosed, LeavesInside, EndsInside, ReadsOn, ProceedsClosed};
 ghost use Rattle.connection_laws.specs.OutputFeed.{tcp_reader, tcp_writer, TurnsNorth, FedInside, north_calls, before_reads, given_after};
 ghost use Rattle.connection_laws.specs.Traffic.{news_inside};
 ghost use Rattle.connection_laws.specs.Parts.{PartsStand, PartsRest, PartsTurn, north_after_news, adds};
-ghost use Rattle.connection_laws.specs.PointNumbers.{PartsTell, NewsTell};
+ghost use Rattle.connection_laws.specs.PointNumbers.{PartsShow, NewsShow};
 ghost use Rattle.connection_laws.specs.Turn.{NewsFit, IsLater, Turns, StandsInside, UsesInside, TurnsInside};
-ghost use Rattle.connection_laws.specs.Splice.{GoesOnFrom, delta_from, StandsAtEntry, spliced_measuring};
+ghost use Rattle.connection_laws.specs.Splice.{ProceedsFrom, delta_from, StandsAtEntry, spliced_measuring};
 
 use server_trait::Service;
 
@@ -50,9 +50,9 @@ pub fn connections_turn_by_their_tcp<S: Service>()
 /// A fresh endpoint that has received the forged segments of an entry is at the point inside that of the entry. The parts of a connection are then at the point
 /// of the entry, if its north wrapper was replayed.
 pub fn splices_stand_at_the_entry<S: Service>()
-    ensures tcp { (fresh : S) (profile : Profile) (i : ℕ) (local : Addr) (e : Entry) → GoesOnFrom (machine fresh S.after S.greeting) e i
+    ensures tcp { (fresh : S) (profile : Profile) (i : ℕ) (local : Addr) (e : Entry) → ProceedsFrom (machine fresh S.after S.greeting) e i
         → StandsAtEntry (machine fresh S.after S.greeting) profile e i (spliced_measuring profile.measures e.key local e.cisn (length e.bytes) e.mss i e.fin) }
-    ensures parts { (fresh : S) (profile : Profile) (i : ℕ) (local : Addr) (e : Entry) (n : NorthState S) → GoesOnFrom (machine fresh S.after S.greeting) e i
+    ensures parts { (fresh : S) (profile : Profile) (i : ℕ) (local : Addr) (e : Entry) (n : NorthState S) → ProceedsFrom (machine fresh S.after S.greeting) e i
         → HasReplayed (machine fresh S.after S.greeting) (point_of (machine fresh S.after S.greeting) profile e)
         (resumed_at (machine fresh S.after S.greeting) e) n
         → PartsStand (machine fresh S.after S.greeting) (resumed_at (machine fresh S.after S.greeting) e) i (delta_from (machine fresh S.after S.greeting) e i)
@@ -84,7 +84,7 @@ pub fn connections_outlive_their_tcp<S: Service>()
     ensures { (fresh : S) (boot u i delta : ℕ) (server : Addr) (news : News) (before after : Point) (calls : List Call) (e : Tcb) (sent : List Packet)
         → StandsClosed (machine fresh S.after S.greeting) u i delta before e → LiveTurn (machine fresh S.after S.greeting) server boot news before after sent
         → ReadsOn delta news before after calls e
-        → GoesOnClosed (machine fresh S.after S.greeting) server u i delta news before after calls e }
+        → ProceedsClosed (machine fresh S.after S.greeting) server u i delta news before after calls e }
 {}
 
 /// A RST at exactly the next number would reset TCP where it resets the connection, and nowhere else.
@@ -142,20 +142,20 @@ pub fn north_feeds_tcp<S: Service>()
 
 /// Between two turns the parts of a connection show its numbers: the bytes taken, the FIN, whether it is over, and what is sent and acknowledged. TCP's numbers
 /// are the client's, less delta. It is in TIME-WAIT or CLOSED exactly where the connection is over.
-pub fn parts_tell_the_point<S: Service>()
+pub fn parts_show_the_point<S: Service>()
     ensures { (fresh : S) (u i delta given : ℕ) (p : Point) (n : NorthState S) (e : Tcb) → PartsStand (machine fresh S.after S.greeting) u i delta given p n e
-        → PartsTell (machine fresh S.after S.greeting) delta p n e }
+        → PartsShow (machine fresh S.after S.greeting) delta p n e }
 {}
 
 /// Once a turn's news has arrived, the parts show what the laws on taking and on acknowledgements lead to.
-pub fn news_tell_the_point<S: Service>()
+pub fn news_show_the_point<S: Service>()
     ensures { (fresh : S) (u i delta given : ℕ) (news : News) (p : Point) (n : NorthState S) (e : Tcb)
         → PartsStand (machine fresh S.after S.greeting) u i delta given p n e
-        → NewsFit p news → reset_after news p ≡ false → NewsTell delta news p n (arrived (news_inside delta p news) e) }
+        → NewsFit p news → reset_after news p ≡ false → NewsShow delta news p n (arrived (news_inside delta p news) e) }
 {}
 
 /// A connection that its client has reset only learns what is logged, and so does its north wrapper.
-pub fn reset_connections_hear_what_is_logged<S: Service>()
+pub fn reset_connections_receive_what_is_logged<S: Service>()
     ensures { (fresh : S) (boot given : ℕ) (news : News) (before after : Point) (n : NorthState S) (sent : List Packet)
         → NorthStands (machine fresh S.after S.greeting) before given n → ResetTurn boot news before after sent
         → NorthStands (machine fresh S.after S.greeting) after given (north_after_news news n) }

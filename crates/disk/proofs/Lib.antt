@@ -1,4 +1,4 @@
 mod Deaths
-pub mod Telling
+pub mod Reporting
 pub mod Writing
 pub mod Ends

@@ -27,6 +27,6 @@ link_calls (OnLink call ∷ calls) = call ∷ link_calls calls
 link_calls (OnDisk call ∷ calls) = link_calls calls
 
 -- the record of a disk or desk in memory; there is none once an allocation has failed in a call
-abbrev pub told_if : {A : Type 0} → Bool → List A → Option (List A)
-told_if true calls = None
-told_if false calls = Some calls
+abbrev pub reported_if : {A : Type 0} → Bool → List A → Option (List A)
+reported_if true calls = None
+reported_if false calls = Some calls

@@ -7,7 +7,7 @@ use Rattle.ft_system.specs.MemLink.{LinkState}
 use Rattle.ft_system.specs.NumberedCalls.{Calls, no_call}
 use Rattle.disk.specs.declared.calls.DeskCall.{DeskCall}
 use Rattle.disk.specs.declared.calls.DeskCall.TheVariants.{OnLink}
-use Rattle.disk.specs.CallRecord.{told_if}
+use Rattle.disk.specs.CallRecord.{reported_if}
 use Rattle.disk.specs.MemDisk as disks
 use Rattle.disk.specs.MemDisk.{DiskState}
 
@@ -51,12 +51,12 @@ fresh_desk link disk name open_fails is_in_use =
     }
 
 -- the record of the calls on both; there is none once an allocation for it has failed
-abbrev pub told_of : DeskState → Option (List DeskCall)
-told_of desk = disks.told_of desk.disk
+abbrev pub reported_of : DeskState → Option (List DeskCall)
+reported_of desk = disks.reported_of desk.disk
 
 -- which of its receives waited; there is no record once an allocation for it has failed
 abbrev pub waits_of : DeskState → Option (List Bool)
-waits_of desk = told_if desk.forgets_waits desk.waits
+waits_of desk = reported_if desk.forgets_waits desk.waits
 
 -- the content of the file of this name: of the desk's own file what isn't read yet, and of any other nothing, since it is new
 abbrev pub file_of : DeskState → List ℕ → Option (List ℕ)

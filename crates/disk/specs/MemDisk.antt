@@ -4,7 +4,7 @@ use Rattle.std.specs.declared.option.Option.{Option}
 use Rattle.ft_io.specs.Faults.{raised}
 use Rattle.ft_system.specs.NumberedCalls.{Calls, no_call, after_call}
 use Rattle.disk.specs.declared.calls.DeskCall.{DeskCall}
-use Rattle.disk.specs.CallRecord.{told_if}
+use Rattle.disk.specs.CallRecord.{reported_if}
 
 -- a file in memory, as its callers see it
 pub record DiskState : Type 0 where
@@ -42,8 +42,8 @@ fresh_disk first read_fails fails =
     }
 
 -- the record of all its calls; there is none once an allocation has failed in one
-abbrev pub told_of : DiskState → Option (List DeskCall)
-told_of disk = told_if disk.is_starved disk.calls
+abbrev pub reported_of : DiskState → Option (List DeskCall)
+reported_of disk = reported_if disk.is_starved disk.calls
 
 -- a call was recorded
 abbrev pub noted : DiskState → DeskCall → DiskState

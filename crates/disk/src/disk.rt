@@ -4,7 +4,7 @@ ghost use Rattle.std.specs.Prelude.{◌≡◌, ◌≤◌, ◌<◌, ℕ, List, []
 ghost use Rattle.std.specs.declared.option.Option.{Option};
 ghost use Rattle.std.specs.Io.KnownBytes.{ReadConsumes, IsAtEnd};
 ghost use Rattle.ft_io.specs.Faults.{Rose};
-ghost use Rattle.ft_io.specs.Told.{Tells};
+ghost use Rattle.ft_io.specs.Reported.{Reports};
 ghost use Rattle.disk.specs.Counts.{Beside};
 ghost use Rattle.disk.specs.declared.calls.DeskCall.{DeskCall};
 ghost use Rattle.disk.specs.declared.calls.DeskCall.TheVariants.{OnDisk};
@@ -16,7 +16,7 @@ use ft_io::Failed;
 pub trait Disk {
     /// The calls that changed the file since it was opened, the oldest first, or `None` where they aren't recorded. On a desk the calls on its network are
     /// among them.
-    ghost told: { Self → Option (List DeskCall) };
+    ghost reported: { Self → Option (List DeskCall) };
 
     /// The bytes that it had when it was opened and that aren't read yet, or `None` where its content isn't specified.
     ghost left: { Self → Option (List ℕ) };
@@ -37,35 +37,35 @@ pub trait Disk {
         ensures within { IfOk result (λ n. n ≤ length buf.new) }
         ensures bytes { ReadConsumes (left self.old) (left self.new) result buf.new }
         ensures end { IfOk result (λ n. n ≡ 0 → IsAtEnd (left self.old)) }
-        ensures told { Tells (told self.old) (told self.new) [] }
+        ensures reported { Reports (reported self.old) (reported self.new) [] }
         ensures cause { OnErr result (Rose (fault_count self.old) (fault_count self.new)) }
         ensures never_falls { fault_count self.old ≤ fault_count self.new }
         ensures beside { beside self.new ≡ beside self.old };
 
     /// Appends bytes at the end. After `Failed` some of them may be there.
     fn append(&mut self, bytes: &[u8]) -> Result<(), Failed>
-        ensures told { Tells (told self.old) (told self.new) (OnDisk (Appended bytes.now (is_err result)) ∷ []) }
+        ensures reported { Reports (reported self.old) (reported self.new) (OnDisk (Appended bytes.now (is_err result)) ∷ []) }
         ensures cause { OnErr result (Rose (fault_count self.old) (fault_count self.new)) }
         ensures never_falls { fault_count self.old ≤ fault_count self.new }
         ensures beside { beside self.new ≡ beside self.old };
 
     /// Replaces the byte at the place `at`, counted from 0. After `Failed` it may be replaced or not.
     fn put(&mut self, at: u64, byte: u8) -> Result<(), Failed>
-        ensures told { Tells (told self.old) (told self.new) (OnDisk (Put at byte (is_err result)) ∷ []) }
+        ensures reported { Reports (reported self.old) (reported self.new) (OnDisk (Put at byte (is_err result)) ∷ []) }
         ensures cause { OnErr result (Rose (fault_count self.old) (fault_count self.new)) }
         ensures never_falls { fault_count self.old ≤ fault_count self.new }
         ensures beside { beside self.new ≡ beside self.old };
 
     /// Cuts off the bytes from the place `at` on, counted from 0. After `Failed` they may be cut off or not.
     fn cut(&mut self, at: u64) -> Result<(), Failed>
-        ensures told { Tells (told self.old) (told self.new) (OnDisk (Cut at (is_err result)) ∷ []) }
+        ensures reported { Reports (reported self.old) (reported self.new) (OnDisk (Cut at (is_err result)) ∷ []) }
         ensures cause { OnErr result (Rose (fault_count self.old) (fault_count self.new)) }
         ensures never_falls { fault_count self.old ≤ fault_count self.new }
         ensures beside { beside self.new ≡ beside self.old };
 
     /// Waits until all that was done is on the disk, and the file's name if it is a new one. After `Failed` it may be there or not.
     fn sync(&mut self) -> Result<(), Failed>
-        ensures told { Tells (told self.old) (told self.new) (OnDisk (Synced (is_err result)) ∷ []) }
+        ensures reported { Reports (reported self.old) (reported self.new) (OnDisk (Synced (is_err result)) ∷ []) }
         ensures cause { OnErr result (Rose (fault_count self.old) (fault_count self.new)) }
         ensures never_falls { fault_count self.old ≤ fault_count self.new }
         ensures beside { beside self.new ≡ beside self.old };

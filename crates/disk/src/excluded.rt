@@ -4,12 +4,12 @@
 ghost use Rattle.std.specs.Prelude.{◌≡◌, ◌≤◌, false, true, length, take, [], ◌∷◌, ◌++◌, option_map, IsErr, IfOk, OnOk, OnErr};
 ghost use Rattle.std.specs.Bool.{OnTrue};
 ghost use Rattle.ft_io.specs.declared.link_call.LinkCall.TheVariants.{Handed};
-ghost use Rattle.ft_io.specs.Told.{Tells};
+ghost use Rattle.ft_io.specs.Reported.{Reports};
 ghost use Rattle.disk.specs.declared.calls.DeskCall.TheVariants.{OnLink, OnDisk};
 ghost use Rattle.disk.specs.declared.calls.DiskCall.TheVariants.{Synced};
 ghost use Rattle.disk.specs.FileContent.{EndsAt};
 ghost use Rattle.disk.specs.MemDesk.{waits_of};
-ghost use Rattle.disk.specs.MemDisk.{told_of};
+ghost use Rattle.disk.specs.MemDisk.{reported_of};
 
 use crate::death::cut_off;
 use crate::{Desk, DeskCall, Disk, FileDisk, MemDesk, MemDisk, OpenFile, ShelfEnd};
@@ -22,9 +22,9 @@ fn a_cut_one_byte_off(bytes: &mut Vec<u8>, at: u64)
     cut_off(bytes, at);
 }
 
-/// A sync that fails is recorded as one that failed: the clauses `failed` and `told` of `MemDisk::sync`.
-fn a_failed_sync_is_told_as_done(disk: &mut MemDisk) -> Result<(), Failed>
-    ensures { OnErr result (Tells (told_of disk.old) (told_of disk.new) (OnDisk (Synced true) ∷ [])) }
+/// A sync that fails is recorded as one that failed: the clauses `failed` and `reported` of `MemDisk::sync`.
+fn a_failed_sync_is_reported_as_done(disk: &mut MemDisk) -> Result<(), Failed>
+    ensures { OnErr result (Reports (reported_of disk.old) (reported_of disk.new) (OnDisk (Synced true) ∷ [])) }
 {
     disk.sync()
 }
@@ -38,7 +38,7 @@ fn a_file_in_use_is_opened(desk: &mut MemDesk) -> Result<(), ShelfEnd>
 }
 
 /// A send that comes after a sync is recorded behind it: the clause `noted` of `MemDisk::note`.
-fn a_send_told_before_the_sync_that_came_first(disk: &mut MemDisk, to: Addr, bytes: Octets) -> bool
+fn a_send_reported_before_the_sync_that_came_first(disk: &mut MemDisk, to: Addr, bytes: Octets) -> bool
     requires { disk.old.calls ≡ OnDisk (Synced false) ∷ [] }
     ensures { OnTrue result (disk.new.calls ≡ OnDisk (Synced false) ∷ OnLink (Handed to bytes false) ∷ []) }
 {
@@ -57,7 +57,7 @@ fn a_short_write_is_taken_for_all<F: OpenFile + Drop>(
 }
 
 /// After a sync that succeeds all that the file has is on the disk: the clause `synced` of `FileDisk::sync`.
-fn a_failed_sync_of_the_file_is_told_as_done<F: OpenFile + Drop>(
+fn a_failed_sync_of_the_file_is_reported_as_done<F: OpenFile + Drop>(
     disk: &mut FileDisk<F>,
 ) -> Result<(), Failed>
     ensures { OnOk result (F.synced disk.new.file ≡ F.content disk.old.file) }
@@ -83,7 +83,7 @@ fn a_cut_keeps_the_length<F: OpenFile + Drop>(disk: &mut FileDisk<F>, at: u64) -
 /// A receive that doesn't wait is recorded as such: the clause `waits` of `MemDesk::recv_waiting`.
 fn a_receive_always_waits(desk: &mut MemDesk, buf: &mut [u8]) -> bool
     requires { 2048 ≤ length buf.old }
-    ensures { Tells (waits_of desk.old) (waits_of desk.new) (false ∷ []) }
+    ensures { Reports (waits_of desk.old) (waits_of desk.new) (false ∷ []) }
 {
     desk.recv_waiting(buf).is_ok()
 }

@@ -134,7 +134,7 @@ pub(crate) fn counted<T: Drop>(faults: &mut u64, done: Result<T, Failed>) -> Res
 }
 
 impl<F: OpenFile + Drop> Disk for FileDisk<F> {
-    ghost told = { λ _. None };
+    ghost reported = { λ _. None };
 
     ghost left = { λ _. None };
 

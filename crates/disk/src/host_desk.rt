@@ -7,7 +7,7 @@ ghost use Rattle.disk.specs.HostDesk.{fresh_desk};
 use crate::file_disk::counted;
 use crate::std_file::keep_name;
 use crate::{Desk, Disk, FileDisk, ShelfEnd, StdFile};
-use ft_io::{Addr, Failed, Heard};
+use ft_io::{Addr, Failed, Receipt};
 use std::alloc::{AllocError, Global};
 use std::fs::{File, Files};
 use std::marker::Model;
@@ -190,7 +190,7 @@ fn nanoseconds<R: Clock>(clock: &R) -> Option<u64> {
 }
 
 impl<'a, R: Net + Clock + Files<File = File>> Disk for HostDesk<'a, R> {
-    ghost told = { λ _. None };
+    ghost reported = { λ _. None };
 
     ghost left = { λ _. None };
 
@@ -365,14 +365,14 @@ impl<'a, R: Net + Clock + Files<File = File>> Desk for HostDesk<'a, R> {
         counted(&mut self.link_faults, sent)
     }
 
-    fn recv(&mut self, buf: &mut [u8]) -> Result<Heard, Failed> {
-        let heard = receive_by(&mut self.socket, true, buf);
-        counted(&mut self.link_faults, heard)
+    fn recv(&mut self, buf: &mut [u8]) -> Result<Receipt, Failed> {
+        let receipt = receive_by(&mut self.socket, true, buf);
+        counted(&mut self.link_faults, receipt)
     }
 
-    fn recv_waiting(&mut self, buf: &mut [u8]) -> Result<Heard, Failed> {
-        let heard = receive_by(&mut self.socket, false, buf);
-        counted(&mut self.link_faults, heard)
+    fn recv_waiting(&mut self, buf: &mut [u8]) -> Result<Receipt, Failed> {
+        let receipt = receive_by(&mut self.socket, false, buf);
+        counted(&mut self.link_faults, receipt)
     }
 }
 
@@ -404,16 +404,16 @@ impl Bound {
     }
 
     /// Receives a datagram, or nothing. `None` where the socket fails.
-    fn receive(&mut self, waits: bool, buf: &mut [u8]) -> Option<Heard>
-        ensures { IfSome result (λ heard. HasAtMost heard (length buf.new)) }
+    fn receive(&mut self, waits: bool, buf: &mut [u8]) -> Option<Receipt>
+        ensures { IfSome result (λ receipt. HasAtMost receipt (length buf.new)) }
     {
         self.set_waits(waits).ok()?;
         match self.socket.recv_from(buf) {
-            Ok((len, from)) => Some(Heard::Got {
+            Ok((len, from)) => Some(Receipt::Got {
                 len,
                 from: addr_of(from)?,
             }),
-            Err(error) if is_silence(error.kind()) => Some(Heard::Nothing),
+            Err(error) if is_silence(error.kind()) => Some(Receipt::Nothing),
             Err(_) => None,
         }
     }
@@ -437,8 +437,8 @@ fn send_by(socket: &mut Option<Bound>, to: Addr, bytes: &[u8]) -> Result<(), Fai
     }
 }
 
-fn receive_by(socket: &mut Option<Bound>, waits: bool, buf: &mut [u8]) -> Result<Heard, Failed>
-    ensures { IfOk result (λ heard. HasAtMost heard (length buf.new)) }
+fn receive_by(socket: &mut Option<Bound>, waits: bool, buf: &mut [u8]) -> Result<Receipt, Failed>
+    ensures { IfOk result (λ receipt. HasAtMost receipt (length buf.new)) }
 {
     let Some(bound) = socket else {
         return Err(Failed);

@@ -7,18 +7,18 @@ ghost use Rattle.std.specs.Bool.{OnTrue, OnFalse};
 ghost use Rattle.ft_io.specs.declared.link_call.LinkCall.TheVariants.{Handed};
 ghost use Rattle.ft_system.specs.Arrival.{arriving};
 ghost use Rattle.ft_io.specs.Faults.{Rose};
-ghost use Rattle.ft_io.specs.Link.{bind_told, send_told, recv_told, heard_as, HasAtMost};
+ghost use Rattle.ft_io.specs.Link.{bind_reported, send_reported, recv_reported, received_as, HasAtMost};
 ghost use Rattle.ft_system.specs.MemLink.{BindFails};
 ghost use Rattle.ft_system.specs.NumberedCalls.{IsNextListed};
-ghost use Rattle.ft_io.specs.Told.{Tells};
+ghost use Rattle.ft_io.specs.Reported.{Reports};
 ghost use Rattle.std.specs.Str.{bytes_eq};
 ghost use Rattle.disk.specs.Death.{left_of};
 ghost use Rattle.disk.specs.Remains.{LeftBy};
 ghost use Rattle.disk.specs.CallRecord.{on_link, disk_calls};
-ghost use Rattle.disk.specs.MemDesk.{fresh_desk, told_of, waits_of, file_of, noted, starved, IsStarved};
+ghost use Rattle.disk.specs.MemDesk.{fresh_desk, reported_of, waits_of, file_of, noted, starved, IsStarved};
 
 use crate::{Death, Desk, DeskCall, Disk, MemDisk, ShelfEnd};
-use ft_io::{Addr, Failed, Heard, Link, LinkCall, NoMemory, Octets};
+use ft_io::{Addr, Failed, Receipt, Link, LinkCall, NoMemory, Octets};
 use ft_system::{MemLink, NumberedCalls};
 use std::alloc::Global;
 use std::marker::Model;
@@ -88,11 +88,11 @@ impl MemDesk {
     }
 
     /// The calls so far, the oldest first, or `None` once an allocation for their record has failed.
-    pub fn told(&self) -> Option<&[DeskCall]>
-        ensures some { IfSome result (λ calls. told_of self.now ≡ Some calls.now) }
-        ensures none { result ≡ None → told_of self.now ≡ None }
+    pub fn reported(&self) -> Option<&[DeskCall]>
+        ensures some { IfSome result (λ calls. reported_of self.now ≡ Some calls.now) }
+        ensures none { result ≡ None → reported_of self.now ≡ None }
     {
-        self.disk.told()
+        self.disk.reported()
     }
 
     /// Of each receive so far, the oldest first, whether it waits; or `None` once an allocation for that has failed.
@@ -136,12 +136,12 @@ impl MemDesk {
     }
 
     /// Records what was received. Returns false if an allocation for that fails.
-    fn note_heard(&mut self, heard: Heard, buf: &[u8]) -> bool
-        requires { HasAtMost heard (length buf.now) }
-        ensures noted { OnTrue result (self.new ≡ noted self.old (heard_as heard buf.now)) }
+    fn note_received(&mut self, receipt: Receipt, buf: &[u8]) -> bool
+        requires { HasAtMost receipt (length buf.now) }
+        ensures noted { OnTrue result (self.new ≡ noted self.old (received_as receipt buf.now)) }
         ensures starved { OnFalse result (self.new ≡ starved self.old) }
     {
-        let Heard::Got { len, from } = heard else {
+        let Receipt::Got { len, from } = receipt else {
             return self.note(LinkCall::Silent);
         };
         let Ok(copy) = buf[..len].to_vec(self.alloc) else {
@@ -178,7 +178,7 @@ impl MemDesk {
 
     /// Records whether a receive waits.
     fn note_wait(&mut self, waits: bool)
-        ensures told { Tells (waits_of self.old) (waits_of self.new) (waits ∷ []) }
+        ensures reported { Reports (waits_of self.old) (waits_of self.new) (waits ∷ []) }
         ensures disk { self.new.disk ≡ self.old.disk }
         ensures link { self.new.link ≡ self.old.link }
         ensures faults { self.new.link_faults ≡ self.old.link_faults }
@@ -191,12 +191,12 @@ impl MemDesk {
     }
 
     /// Receives, and records the outcome.
-    fn receive(&mut self, buf: &mut [u8]) -> Result<Heard, Failed>
+    fn receive(&mut self, buf: &mut [u8]) -> Result<Receipt, Failed>
         requires { 2048 ≤ length buf.old }
-        ensures heard { IfOk result (λ heard. heard_as heard buf.new ≡ arriving (length buf.new) self.old.link.arrivals) }
+        ensures receipt { IfOk result (λ receipt. received_as receipt buf.new ≡ arriving (length buf.new) self.old.link.arrivals) }
         ensures fails { OnErr result (IsNextListed self.old.link.recvs ⊎ IsStarved self.new) }
-        ensures within { IfOk result (λ heard. HasAtMost heard (length buf.new)) }
-        ensures told { Tells (told_of self.old) (told_of self.new) (on_link (recv_told result buf.new)) }
+        ensures within { IfOk result (λ receipt. HasAtMost receipt (length buf.new)) }
+        ensures reported { Reports (reported_of self.old) (reported_of self.new) (on_link (recv_reported result buf.new)) }
         ensures cause { OnErr result (Rose self.old.link_faults self.new.link_faults) }
         ensures no_fault { OnOk result (self.new.link_faults ≡ self.old.link_faults) }
         ensures never_falls { self.old.link_faults ≤ self.new.link_faults }
@@ -206,19 +206,19 @@ impl MemDesk {
         ensures left { self.new.disk.left ≡ self.old.disk.left }
         ensures waits { waits_of self.new ≡ waits_of self.old }
     {
-        let Ok(heard) = self.link.recv(buf) else {
+        let Ok(receipt) = self.link.recv(buf) else {
             self.note(LinkCall::Missed);
             return Err(self.fail_on_link());
         };
-        if self.note_heard(heard, buf) {
-            return Ok(heard);
+        if self.note_received(receipt, buf) {
+            return Ok(receipt);
         }
         Err(self.fail_on_link())
     }
 }
 
 impl Disk for MemDesk {
-    ghost told = { told_of };
+    ghost reported = { reported_of };
 
     ghost left = { λ d. Some d.disk.left };
 
@@ -284,7 +284,7 @@ impl Desk for MemDesk {
 
         // What every desk promises.
         ensures file { OnOk result (Some self.new.disk.left ≡ file_of self.old name.now) }
-        ensures told { Tells (told_of self.old) (told_of self.new) [] }
+        ensures reported { Reports (reported_of self.old) (reported_of self.new) [] }
         ensures cause { IsErrOf result ShelfEnd.Failed → Rose self.old.disk.faults self.new.disk.faults }
         ensures in_use { IsErrOf result ShelfEnd.InUse → Rose self.old.refusals self.new.refusals }
         ensures missing { IsErrOf result ShelfEnd.Missing → Rose self.old.refusals self.new.refusals }
@@ -318,7 +318,7 @@ impl Desk for MemDesk {
 
         // What every desk promises.
         ensures empty { OnOk result ((bytes : List ℕ) → Some self.new.disk.left ≡ Some bytes → bytes ≡ []) }
-        ensures told { Tells (told_of self.old) (told_of self.new) [] }
+        ensures reported { Reports (reported_of self.old) (reported_of self.new) [] }
         ensures cause { IsErrOf result ShelfEnd.Failed → Rose self.old.disk.faults self.new.disk.faults }
         ensures in_use { IsErrOf result ShelfEnd.InUse → Rose self.old.refusals self.new.refusals }
         ensures present { IsErrOf result ShelfEnd.Present → Rose self.old.refusals self.new.refusals }
@@ -369,7 +369,7 @@ impl Desk for MemDesk {
         ensures fails { OnErr result (BindFails self.old.link ⊎ IsStarved self.new) }
 
         // What every desk promises.
-        ensures told { Tells (told_of self.old) (told_of self.new) (on_link (bind_told at result)) }
+        ensures reported { Reports (reported_of self.old) (reported_of self.new) (on_link (bind_reported at result)) }
         ensures cause { OnErr result (Rose self.old.link_faults self.new.link_faults) }
         ensures bind_cause { OnErr result (Rose self.old.bind_faults self.new.bind_faults) }
         ensures no_fault { OnOk result (self.new.link_faults ≡ self.old.link_faults) }
@@ -394,7 +394,7 @@ impl Desk for MemDesk {
         ensures fails { OnErr result (IsNextListed self.old.link.sends ⊎ IsStarved self.new) }
 
         // What every desk promises.
-        ensures told { Tells (told_of self.old) (told_of self.new) (on_link (send_told to bytes.now result)) }
+        ensures reported { Reports (reported_of self.old) (reported_of self.new) (on_link (send_reported to bytes.now result)) }
         ensures cause { OnErr result (Rose self.old.link_faults self.new.link_faults) }
         ensures no_fault { OnOk result (self.new.link_faults ≡ self.old.link_faults) }
         ensures never_falls { self.old.link_faults ≤ self.new.link_faults }
@@ -411,16 +411,16 @@ impl Desk for MemDesk {
         Err(self.fail_on_link())
     }
 
-    fn recv(&mut self, buf: &mut [u8]) -> Result<Heard, Failed>
+    fn recv(&mut self, buf: &mut [u8]) -> Result<Receipt, Failed>
         requires { 2048 ≤ length buf.old }
 
         // It fails only where its call is listed as failing, or where an allocation fails, and gives the next arrival.
-        ensures heard { IfOk result (λ heard. heard_as heard buf.new ≡ arriving (length buf.new) self.old.link.arrivals) }
+        ensures receipt { IfOk result (λ receipt. received_as receipt buf.new ≡ arriving (length buf.new) self.old.link.arrivals) }
         ensures fails { OnErr result (IsNextListed self.old.link.recvs ⊎ IsStarved self.new) }
 
         // What every desk promises.
-        ensures within { IfOk result (λ heard. HasAtMost heard (length buf.new)) }
-        ensures told { Tells (told_of self.old) (told_of self.new) (on_link (recv_told result buf.new)) }
+        ensures within { IfOk result (λ receipt. HasAtMost receipt (length buf.new)) }
+        ensures reported { Reports (reported_of self.old) (reported_of self.new) (on_link (recv_reported result buf.new)) }
         ensures cause { OnErr result (Rose self.old.link_faults self.new.link_faults) }
         ensures no_fault { OnOk result (self.new.link_faults ≡ self.old.link_faults) }
         ensures never_falls { self.old.link_faults ≤ self.new.link_faults }
@@ -428,23 +428,23 @@ impl Desk for MemDesk {
         ensures no_disk_fault { self.new.disk.faults ≡ self.old.disk.faults }
         ensures no_refusal { self.new.refusals ≡ self.old.refusals }
         ensures left { Some self.new.disk.left ≡ Some self.old.disk.left }
-        ensures waits { Tells (waits_of self.old) (waits_of self.new) (true ∷ []) }
+        ensures waits { Reports (waits_of self.old) (waits_of self.new) (true ∷ []) }
     {
         self.note_wait(true);
         self.receive(buf)
     }
 
     /// Its calls and those of `recv` are numbered together.
-    fn recv_waiting(&mut self, buf: &mut [u8]) -> Result<Heard, Failed>
+    fn recv_waiting(&mut self, buf: &mut [u8]) -> Result<Receipt, Failed>
         requires { 2048 ≤ length buf.old }
 
         // It fails only where its call is listed as failing, or where an allocation fails, and gives the next arrival.
-        ensures heard { IfOk result (λ heard. heard_as heard buf.new ≡ arriving (length buf.new) self.old.link.arrivals) }
+        ensures receipt { IfOk result (λ receipt. received_as receipt buf.new ≡ arriving (length buf.new) self.old.link.arrivals) }
         ensures fails { OnErr result (IsNextListed self.old.link.recvs ⊎ IsStarved self.new) }
 
         // What every desk promises.
-        ensures within { IfOk result (λ heard. HasAtMost heard (length buf.new)) }
-        ensures told { Tells (told_of self.old) (told_of self.new) (on_link (recv_told result buf.new)) }
+        ensures within { IfOk result (λ receipt. HasAtMost receipt (length buf.new)) }
+        ensures reported { Reports (reported_of self.old) (reported_of self.new) (on_link (recv_reported result buf.new)) }
         ensures cause { OnErr result (Rose self.old.link_faults self.new.link_faults) }
         ensures no_fault { OnOk result (self.new.link_faults ≡ self.old.link_faults) }
         ensures never_falls { self.old.link_faults ≤ self.new.link_faults }
@@ -452,7 +452,7 @@ impl Desk for MemDesk {
         ensures no_disk_fault { self.new.disk.faults ≡ self.old.disk.faults }
         ensures no_refusal { self.new.refusals ≡ self.old.refusals }
         ensures left { Some self.new.disk.left ≡ Some self.old.disk.left }
-        ensures waits { Tells (waits_of self.old) (waits_of self.new) (false ∷ []) }
+        ensures waits { Reports (waits_of self.old) (waits_of self.new) (false ∷ []) }
     {
         self.note_wait(false);
         self.receive(buf)

@@ -1,4 +1,4 @@
-//! A file in memory, for tests. It records its calls. It fails where it was made to fail, and where an allocation fails; once an allocation has failed, `told`
+//! A file in memory, for tests. It records its calls. It fails where it was made to fail, and where an allocation fails; once an allocation has failed, `reported`
 //! returns `None`. It can be asked what a death at any moment leaves of it.
 
 ghost use Rattle.std.specs.Prelude.{◌≡◌, ◌≤◌, ◌<◌, ◌↔◌, ◌⊎◌, length, min, take, false, true, None, Some, [], ◌∷◌, ◌++◌, is_err, IfSome, IfOk, OnOk};
@@ -7,14 +7,14 @@ ghost use Rattle.std.specs.Bool.{OnTrue, OnFalse};
 ghost use Rattle.std.specs.Io.KnownBytes.{ReadConsumes, IsAtEnd};
 ghost use Rattle.ft_io.specs.Faults.{Rose};
 ghost use Rattle.ft_system.specs.NumberedCalls.{IsNextListed};
-ghost use Rattle.ft_io.specs.Told.{Tells};
+ghost use Rattle.ft_io.specs.Reported.{Reports};
 ghost use Rattle.disk.specs.Counts.{nothing};
 ghost use Rattle.disk.specs.declared.calls.DeskCall.TheVariants.{OnDisk};
 ghost use Rattle.disk.specs.declared.calls.DiskCall.TheVariants.{Appended, Put, Cut, Synced, Replaced};
 ghost use Rattle.disk.specs.Death.{left_of};
 ghost use Rattle.disk.specs.Remains.{LeftBy};
 ghost use Rattle.disk.specs.CallRecord.{disk_calls};
-ghost use Rattle.disk.specs.MemDisk.{fresh_disk, told_of, noted, starved, failed, changing, made_anew};
+ghost use Rattle.disk.specs.MemDisk.{fresh_disk, reported_of, noted, starved, failed, changing, made_anew};
 
 use crate::death::left_behind;
 use crate::{Death, DeskCall, Disk, DiskCall};
@@ -80,9 +80,9 @@ impl MemDisk {
     }
 
     /// The calls so far, the oldest first, or `None` once an allocation has failed in a call.
-    pub fn told(&self) -> Option<&[DeskCall]>
-        ensures some { IfSome result (λ calls. told_of self.now ≡ Some calls.now) }
-        ensures none { result ≡ None → told_of self.now ≡ None }
+    pub fn reported(&self) -> Option<&[DeskCall]>
+        ensures some { IfSome result (λ calls. reported_of self.now ≡ Some calls.now) }
+        ensures none { result ≡ None → reported_of self.now ≡ None }
     {
         if self.is_starved {
             None
@@ -126,7 +126,7 @@ impl MemDisk {
         &self.first[self.at..]
     }
 
-    /// Gives no record from now on: `told` returns `None`.
+    /// Gives no record from now on: `reported` returns `None`.
     pub(crate) fn starve(&mut self)
         ensures { self.new ≡ starved self.old }
     {
@@ -201,7 +201,7 @@ impl MemDisk {
         ensures failed { OnErr result ((IsNextListed self.old.changes
             × (self.new ≡ failed (noted (changing self.old) (OnDisk (Replaced self.old.aside_synced true)))))
             ⊎ (self.new ≡ failed (starved (changing self.old)))) }
-        ensures told { Tells (told_of self.old) (told_of self.new) (OnDisk (Replaced self.old.aside_synced (is_err result)) ∷ []) }
+        ensures reported { Reports (reported_of self.old) (reported_of self.new) (OnDisk (Replaced self.old.aside_synced (is_err result)) ∷ []) }
         ensures cause { OnErr result (Rose self.old.faults self.new.faults) }
     {
         let fails = self.changes.next_fails();
@@ -234,7 +234,7 @@ impl MemDisk {
 }
 
 impl Disk for MemDisk {
-    ghost told = { told_of };
+    ghost reported = { reported_of };
 
     ghost left = { λ d. Some d.left };
 
@@ -259,7 +259,7 @@ impl Disk for MemDisk {
         ensures within { IfOk result (λ n. n ≤ length buf.new) }
         ensures bytes { ReadConsumes (Some self.old.left) (Some self.new.left) result buf.new }
         ensures end { IfOk result (λ n. n ≡ 0 → IsAtEnd (Some self.old.left)) }
-        ensures told { Tells (told_of self.old) (told_of self.new) [] }
+        ensures reported { Reports (reported_of self.old) (reported_of self.new) [] }
         ensures cause { OnErr result (Rose self.old.faults self.new.faults) }
         ensures never_falls { self.old.faults ≤ self.new.faults }
     {
@@ -280,7 +280,7 @@ impl Disk for MemDisk {
             ⊎ (self.new ≡ failed (starved (changing self.old)))) }
 
         // What every disk promises.
-        ensures told { Tells (told_of self.old) (told_of self.new) (OnDisk (Appended bytes.now (is_err result)) ∷ []) }
+        ensures reported { Reports (reported_of self.old) (reported_of self.new) (OnDisk (Appended bytes.now (is_err result)) ∷ []) }
         ensures cause { OnErr result (Rose self.old.faults self.new.faults) }
         ensures never_falls { self.old.faults ≤ self.new.faults }
     {
@@ -300,7 +300,7 @@ impl Disk for MemDisk {
             ⊎ (self.new ≡ failed (starved (changing self.old)))) }
 
         // What every disk promises.
-        ensures told { Tells (told_of self.old) (told_of self.new) (OnDisk (Put at byte (is_err result)) ∷ []) }
+        ensures reported { Reports (reported_of self.old) (reported_of self.new) (OnDisk (Put at byte (is_err result)) ∷ []) }
         ensures cause { OnErr result (Rose self.old.faults self.new.faults) }
         ensures never_falls { self.old.faults ≤ self.new.faults }
     {
@@ -316,7 +316,7 @@ impl Disk for MemDisk {
             ⊎ (self.new ≡ failed (starved (changing self.old)))) }
 
         // What every disk promises.
-        ensures told { Tells (told_of self.old) (told_of self.new) (OnDisk (Cut at (is_err result)) ∷ []) }
+        ensures reported { Reports (reported_of self.old) (reported_of self.new) (OnDisk (Cut at (is_err result)) ∷ []) }
         ensures cause { OnErr result (Rose self.old.faults self.new.faults) }
         ensures never_falls { self.old.faults ≤ self.new.faults }
     {
@@ -332,7 +332,7 @@ impl Disk for MemDisk {
             ⊎ (self.new ≡ failed (starved (changing self.old)))) }
 
         // What every disk promises.
-        ensures told { Tells (told_of self.old) (told_of self.new) (OnDisk (Synced (is_err result)) ∷ []) }
+        ensures reported { Reports (reported_of self.old) (reported_of self.new) (OnDisk (Synced (is_err result)) ∷ []) }
         ensures cause { OnErr result (Rose self.old.faults self.new.faults) }
         ensures never_falls { self.old.faults ≤ self.new.faults }
     {

@@ -18,10 +18,10 @@ use Rattle.tcp_endpoint.specs.UserCalls.{after_tick, timer_ticked, waited}
 use Rattle.endpoint_laws.specs.Laws.{last_advertised, asks}
 use Rattle.endpoint_laws.specs.Turn.{Call, Events, arrived, called, used, before_flush, turned, sent_in}
 use Rattle.endpoint_laws.specs.Turn.Call.{Reads, Writes, Closes}
-use Rattle.endpoint_laws.specs.Advertisement.{Advertises, is_told, ReadsOnlyTaken, AcknowledgesAll}
+use Rattle.endpoint_laws.specs.Advertisement.{Advertises, is_reported, ReadsOnlyTaken, AcknowledgesAll}
 use Rattle.endpoint_laws.proofs.AnswersAlone.{is_empty}
 use Rattle.endpoint_laws.proofs.SegmentsLaw.{begun_answers, one_retransmission}
-use Rattle.endpoint_laws.proofs.ToldLaw.{leaving_by, told_by_segment, told_by_flush}
+use Rattle.endpoint_laws.proofs.ReportedLaw.{leaving_by, reported_by_segment, reported_by_flush}
 use Rattle.endpoint_laws.proofs.EndingLaw.{used_keeps, call_answers}
 use Rattle.endpoint_laws.proofs.Rsts.{IsRst, Refuses, refuses_arrived, unbegun_same}
 use Rattle.endpoint_laws.proofs.Calls.{begun_closing}
@@ -29,8 +29,8 @@ use Rattle.ft_io.proofs.Choices.{by_cases}
 use Rattle.ft_model.proofs.Spoken.{or_bare_spoken}
 
 -- a segment that tells it, and no RST
-abbrev Tells : Tcb → Segment → Type 0
-Tells u segment =
+abbrev Reports : Tcb → Segment → Type 0
+Reports u segment =
     (has_rst segment ≡ false) × (has_ack segment ≡ true) × (segment.head.ack ≡ number_at u.receiving.irs (next u.receiving))
     × (segment.head.window ≡ window u.receiving)
 
@@ -53,63 +53,63 @@ chosen_one P true first second a b = a
 chosen_one P false first second a b = b
 
 -- the segments that the flush builds: text, the FIN, and the first segment that is unacknowledged
-text_tells : (u : Tcb) (place n : ℕ) → Tells u (text_at u place n)
+text_reports : (u : Tcb) (place n : ℕ) → Reports u (text_at u place n)
 unfolding text_at head_at
-text_tells u place n = (refl, refl, refl, refl)
+text_reports u place n = (refl, refl, refl, refl)
 
-fin_tells : (u : Tcb) (place : ℕ) → Tells u (fin_at u place)
+fin_reports : (u : Tcb) (place : ℕ) → Reports u (fin_at u place)
 unfolding fin_at head_at
-fin_tells u place = (refl, refl, refl, refl)
+fin_reports u place = (refl, refl, refl, refl)
 
-second_tells : (u : Tcb) (chosen : Bool) (first second : Segment) → chosen ≡ false → Tells u second → Tells u (if chosen then first else second)
-second_tells u true first second h a = absurd (false≢true (sym h))
-second_tells u false first second h a = a
+second_reports : (u : Tcb) (chosen : Bool) (first second : Segment) → chosen ≡ false → Reports u second → Reports u (if chosen then first else second)
+second_reports u true first second h a = absurd (false≢true (sym h))
+second_reports u false first second h a = a
 
-opening_tells : (u : Tcb) → has_begun u.name ≡ true → Tells u (opening_segment u)
+opening_reports : (u : Tcb) → has_begun u.name ≡ true → Reports u (opening_segment u)
 unfolding opening_segment head_at
-opening_tells u begun = second_tells u (is_syn_sent u.name) _ _ (begun_answers u.name begun) (refl, refl, refl, refl)
+opening_reports u begun = second_reports u (is_syn_sent u.name) _ _ (begun_answers u.name begun) (refl, refl, refl, refl)
 
-retransmission_tells : (u : Tcb) → has_begun u.name ≡ true → Tells u (retransmitted_segment u)
+retransmission_reports : (u : Tcb) → has_begun u.name ≡ true → Reports u (retransmitted_segment u)
 unfolding retransmitted_segment
-retransmission_tells u begun =
-    chosen_one (Tells u) (not u.sending.syn_acked) _ _ (opening_tells u begun) (chosen_one (Tells u) _ _ _ (fin_tells u 0) (text_tells u 0 _))
+retransmission_reports u begun =
+    chosen_one (Reports u) (not u.sending.syn_acked) _ _ (opening_reports u begun) (chosen_one (Reports u) _ _ _ (fin_reports u 0) (text_reports u 0 _))
 
-texts_tell : (count : ℕ) (u : Tcb) (place left : ℕ) → AllByRecursion (Tells u) (texts count u place left)
+texts_report : (count : ℕ) (u : Tcb) (place left : ℕ) → AllByRecursion (Reports u) (texts count u place left)
 unfolding texts
-texts_tell zero u place left = tt
-texts_tell (suc count) u place left =
-    all_chosen (Tells u) (nat_lt 0 left) _ _ (text_tells u place (min left u.sending.mss), texts_tell count u (place + min left u.sending.mss) (left - min left u.sending.mss)) tt
+texts_report zero u place left = tt
+texts_report (suc count) u place left =
+    all_chosen (Reports u) (nat_lt 0 left) _ _ (text_reports u place (min left u.sending.mss), texts_report count u (place + min left u.sending.mss) (left - min left u.sending.mss)) tt
 
 -- the parts of what the flush sends
-retransmission_out_tells : (u : Tcb) → has_begun u.name ≡ true → AllByRecursion (Tells u) (retransmission_out u)
+retransmission_out_reports : (u : Tcb) → has_begun u.name ≡ true → AllByRecursion (Reports u) (retransmission_out u)
 unfolding retransmission_out
-retransmission_out_tells u begun = all_chosen (Tells u) (u.retransmission_due && not (is_closed u.name) && is_unacknowledged u.sending) _ _ (retransmission_tells u begun, tt) tt
+retransmission_out_reports u begun = all_chosen (Reports u) (u.retransmission_due && not (is_closed u.name) && is_unacknowledged u.sending) _ _ (retransmission_reports u begun, tt) tt
 
-probe_out_tells : (u : Tcb) → AllByRecursion (Tells u) (probe_out u)
+probe_out_reports : (u : Tcb) → AllByRecursion (Reports u) (probe_out u)
 unfolding probe_out
-probe_out_tells u =
-    all_chosen (Tells u) (probes_text u) _ _ (text_tells u (in_flight u.sending) 1, tt) (all_chosen (Tells u) (probes_fin u) _ _ (fin_tells u (in_flight u.sending), tt) tt)
+probe_out_reports u =
+    all_chosen (Reports u) (probes_text u) _ _ (text_reports u (in_flight u.sending) 1, tt) (all_chosen (Reports u) (probes_fin u) _ _ (fin_reports u (in_flight u.sending), tt) tt)
 
-text_out_tells : (u : Tcb) → AllByRecursion (Tells u) (text_out u)
+text_out_reports : (u : Tcb) → AllByRecursion (Reports u) (text_out u)
 unfolding text_out
-text_out_tells u = texts_tell (new_length u) u (in_flight u.sending) (new_length u)
+text_out_reports u = texts_report (new_length u) u (in_flight u.sending) (new_length u)
 
-fin_out_tells : (u : Tcb) → AllByRecursion (Tells u) (fin_out u)
+fin_out_reports : (u : Tcb) → AllByRecursion (Reports u) (fin_out u)
 unfolding fin_out
-fin_out_tells u = all_chosen (Tells u) (new_fin u) _ _ (fin_tells u (in_flight u.sending), tt) tt
+fin_out_reports u = all_chosen (Reports u) (new_fin u) _ _ (fin_reports u (in_flight u.sending), tt) tt
 
 -- what goes out before these parts changes the sending half alone
-probed_text_tells : (u : Tcb) → AllByRecursion (Tells u) (text_out (with_probe u))
+probed_text_reports : (u : Tcb) → AllByRecursion (Reports u) (text_out (with_probe u))
 unfolding with_probe
-probed_text_tells u = text_out_tells (with_probe u)
+probed_text_reports u = text_out_reports (with_probe u)
 
-texted_fin_tells : (u : Tcb) → AllByRecursion (Tells u) (fin_out (with_text_sent (with_probe u)))
+texted_fin_reports : (u : Tcb) → AllByRecursion (Reports u) (fin_out (with_text_sent (with_probe u)))
 unfolding with_text_sent with_probe
-texted_fin_tells u = fin_out_tells (with_text_sent (with_probe u))
+texted_fin_reports u = fin_out_reports (with_text_sent (with_probe u))
 
-bare_tells : (u : Tcb) → Tells u (bare_segment (after_full u))
+bare_reports : (u : Tcb) → Reports u (bare_segment (after_full u))
 unfolding bare_segment head_at after_full with_timed with_fin_out with_text_sent with_probe
-bare_tells u = (refl, refl, refl, refl)
+bare_reports u = (refl, refl, refl, refl)
 
 -- a RST answers, or nothing
 rsts_advertise : (u : Tcb) (segments : List Segment) → AllByRecursion (λ segment. has_rst segment ≡ true) segments → AllByRecursion (Advertises u) segments
@@ -123,34 +123,34 @@ reset_reply_advertises taken u (inl none) =
 reset_reply_advertises taken u (inr refused) = rsts_advertise u (reset_reply_segments u.reset_reply) refused.0
 
 -- all that leaves
-full_all : (u : Tcb) (P : Segment → Type 0) → ((segment : Segment) → Tells u segment → P segment) → has_begun u.name ≡ true → AllByRecursion P (reset_reply_out u)
+full_all : (u : Tcb) (P : Segment → Type 0) → ((segment : Segment) → Reports u segment → P segment) → has_begun u.name ≡ true → AllByRecursion P (reset_reply_out u)
     → AllByRecursion P (full_out u)
 unfolding full_out
 full_all u P weaker begun reset_reply =
-    let part : (segments : List Segment) → AllByRecursion (Tells u) segments → AllByRecursion P segments = all_weaker (Tells u) P weaker in
+    let part : (segments : List Segment) → AllByRecursion (Reports u) segments → AllByRecursion P segments = all_weaker (Reports u) P weaker in
     all_both P _ (fin_out (with_text_sent (with_probe u)))
     (all_both P _ (text_out (with_probe u))
-    (all_both P _ (probe_out u) (all_both P (reset_reply_out u) (retransmission_out u) reset_reply (part (retransmission_out u) (retransmission_out_tells u begun))) (part (probe_out u) (probe_out_tells u)))
-    (part (text_out (with_probe u)) (probed_text_tells u)))
-    (part (fin_out (with_text_sent (with_probe u))) (texted_fin_tells u))
+    (all_both P _ (probe_out u) (all_both P (reset_reply_out u) (retransmission_out u) reset_reply (part (retransmission_out u) (retransmission_out_reports u begun))) (part (probe_out u) (probe_out_reports u)))
+    (part (text_out (with_probe u)) (probed_text_reports u)))
+    (part (fin_out (with_text_sent (with_probe u))) (texted_fin_reports u))
 
-advertising : (u : Tcb) (segment : Segment) → Tells u segment → Advertises u segment
-advertising u segment tells = λ h. (tells.1, tells.2, tells.3)
+advertising : (u : Tcb) (segment : Segment) → Reports u segment → Advertises u segment
+advertising u segment reports = λ h. (reports.1, reports.2, reports.3)
 
 pub leaving_advertises : (u : Tcb) → has_begun u.name ≡ true → AllByRecursion (Advertises u) (reset_reply_out u) → AllByRecursion (Advertises u) (leaving u)
 unfolding leaving
 leaving_advertises u begun reset_reply =
-    or_bare_spoken (Advertises u) (is_ack_pending (after_full u)) (bare_segment (after_full u)) (full_out u) (advertising u (bare_segment (after_full u)) (bare_tells u))
+    or_bare_spoken (Advertises u) (is_ack_pending (after_full u)) (bare_segment (after_full u)) (full_out u) (advertising u (bare_segment (after_full u)) (bare_reports u))
     (full_all u (Advertises u) (advertising u) begun reset_reply)
 
 -- what the user's calls leave
 pub reset_reply_used : (calls : List Call) (m : Tcb) → (used calls m).reset_reply ≡ m.reset_reply
 reset_reply_used calls m = used_keeps (λ (t : Tcb). t.reset_reply) call_answers calls m
 
-call_tells : (call : Call) (t : Tcb) → last_advertised (called call t) ≡ last_advertised t
-call_tells (Reads n) t = refl
-call_tells (Writes bytes) t = refl
-call_tells Closes t = refl
+call_reports : (call : Call) (t : Tcb) → last_advertised (called call t) ≡ last_advertised t
+call_reports (Reads n) t = refl
+call_reports (Writes bytes) t = refl
+call_reports Closes t = refl
 
 pub begun_used : (calls : List Call) (m : Tcb) → has_begun m.name ≡ true → has_begun (used calls m).name ≡ true
 begun_used [] m h = h
@@ -180,12 +180,12 @@ advertises_law news calls e none may begun =
     (reset_reply_advertises (next e.receiving) u (refuses_used (next e.receiving) calls (arrived news e) may (refuses_arrived news e none)))
 
 -- what was last advertised stays, until the flush
-told_arrived : (news : News) (e : Tcb) → has_begun e.name ≡ true → last_advertised (arrived news e) ≡ last_advertised e
+reported_arrived : (news : News) (e : Tcb) → has_begun e.name ≡ true → last_advertised (arrived news e) ≡ last_advertised e
 unfolding after_tick timer_ticked waited
-told_arrived (Comes segment) e begun = told_by_segment e segment begun
-told_arrived (Logged kept) e begun = refl
-told_arrived Ticks e begun = refl
-told_arrived Begins e begun = refl
+reported_arrived (Comes segment) e begun = reported_by_segment e segment begun
+reported_arrived (Logged kept) e begun = refl
+reported_arrived Ticks e begun = refl
+reported_arrived Begins e begun = refl
 
 -- a segment goes out where what is taken or the edge isn't what was last advertised
 some_bare : (bare : Segment) (segments : List Segment) → or_bare true bare segments ≡ [] → ⊥
@@ -200,25 +200,25 @@ asks_for_edge ack_pending a b c d other = grind (arith, other)
 
 asks_where_changed : (e u : Tcb) → last_advertised u ≡ (next e.receiving, advertised_edge e.receiving)
     → (next u.receiving ≡ next e.receiving → ⊥) ⊎ (advertised_edge u.receiving ≡ advertised_edge e.receiving → ⊥) → asks u.ack_pending u ≡ true
-asks_where_changed e u heard (inl other) =
-    asks_for_next u.ack_pending u.last_ack_sent (next u.receiving) u.last_advertised_edge (advertised_edge u.receiving) (λ h. other (h ∙ ap (λ t. t.0) heard))
-asks_where_changed e u heard (inr other) =
-    asks_for_edge u.ack_pending u.last_ack_sent (next u.receiving) u.last_advertised_edge (advertised_edge u.receiving) (λ h. other (h ∙ ap (λ t. t.1) heard))
+asks_where_changed e u receipt (inl other) =
+    asks_for_next u.ack_pending u.last_ack_sent (next u.receiving) u.last_advertised_edge (advertised_edge u.receiving) (λ h. other (h ∙ ap (λ t. t.0) receipt))
+asks_where_changed e u receipt (inr other) =
+    asks_for_edge u.ack_pending u.last_ack_sent (next u.receiving) u.last_advertised_edge (advertised_edge u.receiving) (λ h. other (h ∙ ap (λ t. t.1) receipt))
 
 -- and a segment goes out that is no RST
-some_told : (bare : Segment) (segments : List Segment) → has_rst bare ≡ false → AllByRecursion (λ segment. has_rst segment ≡ false) segments
-    → is_told (or_bare true bare segments) ≡ true
-some_told bare [] plain all = ap (λ b. not b || false) plain
-some_told bare (segment ∷ segments) plain all = ap (λ b. not b || is_told segments) all.0
+some_reported : (bare : Segment) (segments : List Segment) → has_rst bare ≡ false → AllByRecursion (λ segment. has_rst segment ≡ false) segments
+    → is_reported (or_bare true bare segments) ≡ true
+some_reported bare [] plain all = ap (λ b. not b || false) plain
+some_reported bare (segment ∷ segments) plain all = ap (λ b. not b || is_reported segments) all.0
 
-pub unanswered_tells : (u : Tcb) → has_begun u.name ≡ true → u.reset_reply ≡ None → asks u.ack_pending u ≡ true → is_told (leaving u) ≡ true
+pub unanswered_reports : (u : Tcb) → has_begun u.name ≡ true → u.reset_reply ≡ None → asks u.ack_pending u ≡ true → is_reported (leaving u) ≡ true
 unfolding reset_reply_out
-unanswered_tells u begun none asked =
+unanswered_reports u begun none asked =
     let Plain : Segment → Type 0 = λ segment. has_rst segment ≡ false in
     let P : Option Head → Type 0 = λ reset_reply. AllByRecursion Plain (reset_reply_segments reset_reply) in
-    ap is_told (leaving_by u u.ack_pending begun refl ∙ ap (λ b. or_bare b (bare_segment (after_full u)) (full_out u)) asked)
-    ∙ some_told (bare_segment (after_full u)) (full_out u) (bare_tells u).0
-    (full_all u Plain (λ segment tells. tells.0) begun (subst P (sym none) tt))
+    ap is_reported (leaving_by u u.ack_pending begun refl ∙ ap (λ b. or_bare b (bare_segment (after_full u)) (full_out u)) asked)
+    ∙ some_reported (bare_segment (after_full u)) (full_out u) (bare_reports u).0
+    (full_all u Plain (λ segment reports. reports.0) begun (subst P (sym none) tt))
 
 -- .. and where something goes out again
 front_empty : (first second : List Segment) → first ++ second ≡ [] → first ≡ []
@@ -233,19 +233,19 @@ full_empty : (u : Tcb) → full_out u ≡ [] → retransmission_out u ≡ []
 unfolding full_out
 full_empty u h = rest_empty (reset_reply_out u) (retransmission_out u) (front_empty _ _ (front_empty _ _ (front_empty _ _ h)))
 
-told_by_some : (ack_pending : Bool) (bare : Segment) (segments : List Segment) → (segments ≡ [] → ⊥) → AllByRecursion (λ segment. has_rst segment ≡ false) segments
-    → is_told (or_bare ack_pending bare segments) ≡ true
-told_by_some ack_pending bare [] some all = absurd (some refl)
-told_by_some ack_pending bare (segment ∷ segments) some all = ap (λ b. not b || is_told segments) all.0
+reported_by_some : (ack_pending : Bool) (bare : Segment) (segments : List Segment) → (segments ≡ [] → ⊥) → AllByRecursion (λ segment. has_rst segment ≡ false) segments
+    → is_reported (or_bare ack_pending bare segments) ≡ true
+reported_by_some ack_pending bare [] some all = absurd (some refl)
+reported_by_some ack_pending bare (segment ∷ segments) some all = ap (λ b. not b || is_reported segments) all.0
 
-pub retransmission_is_told : (u : Tcb) → has_begun u.name ≡ true → u.reset_reply ≡ None → u.retransmission_due ≡ true → is_unacknowledged u.sending ≡ true → is_told (leaving u) ≡ true
+pub retransmission_is_reported : (u : Tcb) → has_begun u.name ≡ true → u.reset_reply ≡ None → u.retransmission_due ≡ true → is_unacknowledged u.sending ≡ true → is_reported (leaving u) ≡ true
 unfolding reset_reply_out leaving
-retransmission_is_told u begun none retransmission_due waits =
+retransmission_is_reported u begun none retransmission_due waits =
     let Plain : Segment → Type 0 = λ segment. has_rst segment ≡ false in
     let P : Option Head → Type 0 = λ reset_reply. AllByRecursion Plain (reset_reply_segments reset_reply) in
-    told_by_some (is_ack_pending (after_full u)) (bare_segment (after_full u)) (full_out u)
+    reported_by_some (is_ack_pending (after_full u)) (bare_segment (after_full u)) (full_out u)
     (λ empty. false≢true (ap is_empty (sym (one_retransmission u begun retransmission_due waits) ∙ full_empty u empty)))
-    (full_all u Plain (λ segment tells. tells.0) begun (subst P (sym none) tt))
+    (full_all u Plain (λ segment reports. reports.0) begun (subst P (sym none) tt))
 
 -- so where more is taken no RST answers
 unrefused : (taken : ℕ) (u : Tcb) → Refuses taken u → (next u.receiving ≡ taken → ⊥) → u.reset_reply ≡ None
@@ -254,55 +254,55 @@ unrefused taken u (inr refused) changed = absurd (changed refused.1)
 
 by_reason : (u e : Tcb) → has_begun u.name ≡ true → last_advertised u ≡ (next e.receiving, advertised_edge e.receiving) → Refuses (next e.receiving) u
     → (next u.receiving ≡ next e.receiving → ⊥) ⊎ ((u.reset_reply ≡ None) × (advertised_edge u.receiving ≡ advertised_edge e.receiving → ⊥))
-    → is_told (leaving u) ≡ true
-by_reason u e begun heard refuses (inl changed) =
-    unanswered_tells u begun (unrefused (next e.receiving) u refuses changed) (asks_where_changed e u heard (inl changed))
-by_reason u e begun heard refuses (inr moved) = unanswered_tells u begun moved.0 (asks_where_changed e u heard (inr moved.1))
+    → is_reported (leaving u) ≡ true
+by_reason u e begun receipt refuses (inl changed) =
+    unanswered_reports u begun (unrefused (next e.receiving) u refuses changed) (asks_where_changed e u receipt (inl changed))
+by_reason u e begun receipt refuses (inr moved) = unanswered_reports u begun moved.0 (asks_where_changed e u receipt (inr moved.1))
 
-pub all_told_law : (news : News) (calls : List Call) (e : Tcb) → has_begun e.name ≡ true → e.reset_reply ≡ None → last_advertised e ≡ (next e.receiving, advertised_edge e.receiving)
+pub all_reported_law : (news : News) (calls : List Call) (e : Tcb) → has_begun e.name ≡ true → e.reset_reply ≡ None → last_advertised e ≡ (next e.receiving, advertised_edge e.receiving)
     → ReadsOnlyTaken calls (arrived news e) → has_begun (before_flush news calls e).name ≡ true
     → (next (before_flush news calls e).receiving ≡ next e.receiving → ⊥)
     ⊎ (((before_flush news calls e).reset_reply ≡ None) × (advertised_edge (before_flush news calls e).receiving ≡ advertised_edge e.receiving → ⊥))
-    → is_told (sent_in news calls e) ≡ true
-all_told_law news calls e begun none heard_before may begun_after why =
+    → is_reported (sent_in news calls e) ≡ true
+all_reported_law news calls e begun none received_before may begun_after why =
     let m : Tcb = arrived news e in
     let u : Tcb = used calls m in
-    let heard : last_advertised u ≡ (next e.receiving, advertised_edge e.receiving) = used_keeps last_advertised call_tells calls m ∙ told_arrived news e begun ∙ heard_before in
-    by_reason u e begun_after heard (refuses_used (next e.receiving) calls m may (refuses_arrived news e none)) why
+    let receipt : last_advertised u ≡ (next e.receiving, advertised_edge e.receiving) = used_keeps last_advertised call_reports calls m ∙ reported_arrived news e begun ∙ received_before in
+    by_reason u e begun_after receipt (refuses_used (next e.receiving) calls m may (refuses_arrived news e none)) why
 
 -- from turn to turn, whatever the limit and however much is written
-record TellsAll (e : Tcb) : Type 0 where
+record ReportsAll (e : Tcb) : Type 0 where
   reset_reply : e.reset_reply ≡ None
-  heard : has_begun e.name ≡ true → last_advertised e ≡ (next e.receiving, advertised_edge e.receiving)
+  receipt : has_begun e.name ≡ true → last_advertised e ≡ (next e.receiving, advertised_edge e.receiving)
 
-tells_flushed : (u : Tcb) → TellsAll (flushed u)
+reports_flushed : (u : Tcb) → ReportsAll (flushed u)
 unfolding flushed with_turn_ended with_advertised after_full with_timed with_fin_out with_text_sent with_probe
-tells_flushed u = record { reset_reply = refl; heard = λ begun. told_by_flush u begun }
+reports_flushed u = record { reset_reply = refl; receipt = λ begun. reported_by_flush u begun }
 
-turn_told : (news : News) (calls : List Call) (e : Tcb) → TellsAll e → ReadsOnlyTaken calls (arrived news e) → has_begun (before_flush news calls e).name ≡ true
-    → (next (before_flush news calls e).receiving ≡ next e.receiving → ⊥) → is_told (sent_in news calls e) ≡ true
-turn_told news calls e t may begun_after changed =
+turn_reported : (news : News) (calls : List Call) (e : Tcb) → ReportsAll e → ReadsOnlyTaken calls (arrived news e) → has_begun (before_flush news calls e).name ≡ true
+    → (next (before_flush news calls e).receiving ≡ next e.receiving → ⊥) → is_reported (sent_in news calls e) ≡ true
+turn_reported news calls e t may begun_after changed =
     by_cases (has_begun e.name)
-    (λ begun. all_told_law news calls e begun t.reset_reply (t.heard begun) may begun_after (inl changed))
+    (λ begun. all_reported_law news calls e begun t.reset_reply (t.receipt begun) may begun_after (inl changed))
     (λ unbegun. absurd (changed (next_used calls (arrived news e) may ∙ unbegun_same news e unbegun)))
 
-acknowledges_on : (turns : List Events) (e : Tcb) → TellsAll e → AcknowledgesAll e turns
+acknowledges_on : (turns : List Events) (e : Tcb) → ReportsAll e → AcknowledgesAll e turns
 acknowledges_on [] e t = tt
 acknowledges_on (turn ∷ turns) e t = (
-  λ may begun. (advertises_law turn.news turn.calls e t.reset_reply may begun, turn_told turn.news turn.calls e t may begun),
-  acknowledges_on turns (turned turn.news turn.calls e) (tells_flushed (before_flush turn.news turn.calls e)),
+  λ may begun. (advertises_law turn.news turn.calls e t.reset_reply may begun, turn_reported turn.news turn.calls e t may begun),
+  acknowledges_on turns (turned turn.news turn.calls e) (reports_flushed (before_flush turn.news turn.calls e)),
 )
 
-opens_untold : (measures : Bool) (local remote : Addr) (iss limit : ℕ)
-    → TellsAll (listening_measuring measures local iss limit) × TellsAll (connecting_measuring measures local remote iss limit)
+opens_unreported : (measures : Bool) (local remote : Addr) (iss limit : ℕ)
+    → ReportsAll (listening_measuring measures local iss limit) × ReportsAll (connecting_measuring measures local remote iss limit)
 unfolding connecting_measuring listening_measuring listening
-opens_untold measures local remote iss limit =
-    (record { reset_reply = refl; heard = λ begun. absurd (false≢true begun) }, record { reset_reply = refl; heard = λ begun. absurd (false≢true begun) })
+opens_unreported measures local remote iss limit =
+    (record { reset_reply = refl; receipt = λ begun. absurd (false≢true begun) }, record { reset_reply = refl; receipt = λ begun. absurd (false≢true begun) })
 
 pub acknowledges_law : (measures : Bool) (local remote : Addr) (iss limit : ℕ) (turns : List Events)
     → AcknowledgesAll (listening_measuring measures local iss limit) turns × AcknowledgesAll (connecting_measuring measures local remote iss limit) turns
 acknowledges_law measures local remote iss limit turns =
-    let t = opens_untold measures local remote iss limit in (
+    let t = opens_unreported measures local remote iss limit in (
       acknowledges_on turns (listening_measuring measures local iss limit) t.0,
       acknowledges_on turns (connecting_measuring measures local remote iss limit) t.1,
     )

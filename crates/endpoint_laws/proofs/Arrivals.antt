@@ -33,7 +33,7 @@ use Rattle.endpoint_laws.proofs.SendingLaw.{later_by, used_by, sending_is, sendi
 use Rattle.endpoint_laws.proofs.SendingLaw as sending
 use Rattle.endpoint_laws.proofs.Bounding.{bounded_by_segment, bounded_by_tick}
 use Rattle.endpoint_laws.proofs.OwedLaw.{ack_pending_law}
-use Rattle.endpoint_laws.proofs.ToldLaw.{told_by_segment, probed_by_tick}
+use Rattle.endpoint_laws.proofs.ReportedLaw.{reported_by_segment, probed_by_tick}
 use Rattle.endpoint_laws.proofs.ResetReply.{Beside, IsApart, apart_beside, beside_is, reset_reply_is}
 use Rattle.endpoint_laws.proofs.Calls.{FinIsLast}
 use Rattle.endpoint_laws.proofs.StandingLaw.{Meets, next_is, accepts_is, first_is, ack_is, unsent_is, una_is, loss_is, received_receives, received_sends}
@@ -65,7 +65,7 @@ pub record Arrived (news : News) (before : Point) (e m : Tcb) : Type 0 where
   pub sent : m.sending.sent ≡ e.sending.sent
   pub bounds : IsBounded m
   pub fin_last : FinIsLast m.sending
-  pub told : last_advertised m ≡ last_advertised e
+  pub reported : last_advertised m ≡ last_advertised e
   pub timing : m.sending.timing ≡ timer.timing_noted news (resends news before) before (acknowledged_after news before)
   pub retransmission_due : m.retransmission_due ≡ ((timer.expires news before && is_unacknowledged e.sending) || resends news before)
   pub probe : m.probe ≡ (timer.expires news before && not (is_unacknowledged e.sending))
@@ -270,7 +270,7 @@ segment_arrives p e segment begun between stands usual =
       bounds = bounded_by_segment e segment begun b usual;
       fin_last = fin_last_kept e.sending (received e segment).sending (fin_sent_is e segment begun b usual) by.closed by.sent b.order una by.held
           between.fin_last;
-      told = told_by_segment e segment begun;
+      reported = reported_by_segment e segment begun;
       timing = by.timing ∙ timing_is p e segment (received e segment).sending.una m stands.timing (by.una ∙ sym (una_is p e segment m));
       retransmission_due = retransmission_law e segment begun b usual ∙ false_or e.retransmission_due _ between.retransmission_due ∙ sym (loss_is p e segment m);
       probe = probe_is e segment begun b ∙ between.probe;
@@ -295,7 +295,7 @@ nothing_arrives news p e between stands still none timing same quiet =
       sent = refl;
       bounds = between.bounds;
       fin_last = between.fin_last;
-      told = refl;
+      reported = refl;
       timing = sym stands.timing ∙ sym timing;
       retransmission_due = between.retransmission_due ∙ (λ i. (sym still i && p.rest == 1 && is_unacknowledged e.sending) || sym none i);
       probe = between.probe ∙ sym (ap (λ v. v && p.rest == 1 && not (is_unacknowledged e.sending)) still);
@@ -366,7 +366,7 @@ tick_arrives p e between stands =
       bounds = bounded_by_tick e between.bounds;
       fin_last = fin_last_kept t (ticked t) (tick_keeps (λ (q : Sending). q.fin_sent) t (λ c t i r. refl))
           (tick_keeps (λ (q : Sending). q.closed) t (λ c t i r. refl)) sent between.bounds.order (omega (arith, una)) (omega (arith, una, held)) between.fin_last;
-      told = refl;
+      reported = refl;
       timing = sending.ticked_timing e
           ∙ (λ i. if sym stands.rest i == 1 then with_backoff (min 64 (2 * sym stands.interval i)) (sym stands.timing i) else with_tick (sym stands.timing i));
       retransmission_due = false_or e.retransmission_due _ between.retransmission_due ∙ ap (λ v. v && is_unacknowledged t) runs_out ∙ or_false _;

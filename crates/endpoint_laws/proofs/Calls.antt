@@ -48,7 +48,7 @@ pub record IsUsed (m u : Tcb) : Type 0 where
   pub early : u.receiving.early ≡ m.receiving.early
   pub unread : (all : List ℕ) (fetched : ℕ) → drop (m.receiving.read + fetched) all ≡ m.receiving.unread → drop (u.receiving.read + fetched) all ≡ u.receiving.unread
   pub sends : SendsAs m.sending u.sending
-  pub told : last_advertised u ≡ last_advertised m
+  pub reported : last_advertised u ≡ last_advertised m
   pub ack_pending : u.ack_pending ≡ m.ack_pending
   pub retransmission_due : u.retransmission_due ≡ m.retransmission_due
   pub probe : u.probe ≡ m.probe
@@ -148,7 +148,7 @@ used_same m = record {
   early = refl;
   unread = λ all fetched h. h;
   sends = sends_same m.sending;
-  told = refl;
+  reported = refl;
   ack_pending = refl;
   retransmission_due = refl;
   probe = refl;
@@ -167,7 +167,7 @@ used_on m n u a b = record {
   early = b.early ∙ a.early;
   unread = λ all fetched h. b.unread all fetched (a.unread all fetched h);
   sends = sends_on m.sending n.sending u.sending a.sends b.sends;
-  told = b.told ∙ a.told;
+  reported = b.reported ∙ a.reported;
   ack_pending = b.ack_pending ∙ a.ack_pending;
   retransmission_due = b.retransmission_due ∙ a.retransmission_due;
   probe = b.probe ∙ a.probe;
@@ -198,7 +198,7 @@ used_call (Reads n) m may = record {
   early = refl;
   unread = λ all fetched h. read_on n m.receiving.read fetched all m.receiving.unread h;
   sends = sends_same m.sending;
-  told = refl;
+  reported = refl;
   ack_pending = refl;
   retransmission_due = refl;
   probe = refl;
@@ -216,7 +216,7 @@ used_call (Writes bytes) m may = record {
   unread = λ all fetched h. h;
   sends = sends_written m.sending (m.sending.held ++ bytes) m.sending.closed (omega (arith, length-append m.sending.held bytes)) (λ h. h)
       (λ h. none_behind m.sending.closed m.reset (length m.sending.held) (length bytes) h may.0 (length-append m.sending.held bytes));
-  told = refl;
+  reported = refl;
   ack_pending = refl;
   retransmission_due = refl;
   probe = refl;
@@ -233,7 +233,7 @@ used_call Closes m may = record {
   early = refl;
   unread = λ all fetched h. h;
   sends = sends_written m.sending m.sending.held true (omega arith) (λ h. refl) (λ h. refl);
-  told = refl;
+  reported = refl;
   ack_pending = refl;
   retransmission_due = refl;
   probe = refl;

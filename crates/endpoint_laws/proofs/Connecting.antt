@@ -26,7 +26,7 @@ use Rattle.endpoint_laws.specs.Laws.{KeepsTime, Bounds, IsBounded, asks}
 use Rattle.endpoint_laws.specs.Turn.{Call, MayCall, MayUse, IsBetweenTurns, arrived, called, used, before_flush, turned, sent_in}
 use Rattle.endpoint_laws.specs.Turn.Call.{Reads, Writes, Closes}
 use Rattle.endpoint_laws.specs.ConnectionEnd.{IsNamedRightly}
-use Rattle.endpoint_laws.specs.Advertisement.{Advertises, is_told, ReadsOnlyTaken}
+use Rattle.endpoint_laws.specs.Advertisement.{Advertises, is_reported, ReadsOnlyTaken}
 use Rattle.endpoint_laws.specs.ActiveOpen.{IsConnecting, FieldsFit}
 use Rattle.endpoint_laws.proofs.Bounding.{bounded_in_syn_sent}
 use Rattle.endpoint_laws.proofs.Timings.{initial_keeps, tick_keeps, backoff_keeps, ticked_measures}
@@ -36,7 +36,7 @@ use Rattle.endpoint_laws.proofs.TurnLaw.{flushed_timer}
 use Rattle.endpoint_laws.proofs.Turns.{between_again}
 use Rattle.endpoint_laws.proofs.Listening.{read_none}
 use Rattle.endpoint_laws.proofs.EndingLaw.{FollowsAt, used_keeps, used_follows, flush_follows, named_at, flushed_name}
-use Rattle.endpoint_laws.proofs.Advertised.{reset_reply_used, advertises_law, unanswered_tells}
+use Rattle.endpoint_laws.proofs.Advertised.{reset_reply_used, advertises_law, unanswered_reports}
 use Rattle.ft_io.proofs.Choices.{holds_if}
 use Rattle.ft_io.proofs.Booleans.{and_false}
 
@@ -475,10 +475,10 @@ pending_asks u ack_pending = ap (λ o. asks o u) ack_pending
 
 pub answers_advertise_law : (iss limit : ℕ) (news : News) (calls : List Call) (e : Tcb) → IsConnecting iss limit e → ReadsOnlyTaken calls (arrived news e)
     → has_begun (before_flush news calls e).name ≡ true
-    → AllByRecursion (Advertises (before_flush news calls e)) (sent_in news calls e) × (is_told (sent_in news calls e) ≡ true)
+    → AllByRecursion (Advertises (before_flush news calls e)) (sent_in news calls e) × (is_reported (sent_in news calls e) ≡ true)
 answers_advertise_law iss limit news calls e c may begun =
     let m : Tcb = arrived news e in
     let u : Tcb = used calls m in
     let h : Answered m = answered_by iss limit news e c (begun_before calls m begun) in
     let ack_pending : u.ack_pending ≡ true = used_keeps (λ (t : Tcb). t.ack_pending) call_ack_pending calls m ∙ h.ack_pending in
-    (advertises_law news calls e c.reset_reply may begun, unanswered_tells u begun (reset_reply_used calls m ∙ h.reset_reply) (pending_asks u ack_pending))
+    (advertises_law news calls e c.reset_reply may begun, unanswered_reports u begun (reset_reply_used calls m ∙ h.reset_reply) (pending_asks u ack_pending))

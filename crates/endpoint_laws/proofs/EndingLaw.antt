@@ -26,7 +26,7 @@ use Rattle.endpoint_laws.specs.Turn.{Call, called, used, IsBetweenTurns, arrived
 use Rattle.endpoint_laws.specs.Turn.Call.{Reads, Writes, Closes}
 use Rattle.endpoint_laws.specs.ConnectionEnd.{IsNamed, IsNamedRightly, resets, is_over}
 use Rattle.endpoint_laws.specs.PassiveOpen.{IsListening}
-use Rattle.endpoint_laws.proofs.TakenLaw.{begun_is, goes_on}
+use Rattle.endpoint_laws.proofs.TakenLaw.{begun_is, proceeds}
 use Rattle.endpoint_laws.proofs.Listening.{begun_by, closed_by_calls}
 use Rattle.endpoint_laws.proofs.SendingLaw.{answered_at, used_with, used_is}
 use Rattle.endpoint_laws.proofs.TurnLaw.{after_steps}
@@ -297,7 +297,7 @@ others_follow : (e : Tcb) (p : Segment) → (has_rst p && int_eq (first e p) (po
 unfolding in_others check_sequence with_time_wait_restarted
 others_follow e p unreset h =
     let m : Tcb = with_time_wait_restarted e p in
-    holds_if (λ (t : Tcb). FollowsAt t) (goes_on m p) (check_rst m p) (with_ack_pending_if (not (has_rst p)) m)
+    holds_if (λ (t : Tcb). FollowsAt t) (proceeds m p) (check_rst m p) (with_ack_pending_if (not (has_rst p)) m)
     (λ is. rst_follows m p unreset h) (λ none. h)
 
 pub received_follows : (e : Tcb) (p : Segment) → has_begun e.name ≡ true → (has_rst p && int_eq (first e p) (pos (next e.receiving))) ≡ false → FollowsAt e
@@ -578,7 +578,7 @@ others_reset : (e : Tcb) (p : Segment) → (has_rst p && int_eq (first e p) (pos
 unfolding in_others check_sequence with_time_wait_restarted
 others_reset e p unreset =
     let m : Tcb = with_time_wait_restarted e p in
-    holds_if (λ (t : Tcb). t.reset ≡ e.reset) (goes_on m p) (check_rst m p) (with_ack_pending_if (not (has_rst p)) m)
+    holds_if (λ (t : Tcb). t.reset ≡ e.reset) (proceeds m p) (check_rst m p) (with_ack_pending_if (not (has_rst p)) m)
     (λ is. rst_resets m p unreset) (λ none. refl)
 
 unreset_same : (news : News) (e : Tcb) → has_begun e.name ≡ true → resets news e ≡ false → (arrived news e).reset ≡ e.reset

@@ -35,7 +35,7 @@ use Rattle.endpoint_laws.proofs.TurnEnd.{timing_law, flushed_sends, full_keeps, 
 use Rattle.endpoint_laws.proofs.Timings.{initial_keeps}
 use Rattle.ft_io.proofs.Choices.{if_false}
 use Rattle.endpoint_laws.proofs.Turns.{between_again, flushed_receives, flushed_remote, leads_law}
-use Rattle.endpoint_laws.proofs.SegmentsLaw.{Tells, opening_at, one_retransmission, no_text_probe, no_fin_probe, probe_by, unprobed, no_text_out, no_fin_out, full_out_is}
+use Rattle.endpoint_laws.proofs.SegmentsLaw.{Reports, opening_at, one_retransmission, no_text_probe, no_fin_probe, probe_by, unprobed, no_text_out, no_fin_out, full_out_is}
 
 -- an endpoint that a SYN has just opened
 record Opened (measures : Bool) (local : Addr) (iss limit : ℕ) (syn : Segment) (m : Tcb) : Type 0 where
@@ -132,7 +132,7 @@ only_the_first ack_pending bare first = refl
 unsent_syn : (u : Tcb) → u.sending.syn_acked ≡ false → is_unacknowledged u.sending ≡ true
 unsent_syn u h = ap (λ o. not o || nat_lt u.sending.una u.sending.sent) h
 
-syn_ack_leaves : (p : Point) (u : Tcb) → Tells p u → has_begun u.name ≡ true → u.retransmission_due ≡ true → u.probe ≡ false → u.reset_reply ≡ None → u.sending.syn_acked ≡ false
+syn_ack_leaves : (p : Point) (u : Tcb) → Reports p u → has_begun u.name ≡ true → u.retransmission_due ≡ true → u.probe ≡ false → u.reset_reply ≡ None → u.sending.syn_acked ≡ false
     → u.sending.edge ≤ u.sending.sent → leaving u ≡ syn_ack u.local p ∷ []
 unfolding leaving full_out reset_reply_out retransmitted_segment
 syn_ack_leaves p u t begun retransmission_due probe reset_reply syn_unacked shut =
@@ -184,7 +184,7 @@ opened_turn measures local iss limit cisn fetched syn m u o a bounds whole numbe
     let interval : (flushed u).sending.interval ≡ base = timer.interval ∙ ap (λ b. if b then base else base) runs in
     let rest : (flushed u).sending.rest ≡ base = timer.rest ∙ ap (λ b. if b then base else 0) runs in
     let shut : u.sending.edge ≤ u.sending.sent = omega (arith, a.sends.edge, o.edge) in
-    let tells : Tells p u = record {
+    let reports : Reports p u = record {
       ip = ap (λ (r : Addr). r.ip) (sym (a.remote ∙ o.remote));
       port = ap (λ (r : Addr). r.port) (sym (a.remote ∙ o.remote));
       sisn = sends.sisn;
@@ -194,8 +194,8 @@ opened_turn measures local iss limit cisn fetched syn m u o a bounds whole numbe
     } in (
       between_again u begun bounds probes last (omega (arith, interval, (initial_keeps measures).base)),
       record {
-        ip = tells.ip ∙ ap (λ (r : Addr). r.ip) (sym (flushed_remote u));
-        port = tells.port ∙ ap (λ (r : Addr). r.port) (sym (flushed_remote u));
+        ip = reports.ip ∙ ap (λ (r : Addr). r.ip) (sym (flushed_remote u));
+        port = reports.port ∙ ap (λ (r : Addr). r.port) (sym (flushed_remote u));
         receives = flushed_receives p u receives;
         sends = flushed_sends p u sends;
         sent = sent_none u.sending.sent (target u.sending) (send_edge u.sending) u.probe (a.sends.sent ∙ o.sent) (omega (arith, a.sends.edge, o.edge)) probe
@@ -208,7 +208,7 @@ opened_turn measures local iss limit cisn fetched syn m u o a bounds whole numbe
         delays = refl;
         timestamping = refl;
       },
-      syn_ack_leaves p u tells begun (a.retransmission_due ∙ o.retransmission_due) probe (a.reset_reply ∙ o.reset_reply) syn_acked (omega (arith, a.sends.edge, o.edge))
+      syn_ack_leaves p u reports begun (a.retransmission_due ∙ o.retransmission_due) probe (a.reset_reply ∙ o.reset_reply) syn_acked (omega (arith, a.sends.edge, o.edge))
           ∙ ap (λ l. syn_ack l p ∷ []) (a.local ∙ o.local_is),
     )
 

@@ -6,7 +6,7 @@ pub mod Bounding
 pub mod TurnLaw
 pub mod OwedLaw
 pub mod StandingLaw
-pub mod ToldLaw
+pub mod ReportedLaw
 pub mod Flushing
 pub mod ResetReply
 pub mod Calls

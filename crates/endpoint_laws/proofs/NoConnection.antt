@@ -23,7 +23,7 @@ use Rattle.tcp_endpoint.specs.UserCalls.{after_tick, timer_ticked, waited}
 use Rattle.endpoint_laws.specs.Laws.{ticked_interval, ticked_rest, IsTimedBy, timing_ticked}
 use Rattle.endpoint_laws.specs.Turn.{Call, MayUse, arrived, called, used, before_flush, turned, sent_in}
 use Rattle.endpoint_laws.specs.Turn.Call.{Reads, Writes, Closes}
-use Rattle.endpoint_laws.specs.Advertisement.{Advertises, is_told, ReadsOnlyTaken}
+use Rattle.endpoint_laws.specs.Advertisement.{Advertises, is_reported, ReadsOnlyTaken}
 use Rattle.endpoint_laws.specs.PassiveOpen.{IsListening, brings_syn}
 use Rattle.endpoint_laws.specs.ActiveOpen.{IsConnecting}
 use Rattle.endpoint_laws.specs.Unconnected.{sent_in_closed, sent_in_listen, acknowledges_syn, refused_in_syn_sent, resets_in_syn_sent, answers_in_syn_sent, state_after_syn_sent, syn_of, expires_at, interval_waiting, rest_waiting}
@@ -33,7 +33,7 @@ use Rattle.endpoint_laws.proofs.TurnLaw.{flushed_timer, ticked_law}
 use Rattle.endpoint_laws.proofs.SendingLaw.{ticked_timing}
 use Rattle.endpoint_laws.proofs.Calls.{IsUsed, used_is}
 use Rattle.endpoint_laws.proofs.EndingLaw.{used_keeps, call_resets}
-use Rattle.endpoint_laws.proofs.Advertised.{reset_reply_used, begun_used, advertises_law, retransmission_is_told}
+use Rattle.endpoint_laws.proofs.Advertised.{reset_reply_used, begun_used, advertises_law, retransmission_is_reported}
 use Rattle.endpoint_laws.proofs.Connecting.{Connects, connects_at_connect, connects_arrived, connects_used, received_by, syn_leaves, still_connecting, sent_before, answered_name, refusing_name, begun_name, closed_name}
 use Rattle.ft_io.proofs.Choices.{by_cases}
 use Rattle.ft_io.proofs.Booleans.{or_false, or_true, and_true}
@@ -507,9 +507,9 @@ begun_is_due : (e : Tcb) (p : Segment) → ((begun e p).retransmission_due ≡ t
 unfolding begun
 begun_is_due e p = (refl, refl, refl, refl)
 
-pub syn_is_told_law : (iss limit : ℕ) (syn : Segment) (calls : List Call) (e : Tcb) → IsListening iss limit e → is_syn syn ≡ true → ReadsOnlyTaken calls (received e syn)
-    → AllByRecursion (Advertises (before_flush (Comes syn) calls e)) (sent_in (Comes syn) calls e) × (is_told (sent_in (Comes syn) calls e) ≡ true)
-syn_is_told_law iss limit syn calls e l is may =
+pub syn_is_reported_law : (iss limit : ℕ) (syn : Segment) (calls : List Call) (e : Tcb) → IsListening iss limit e → is_syn syn ≡ true → ReadsOnlyTaken calls (received e syn)
+    → AllByRecursion (Advertises (before_flush (Comes syn) calls e)) (sent_in (Comes syn) calls e) × (is_reported (sent_in (Comes syn) calls e) ≡ true)
+syn_is_reported_law iss limit syn calls e l is may =
     let m : Tcb = received e syn in
     let u : Tcb = used calls m in
     let same : m ≡ begun e syn = begun_by e syn l.name is in
@@ -518,6 +518,6 @@ syn_is_told_law iss limit syn calls e l is may =
     let syn_unacked : u.sending.syn_acked ≡ false =
     used_keeps (λ (t : Tcb). t.sending.syn_acked) call_opens calls m ∙ ap (λ (t : Tcb). t.sending.syn_acked) same ∙ due.2 ∙ ap (λ (s : Sending). s.syn_acked) l.sending in (
       advertises_law (Comes syn) calls e l.reset_reply may there,
-      retransmission_is_told u there (reset_reply_used calls m ∙ ap (λ (t : Tcb). t.reset_reply) same ∙ due.1 ∙ l.reset_reply)
+      retransmission_is_reported u there (reset_reply_used calls m ∙ ap (λ (t : Tcb). t.reset_reply) same ∙ due.1 ∙ l.reset_reply)
           (retransmission_used calls m ∙ ap (λ (t : Tcb). t.retransmission_due) same ∙ due.0) (ap (λ b. not b || nat_lt u.sending.una u.sending.sent) syn_unacked),
     )

@@ -14,7 +14,7 @@ use Rattle.tcp_endpoint.specs.Tcb.{Tcb}
 use Rattle.tcp_endpoint.specs.Arrival.{first, ack_at, with_ack_pending_if, with_reset, entering, with_text_and_fin, with_fin_acked, with_first_ack, with_ack_used, with_ack, check_ack, check_syn, check_rst, with_time_wait_restarted, check_sequence, in_others, received, with_reset_reply}
 use Rattle.tcp_endpoint.specs.Arrival as check
 use Rattle.endpoint_laws.specs.Laws.{accepts, acknowledges_unsent, misses_syn, is_refused, is_unsent_ack, needs_ack_if_acceptable, needs_ack, IsBounded, IsUsual}
-use Rattle.endpoint_laws.proofs.TakenLaw.{same_if, if_when, begun_is, at_ack, goes_on, segment_taken, ahead_at, accepts_same}
+use Rattle.endpoint_laws.proofs.TakenLaw.{same_if, if_when, begun_is, at_ack, proceeds, segment_taken, ahead_at, accepts_same}
 use Rattle.ft_io.proofs.Booleans.{or_other, or_false, and_true, and_false, left_false, right_false, false_or}
 use Rattle.ft_io.proofs.Choices.{by_cases, of_if}
 
@@ -152,7 +152,7 @@ allowed_ack_pending e p b usual none unacceptable allowed =
     ∙ same_if (has_syn p) true ∙ ap not (sym no_rst)
 
 -- a segment that goes on
-further_ack_pending : (e : Tcb) (p : Segment) → IsBounded e → IsUsual e p → e.ack_pending ≡ false → is_refused e p ≡ false → goes_on e p ≡ true
+further_ack_pending : (e : Tcb) (p : Segment) → IsBounded e → IsUsual e p → e.ack_pending ≡ false → is_refused e p ≡ false → proceeds e p ≡ true
     → (check_rst (with_time_wait_restarted e p) p).ack_pending ≡ needs_ack e p
 further_ack_pending e p b usual none unrefused goes =
     by_cases (check.accepts e p)
@@ -167,8 +167,8 @@ unfolding received in_others check_sequence with_time_wait_restarted check.accep
 ack_pending_law e p begun b usual none unrefused =
     let e0 : Tcb = with_time_wait_restarted e p in
     ap (λ (t : Tcb). t.ack_pending) (begun_is e.name e p begun)
-    ∙ of_if (λ (t : Tcb). t.ack_pending) (goes_on e p) (check_rst e0 p) (with_ack_pending_if (not (has_rst p)) e0)
-    ∙ if_when (goes_on e p) _ (needs_ack e p) _ (needs_ack e p) (λ goes. further_ack_pending e p b usual none unrefused goes)
+    ∙ of_if (λ (t : Tcb). t.ack_pending) (proceeds e p) (check_rst e0 p) (with_ack_pending_if (not (has_rst p)) e0)
+    ∙ if_when (proceeds e p) _ (needs_ack e p) _ (needs_ack e p) (λ goes. further_ack_pending e p b usual none unrefused goes)
     (λ stays. false_or e.ack_pending (not (has_rst p)) none
     ∙ ap (λ v. if v then needs_ack_if_acceptable e p else not (has_rst p)) (sym (left_false (check.accepts e p) (check.is_allowed e p) stays) ∙ accepts_same e p))
-    ∙ same_if (goes_on e p) (needs_ack e p)
+    ∙ same_if (proceeds e p) (needs_ack e p)

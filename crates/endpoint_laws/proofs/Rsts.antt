@@ -19,7 +19,7 @@ use Rattle.tcp_endpoint.specs.Arrival.{first, ack_at, with_ack_pending_if, with_
 use Rattle.tcp_endpoint.specs.Output.{reset_reply_segments}
 use Rattle.tcp_endpoint.specs.UserCalls.{after_tick, timer_ticked, waited}
 use Rattle.endpoint_laws.specs.Turn.{arrived}
-use Rattle.endpoint_laws.proofs.TakenLaw.{goes_on}
+use Rattle.endpoint_laws.proofs.TakenLaw.{proceeds}
 use Rattle.endpoint_laws.proofs.ResetReply.{Beside, apart_beside, reset_reply_apart, later_part}
 use Rattle.ft_io.proofs.Choices.{holds_if}
 
@@ -74,7 +74,7 @@ by_others : (taken : ℕ) (e : Tcb) (p : Segment) → Came taken e → Refuses t
 unfolding in_others check_sequence with_time_wait_restarted
 by_others taken e p c =
     let m : Tcb = with_time_wait_restarted e p in
-    holds_if (λ (t : Tcb). Refuses taken t) (goes_on m p) (check_rst m p) (with_ack_pending_if (not (has_rst p)) m) (λ b. by_rst taken m p c) (λ b. inl c.0)
+    holds_if (λ (t : Tcb). Refuses taken t) (proceeds m p) (check_rst m p) (with_ack_pending_if (not (has_rst p)) m) (λ b. by_rst taken m p c) (λ b. inl c.0)
 
 -- CLOSED, LISTEN and SYN-SENT
 by_closed : (taken : ℕ) (e : Tcb) (p : Segment) → Came taken e → Refuses taken (in_closed e p)

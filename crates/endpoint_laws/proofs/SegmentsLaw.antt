@@ -249,7 +249,7 @@ small_window : (r : Receiving) → window r ≡ min 65535 (window r)
 small_window r = omega arith
 
 -- what every segment tells: the numbers of the connection, and all that is taken
-pub record Tells (p : Point) (u : Tcb) : Type 0 where
+pub record Reports (p : Point) (u : Tcb) : Type 0 where
   pub ip : p.key.ip ≡ u.remote.ip
   pub port : p.key.port ≡ u.remote.port
   pub sisn : p.sisn ≡ u.sending.iss
@@ -257,10 +257,10 @@ pub record Tells (p : Point) (u : Tcb) : Type 0 where
   pub answered : taken_units p ≤ p.answered
   pub timestamping : p.timestamping ≡ Off
 
-tells : {State : Type 0} {service : Machine State} {news : News} {before after : Point} {u : Tcb} → Flushes service news before after u → Tells after u
-tells f = record { ip = f.ip; port = f.port; sisn = f.sends.sisn; receives = f.receives; answered = f.used.answered; timestamping = f.timestamping }
+reports : {State : Type 0} {service : Machine State} {news : News} {before after : Point} {u : Tcb} → Flushes service news before after u → Reports after u
+reports f = record { ip = f.ip; port = f.port; sisn = f.sends.sisn; receives = f.receives; answered = f.used.answered; timestamping = f.timestamping }
 
-head_at_is : (p : Point) (u : Tcb) → Tells p u → (seq flags : ℕ) → head_at u seq flags ≡ model.head_to u.local p seq flags None
+head_at_is : (p : Point) (u : Tcb) → Reports p u → (seq flags : ℕ) → head_at u seq flags ≡ model.head_to u.local p seq flags None
 unfolding head_at
 head_at_is p u t seq flags =
     let units : next u.receiving + p.fetched ≡ acknowledgement p = sym (next_is p u t.receives) ∙ least_first (taken_units p) p.answered t.answered in
@@ -284,10 +284,10 @@ head_at_is p u t seq flags =
 
 head_is : {State : Type 0} {service : Machine State} {news : News} {before after : Point} {u : Tcb} → Flushes service news before after u
     → (seq flags : ℕ) → head_at u seq flags ≡ model.head_to u.local after seq flags None
-head_is {after = after} {u = u} f seq flags = head_at_is after u (tells f) seq flags
+head_is {after = after} {u = u} f seq flags = head_at_is after u (reports f) seq flags
 
 -- the SYN-ACK
-pub opening_at : (p : Point) (u : Tcb) → Tells p u → has_begun u.name ≡ true → opening_segment u ≡ model.syn_ack u.local p
+pub opening_at : (p : Point) (u : Tcb) → Reports p u → has_begun u.name ≡ true → opening_segment u ≡ model.syn_ack u.local p
 unfolding opening_segment
 opening_at p u t begun =
     ap (λ b. if b then record { head = record (head_at u u.sending.iss 2) { ack = 0; mss = Some 1460 }; payload = [] }
@@ -296,7 +296,7 @@ opening_at p u t begun =
 
 opening_is : {State : Type 0} {service : Machine State} {news : News} {before after : Point} {u : Tcb} → Flushes service news before after u
     → opening_segment u ≡ model.syn_ack u.local after
-opening_is {after = after} {u = u} f = opening_at after u (tells f) f.begun
+opening_is {after = after} {u = u} f = opening_at after u (reports f) f.begun
 
 -- text at a place after what is acknowledged, within what is held
 shorter_front : (n k : ℕ) (xs : List ℕ) → take n (take (n + k) xs) ≡ take n xs

@@ -10,7 +10,7 @@ use Rattle.seq_arith.specs.Offset.{text_of, fin_of, length_of}
 use Rattle.tcp_rules.specs.Congestion.{Congestion, is_partial, with_new_data, is_third, with_duplicate, with_expiry}
 use Rattle.tcp_rules.specs.Timing.{Timing, with_acknowledged, without_trip}
 use Rattle.tcp_buffers.specs.Near.{IsNearFirst, is_ahead}
-use Rattle.tcp_buffers.proofs.NumbersTell.{between_is, same_is}
+use Rattle.tcp_buffers.proofs.NumbersShow.{between_is, same_is}
 use Rattle.tcp_endpoint.specs.States.{after_syn_acked, after_fin, after_fin_acked, has_begun}
 use Rattle.tcp_endpoint.specs.ReceiveHalf.{Receiving, taken, next, advertised_edge}
 use Rattle.tcp_endpoint.specs.SendHalf.{Sending, with_syn_acked, acknowledged, timing_acknowledged, duplicated, untimed_if, answered_by, fin_acked, moves_edge, expires}
@@ -20,7 +20,7 @@ use Rattle.tcp_endpoint.specs.Arrival.{first, ack_at, with_ack_pending_if, enter
 use Rattle.tcp_endpoint.specs.UserCalls.{after_tick, timer_ticked, waited}
 use Rattle.endpoint_laws.specs.Laws.{counts, acknowledges, uses_window, is_duplicate, shows_loss, timing_by, congestion_by, is_first_expiry, congestion_ticked, timing_ticked, IsSentBy, IsBounded, IsUsual}
 use Rattle.tcp_endpoint.proofs.Places.{near_of_usable}
-use Rattle.endpoint_laws.proofs.TakenLaw.{same_if, if_when, by_checks, begun_is, Aside, at_ack, goes_on, others_part, segment_taken, few_sent, text_whole, fin_whole, IsCounted, counted, chosen_is}
+use Rattle.endpoint_laws.proofs.TakenLaw.{same_if, if_when, by_checks, begun_is, Aside, at_ack, proceeds, others_part, segment_taken, few_sent, text_whole, fin_whole, IsCounted, counted, chosen_is}
 use Rattle.endpoint_laws.proofs.Timings.{acknowledged_none, measured, itself_less}
 use Rattle.ft_io.proofs.Booleans.{or_false, and_false}
 use Rattle.ft_io.proofs.Choices.{of_if}
@@ -63,11 +63,11 @@ sending_aside = record { with_reset = λ e. refl; pending = λ b e. refl; waitin
 
 checks_use : (e : Tcb) (p : Segment)
     → (in_others e p).sending
-    ≡ by_checks (goes_on e p) (has_rst p) (has_syn p) (has_ack p) e.sending.syn_acked
+    ≡ by_checks (proceeds e p) (has_rst p) (has_syn p) (has_ack p) e.sending.syn_acked
     (int_eq (ack_at e p) (pos 0)) (is_ahead e.sending.sent (ack_at e p)) (answered_at e p) (with_syn_acked e.sending p.head.seq p.head.window) e.sending
 unfolding with_time_wait_restarted
 checks_use e p =
-    others_part (λ (t : Tcb). t.sending) e p sending_aside ∙ if_when (goes_on e p) _ _ _ _
+    others_part (λ (t : Tcb). t.sending) e p sending_aside ∙ if_when (proceeds e p) _ _ _ _
     (λ goes. if_when (has_rst p) _ _ _ _ (λ h. refl)
     (λ no_rst. if_when (has_syn p) _ _ _ _ (λ h. refl)
     (λ no_syn. if_when (has_ack p) _ _ _ _
@@ -463,11 +463,11 @@ retransmission_aside = record { with_reset = λ e. refl; pending = λ b e. refl;
 
 checks_repeat : (e : Tcb) (p : Segment)
     → (in_others e p).retransmission_due
-    ≡ by_checks (goes_on e p) (has_rst p) (has_syn p) (has_ack p) e.sending.syn_acked (int_eq (ack_at e p) (pos 0)) (is_ahead e.sending.sent (ack_at e p))
+    ≡ by_checks (proceeds e p) (has_rst p) (has_syn p) (has_ack p) e.sending.syn_acked (int_eq (ack_at e p) (pos 0)) (is_ahead e.sending.sent (ack_at e p))
     (later_retransmission e p) e.retransmission_due e.retransmission_due
 unfolding with_time_wait_restarted
 checks_repeat e p =
-    others_part (λ (t : Tcb). t.retransmission_due) e p retransmission_aside ∙ if_when (goes_on e p) _ _ _ _
+    others_part (λ (t : Tcb). t.retransmission_due) e p retransmission_aside ∙ if_when (proceeds e p) _ _ _ _
     (λ goes. if_when (has_rst p) _ _ _ _ (λ h. refl)
     (λ no_rst. if_when (has_syn p) _ _ _ _ (λ h. refl)
     (λ no_syn. if_when (has_ack p) _ _ _ _

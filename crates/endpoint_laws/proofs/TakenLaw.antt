@@ -26,8 +26,8 @@ same_if true x = refl
 same_if false x = refl
 
 -- the first check lets a segment go on to the others
-abbrev pub goes_on : Tcb → Segment → Bool
-goes_on e p = check.accepts e p || check.is_allowed e p
+abbrev pub proceeds : Tcb → Segment → Bool
+proceeds e p = check.accepts e p || check.is_allowed e p
 
 -- what the checks choose, by their tests in the order of the checks
 abbrev pub by_checks : {X : Type 0} → (goes rst syn ack syn_acked acks_syn ahead : Bool) → X → X → X → X
@@ -76,11 +76,11 @@ pub record Aside {X : Type 0} (f : Tcb → X) : Type 0 where
   pub pending : (b : Bool) (e : Tcb) → f (with_ack_pending_if b e) ≡ f e
   pub waiting : (e : Tcb) (p : Segment) → f (with_time_wait_restarted e p) ≡ f e
 
-place_part : {X : Type 0} (f : Tcb → X) (e : Tcb) (p : Segment) → Aside f → f (check_sequence e p) ≡ (if goes_on e p then f (check_rst e p) else f e)
+place_part : {X : Type 0} (f : Tcb → X) (e : Tcb) (p : Segment) → Aside f → f (check_sequence e p) ≡ (if proceeds e p then f (check_rst e p) else f e)
 unfolding check_sequence
 place_part f e p aside =
-    of_if f (goes_on e p) (check_rst e p) (with_ack_pending_if (not (has_rst p)) e)
-    ∙ ap (λ x. if goes_on e p then f (check_rst e p) else x) (aside.pending (not (has_rst p)) e)
+    of_if f (proceeds e p) (check_rst e p) (with_ack_pending_if (not (has_rst p)) e)
+    ∙ ap (λ x. if proceeds e p then f (check_rst e p) else x) (aside.pending (not (has_rst p)) e)
 
 reset_part : {X : Type 0} (f : Tcb → X) (e : Tcb) (b : Bool) → Aside f → f (if b then with_reset e else with_ack_pending_if true e) ≡ f e
 reset_part f e true aside = aside.with_reset e
@@ -112,13 +112,13 @@ at_ack e p = with_ack_pending_if (nat_lt 0 (length_of p)) (with_time_wait_restar
 
 pub others_part : {X : Type 0} (f : Tcb → X) (e : Tcb) (p : Segment) → Aside f
     → f (in_others e p)
-    ≡ (if goes_on e p
+    ≡ (if proceeds e p
     then (if has_rst p then f e else (if has_syn p then f e else (if has_ack p then (if e.sending.syn_acked then f (with_ack (at_ack e p) p) else f (with_first_ack (at_ack e p) p)) else f e)))
     else f e)
 unfolding in_others with_time_wait_restarted check.accepts check.is_allowed
 others_part f e p aside =
     let e0 : Tcb = with_time_wait_restarted e p in
-    place_part f e0 p aside ∙ if_when (goes_on e p) _ _ _ _
+    place_part f e0 p aside ∙ if_when (proceeds e p) _ _ _ _
     (λ goes. rst_part f e0 p aside ∙ if_when (has_rst p) _ _ _ _
     (λ h. aside.waiting e p)
     (λ no_rst. syn_part f e0 p aside ∙ if_when (has_syn p) _ _ _ _
@@ -163,11 +163,11 @@ receiving_aside = record { with_reset = λ e. refl; pending = λ b e. refl; wait
 
 checks_take : (e : Tcb) (p : Segment)
     → (in_others e p).receiving
-    ≡ by_checks (goes_on e p) (has_rst p) (has_syn p) (has_ack p) e.sending.syn_acked
+    ≡ by_checks (proceeds e p) (has_rst p) (has_syn p) (has_ack p) e.sending.syn_acked
     (int_eq (ack_at e p) (pos 0)) (is_ahead e.sending.sent (ack_at e p)) (segment_taken e p) (segment_taken e p) e.receiving
 unfolding with_time_wait_restarted
 checks_take e p =
-    others_part (λ (t : Tcb). t.receiving) e p receiving_aside ∙ if_when (goes_on e p) _ _ _ _
+    others_part (λ (t : Tcb). t.receiving) e p receiving_aside ∙ if_when (proceeds e p) _ _ _ _
     (λ goes. if_when (has_rst p) _ _ _ _ (λ h. refl)
     (λ no_rst. if_when (has_syn p) _ _ _ _ (λ h. refl)
     (λ no_syn. if_when (has_ack p) _ _ _ _
@@ -267,7 +267,7 @@ accepts_same e p = λ i. is_acceptable_or_at_edge (next e.receiving) (sym (windo
 
 -- what the checks choose, in the words of the law
 pub chosen_is : {X : Type 0} (e : Tcb) (p : Segment) (later first_one other : X) → IsBounded e → IsUsual e p
-    → by_checks (goes_on e p) (has_rst p) (has_syn p) (has_ack p) e.sending.syn_acked (int_eq (ack_at e p) (pos 0)) (is_ahead e.sending.sent (ack_at e p)) later first_one other
+    → by_checks (proceeds e p) (has_rst p) (has_syn p) (has_ack p) e.sending.syn_acked (int_eq (ack_at e p) (pos 0)) (is_ahead e.sending.sent (ack_at e p)) later first_one other
     ≡ (if counts e p then (if e.sending.syn_acked then later else first_one) else other)
 unfolding check.accepts check.is_allowed
 chosen_is {X = X} e p later first_one other bounded usual =

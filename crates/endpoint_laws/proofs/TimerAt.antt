@@ -62,12 +62,12 @@ true_right true = refl
 true_right false = refl
 
 -- what the timer of the endpoint before the turn says: where it doesn't start anew it goes on running
-goes_on : (o o' : Bool) (una una' sent goal goal' : ℕ) → (not o || nat_lt una (max sent goal)) ≡ true → una ≤ una' → (una' ≡ una → goal ≤ goal')
+proceeds : (o o' : Bool) (una una' sent goal goal' : ℕ) → (not o || nat_lt una (max sent goal)) ≡ true → una ≤ una' → (una' ≡ una → goal ≤ goal')
     → (nat_lt una una' || (o' && not o)) ≡ false → (not o' || nat_lt una' (max sent goal')) ≡ true
-goes_on true true una una' sent goal goal' must up grows none = let same : una' ≡ una = grind arith in grind (arith, grows same)
-goes_on true false una una' sent goal goal' must up grows none = refl
-goes_on false false una una' sent goal goal' must up grows none = refl
-goes_on false true una una' sent goal goal' must up grows none = absurd (false≢true (sym none ∙ true_right (nat_lt una una')))
+proceeds true true una una' sent goal goal' must up grows none = let same : una' ≡ una = grind arith in grind (arith, grows same)
+proceeds true false una una' sent goal goal' must up grows none = refl
+proceeds false false una una' sent goal goal' must up grows none = refl
+proceeds false true una una' sent goal goal' must up grows none = absurd (false≢true (sym none ∙ true_right (nat_lt una una')))
 
 pub some_left : (rest : ℕ) → (rest == 0) ≡ false → 1 ≤ rest
 some_left rest h = grind arith
@@ -108,7 +108,7 @@ runs_on service news before after e m u t none =
     let must : must_run s ≡ true = t.between.runs (some_left s.rest parts.0) in
     let on : must_run k ≡ true =
     ap (λ n. not k.syn_acked || nat_lt k.una (max n (target k))) t.arrived.sent
-    ∙ goes_on s.syn_acked k.syn_acked s.una k.una s.sent (target s) (target k) must t.arrived.una t.arrived.target parts.1 in
+    ∙ proceeds s.syn_acked k.syn_acked s.una k.una s.sent (target s) (target k) must t.arrived.una t.arrived.target parts.1 in
     t.still (runs_used k u.sending t.used.sends on)
 
 -- it starts with the interval of the estimate, which the user's calls leave

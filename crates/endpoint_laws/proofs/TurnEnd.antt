@@ -16,7 +16,7 @@ use Rattle.tcp_endpoint.specs.Output.{probes, probes_text, probes_fin, with_prob
 use Rattle.endpoint_laws.specs.Laws.{IsBounded, ProbesRightly, timing_at_end}
 use Rattle.endpoint_laws.specs.Refinement.{SendsAt, HasWrittenAll, HasFilled, IsUsedAt}
 use Rattle.endpoint_laws.proofs.TurnLaw.{after_steps, by_probe, timed_sent, timed_timing, steps_sent, steps_timing, fin_unsent, waits_fin, probing, nothing_held}
-use Rattle.endpoint_laws.proofs.ToldLaw.{after_probe}
+use Rattle.endpoint_laws.proofs.ReportedLaw.{after_probe}
 use Rattle.endpoint_laws.proofs.Calls.{FinIsLast}
 use Rattle.ft_io.proofs.Booleans.{left_true, right_true, false_by}
 use Rattle.ft_io.proofs.Choices.{if_false}

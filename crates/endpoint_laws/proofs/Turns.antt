@@ -33,7 +33,7 @@ use Rattle.endpoint_laws.specs.Refinement.{ReceivesAt, SendsAt, StandsAt, MeetsL
 use Rattle.ft_model.proofs.Stamped.{stays_off}
 use Rattle.endpoint_laws.proofs.Bounding.{bounded_by_flush}
 use Rattle.endpoint_laws.proofs.TurnLaw.{sent_law}
-use Rattle.endpoint_laws.proofs.ToldLaw.{leaving_by, told_by_flush, shut_by_flush}
+use Rattle.endpoint_laws.proofs.ReportedLaw.{leaving_by, reported_by_flush, shut_by_flush}
 use Rattle.endpoint_laws.proofs.StandingLaw.{next_is, advertised_is}
 use Rattle.endpoint_laws.proofs.Calls.{FinIsLast, IsUsed, used_is, bounded_used, last_used, probes_used}
 use Rattle.endpoint_laws.proofs.Arrivals.{moved, Arrived, arrives, ack_pending_is}
@@ -192,13 +192,13 @@ same_moves a b k = grind arith
 asks_is : {State : Type 0} (service : Machine State) (news : News) (before after : Point) (e m u : Tcb) → IsBetweenTurns e → StandsAt before e → Arrived news before e m
     → IsUsed m u → MeetsLaws service news before after → ReceivesAt after u → m.ack_pending ≡ news_needs_ack news before → asks u.ack_pending u ≡ is_ack_pending news before after
 asks_is service news before after e m u between stands came a laws r ack_pending =
-    let heard : last_advertised u ≡ (next e.receiving, half.advertised_edge e.receiving) = a.told ∙ came.told ∙ between.told in
+    let receipt : last_advertised u ≡ (next e.receiving, half.advertised_edge e.receiving) = a.reported ∙ came.reported ∙ between.reported in
     let units : (u.last_ack_sent == next u.receiving) ≡ (taken_units before == taken_units after) =
-    ap (λ t. t.0 == next u.receiving) heard ∙ same_moves (next e.receiving) (next u.receiving) before.fetched
+    ap (λ t. t.0 == next u.receiving) receipt ∙ same_moves (next e.receiving) (next u.receiving) before.fetched
     ∙ (λ i. sym (next_is before e stands.receives) i == (next u.receiving + sym laws.same.fetched i))
     ∙ ap (λ n. taken_units before == n) (sym (next_is after u r)) in
     let edges : (u.last_advertised_edge == half.advertised_edge u.receiving) ≡ (advertised_edge before == advertised_edge after) =
-    ap (λ t. t.1 == half.advertised_edge u.receiving) heard ∙ same_moves (half.advertised_edge e.receiving) (half.advertised_edge u.receiving) before.fetched
+    ap (λ t. t.1 == half.advertised_edge u.receiving) receipt ∙ same_moves (half.advertised_edge e.receiving) (half.advertised_edge u.receiving) before.fetched
     ∙ (λ i. sym (advertised_is before e stands.receives) i == (half.advertised_edge u.receiving + sym laws.same.fetched i))
     ∙ ap (λ n. advertised_edge before == n) (sym (advertised_is after u r)) in
     λ i. (a.ack_pending ∙ ack_pending) i || not (units i) || not (edges i)
@@ -257,7 +257,7 @@ pub between_again : (u : Tcb) → has_begun u.name ≡ true → IsBounded u → 
 unfolding flushed with_turn_ended with_advertised after_full left.with_timed left.with_fin_out left.with_text_sent left.with_probe
 between_again u begun bounds probes last interval = record {
   bounds = bounded_by_flush u bounds;
-  told = told_by_flush u begun;
+  reported = reported_by_flush u begun;
   ack_pending = refl;
   retransmission_due = refl;
   probe = refl;

@@ -24,7 +24,7 @@ use Rattle.endpoint_laws.specs.Turn.{Call, Events, IsBetweenTurns, arrived, call
 use Rattle.endpoint_laws.specs.Turn.Call.{Reads, Writes, Closes}
 use Rattle.endpoint_laws.specs.ConnectionEnd.{IsNamedRightly, resets}
 use Rattle.endpoint_laws.specs.TimeWait.{time_wait_ticks, brings_fin_again, ticks_after, WaitsOut}
-use Rattle.endpoint_laws.proofs.TakenLaw.{begun_is, goes_on}
+use Rattle.endpoint_laws.proofs.TakenLaw.{begun_is, proceeds}
 use Rattle.endpoint_laws.proofs.SendingLaw.{used_is}
 use Rattle.endpoint_laws.proofs.TurnLaw.{after_steps}
 use Rattle.endpoint_laws.proofs.SegmentsLaw.{kept}
@@ -104,7 +104,7 @@ unfolding in_others check_sequence with_time_wait_restarted
 enters_others e p out =
     let m : Tcb = with_time_wait_restarted e p in
     let h : Enters m = outside m out in
-    holds_if Enters (goes_on m p) (check_rst m p) (with_ack_pending_if (not (has_rst p)) m)
+    holds_if Enters (proceeds m p) (check_rst m p) (with_ack_pending_if (not (has_rst p)) m)
     (λ b. enters_rst m p h) (λ b. h)
 
 ticked_outside : (e : Tcb) → is_time_wait e.name ≡ false → Enters (after_tick e)
@@ -214,7 +214,7 @@ waits_others : (wait : ℕ) (e : Tcb) (p : Segment) → (has_rst p && int_eq (fi
 unfolding in_others check_sequence with_time_wait_restarted
 waits_others wait e p unreset w =
     let m : Tcb = with_time_wait_restarted e p in
-    holds_if (Waits wait) (goes_on m p) (check_rst m p) (with_ack_pending_if (not (has_rst p)) m)
+    holds_if (Waits wait) (proceeds m p) (check_rst m p) (with_ack_pending_if (not (has_rst p)) m)
     (λ b. waits_rst wait m p unreset w) (λ b. pending_waits wait m (m.ack_pending || not (has_rst p)) w)
 
 -- the peer's FIN is the unit before RCV.NXT

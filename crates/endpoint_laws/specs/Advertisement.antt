@@ -16,8 +16,8 @@ Advertises u segment =
     → (has_ack segment ≡ true) × (segment.head.ack ≡ number_at u.receiving.irs (next u.receiving)) × (segment.head.window ≡ window u.receiving)
 
 -- some segment isn't a RST
-abbrev pub is_told : List Segment → Bool
-is_told segments = list_any (λ segment. not (has_rst segment)) segments
+abbrev pub is_reported : List Segment → Bool
+is_reported segments = list_any (λ segment. not (has_rst segment)) segments
 
 -- no call reads more than there is
 abbrev pub ReadsOnlyTaken : List Call → Tcb → Type 0
@@ -32,5 +32,5 @@ AcknowledgesAll e (turn ∷ turns) =
     (ReadsOnlyTaken turn.calls (arrived turn.news e)
     → has_begun (before_flush turn.news turn.calls e).name ≡ true
     → AllByRecursion (Advertises (before_flush turn.news turn.calls e)) (sent_in turn.news turn.calls e)
-    × ((next (before_flush turn.news turn.calls e).receiving ≡ next e.receiving → ⊥) → is_told (sent_in turn.news turn.calls e) ≡ true))
+    × ((next (before_flush turn.news turn.calls e).receiving ≡ next e.receiving → ⊥) → is_reported (sent_in turn.news turn.calls e) ≡ true))
     × AcknowledgesAll (turned turn.news turn.calls e) turns

@@ -69,7 +69,7 @@ IsUsualNews _ e = Unit {0}
 -- between two turns of a connection that has begun nothing is due, and all that is taken and the edge are advertised
 pub record IsBetweenTurns (e : Tcb) : Type 0 where
   pub bounds : IsBounded e
-  pub told : last_advertised e ≡ (next e.receiving, advertised_edge e.receiving)
+  pub reported : last_advertised e ≡ (next e.receiving, advertised_edge e.receiving)
   pub ack_pending : e.ack_pending ≡ false
   pub retransmission_due : e.retransmission_due ≡ false
   pub probe : e.probe ≡ false

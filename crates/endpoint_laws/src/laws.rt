@@ -31,7 +31,7 @@ ghost use Rattle.std.specs.List.{AllByRecursion};
 ghost use Rattle.tcp_endpoint.specs.declared.states.StateName.TheVariants.{Closed};
 ghost use Rattle.endpoint_laws.specs.Turn.{sent_in};
 ghost use Rattle.endpoint_laws.specs.ConnectionEnd.{IsNamedRightly, has_taken_fin, resets, is_over};
-ghost use Rattle.endpoint_laws.specs.Advertisement.{Advertises, is_told, ReadsOnlyTaken, AcknowledgesAll};
+ghost use Rattle.endpoint_laws.specs.Advertisement.{Advertises, is_reported, ReadsOnlyTaken, AcknowledgesAll};
 ghost use Rattle.std.specs.Prelude.{◌∷◌};
 ghost use Rattle.endpoint_laws.specs.Unconnected.{syn_of};
 ghost use Rattle.endpoint_laws.specs.Turn.{used};
@@ -188,7 +188,7 @@ pub fn passive_opens_listen()
 
 /// A listening endpoint still listens, at the same address, after each turn in which no SYN arrives that opens a connection and the user doesn't close:
 /// nothing is received, the timer doesn't run, and what the user writes waits.
-pub fn listening_goes_on()
+pub fn listening_proceeds()
     ensures { (iss limit : ℕ) (news : News) (calls : List Call) (e : Tcb) → IsListening iss limit e → brings_syn news ≡ false
         → MayUse calls (arrived news e) → (before_flush news calls e).name ≡ Listen
         → IsListening iss limit (turned news calls e) × ((turned news calls e).local ≡ e.local) }
@@ -244,7 +244,7 @@ pub fn connections_end_at_points<S: Service>()
 {}
 
 /// The state of a connection that has begun shows whether the peer's FIN is taken.
-pub fn states_tell_the_peers_fin()
+pub fn states_show_the_peers_fin()
     ensures { (e : Tcb) → has_begun e.name ≡ true → IsNamedRightly e → e.receiving.fin ≡ has_taken_fin e.name }
 {}
 
@@ -256,37 +256,37 @@ pub fn bare_segments_go_out_where_owed()
 {}
 
 /// The same, at the end of a turn in which no segment arrived: an ACK is pending where the acknowledgement or the right edge has changed.
-pub fn bare_segments_tell_changes()
+pub fn bare_segments_report_changes()
     ensures { (u : Tcb) → has_begun u.name ≡ true → u.ack_pending ≡ false
         → leaving u ≡ or_bare (asks false u) (bare_segment (after_full u)) (full_out u) }
 {}
 
 /// Once a turn has ended, the acknowledgement and the right edge last advertised are RCV.NXT and the right edge of the window ..
-#[tactic(auto, using(crate::proofs::ToldLaw::told_by_flush))]
+#[tactic(auto, using(crate::proofs::ReportedLaw::reported_by_flush))]
 pub fn turns_advertise()
     ensures { (e : Tcb) → has_begun e.name ≡ true → last_advertised (flushed e) ≡ (next e.receiving, advertised_edge e.receiving) }
 {}
 
 /// .. and a segment doesn't change what was last advertised.
-#[tactic(auto, using(crate::proofs::ToldLaw::told_by_segment))]
+#[tactic(auto, using(crate::proofs::ReportedLaw::reported_by_segment))]
 pub fn segments_advertise_nothing()
     ensures { (e : Tcb) (p : Segment) → has_begun e.name ≡ true → last_advertised (received e p) ≡ last_advertised e }
 {}
 
 /// A tick makes a probe due only where one may be sent (`ProbesRightly`), ..
-#[tactic(auto, using(crate::proofs::ToldLaw::probed_by_tick))]
+#[tactic(auto, using(crate::proofs::ReportedLaw::probed_by_tick))]
 pub fn ticks_probe_rightly()
     ensures { (e : Tcb) → e.probe ≡ false → IsBounded e → IsShut e.sending → ProbesRightly (after_tick e) }
 {}
 
 /// .. since at the end of a turn, if the timer runs with nothing in flight, something is waiting that has no room below the right edge, ..
-#[tactic(auto, using(crate::proofs::ToldLaw::shut_by_flush))]
+#[tactic(auto, using(crate::proofs::ReportedLaw::shut_by_flush))]
 pub fn turns_end_shut()
     ensures { (e : Tcb) → has_begun e.name ≡ true → IsBounded e → ProbesRightly e → IsShut (flushed e).sending }
 {}
 
 /// .. and what the user writes only adds to what is waiting.
-#[tactic(auto, using(crate::proofs::ToldLaw::shut_by_write))]
+#[tactic(auto, using(crate::proofs::ReportedLaw::shut_by_write))]
 pub fn writes_leave_shut()
     ensures { (e : Tcb) (bytes : List ℕ) → IsShut e.sending → IsShut (after_write e bytes).sending }
 {}
@@ -338,13 +338,13 @@ pub fn segments_acknowledge_all_that_is_taken()
 
 /// All that is taken is acknowledged at once: if more is taken in a turn, a segment is sent that isn't a RST, and so acknowledges it. The same holds if the
 /// right edge moves, unless a RST is sent in reply.
-pub fn what_is_taken_is_told()
+pub fn what_is_taken_is_reported()
     ensures { (news : News) (calls : List Call) (e : Tcb) → has_begun e.name ≡ true → e.reset_reply ≡ None
         → last_advertised e ≡ (next e.receiving, advertised_edge e.receiving) → ReadsOnlyTaken calls (arrived news e)
         → has_begun (before_flush news calls e).name ≡ true
         → (next (before_flush news calls e).receiving ≡ next e.receiving → ⊥)
         ⊎ (((before_flush news calls e).reset_reply ≡ None) × (advertised_edge (before_flush news calls e).receiving ≡ advertised_edge e.receiving → ⊥))
-        → is_told (sent_in news calls e) ≡ true }
+        → is_reported (sent_in news calls e) ≡ true }
 {}
 
 /// The same over a complete run of every endpoint, passive or active: for every limit, whatever arrives and however much is written.
@@ -365,7 +365,7 @@ pub fn active_opens_connect()
 
 /// A connecting endpoint still connects, between the same addresses, after each turn after which it is in SYN-SENT: nothing is received, and no unit of its
 /// stream counts as sent or acknowledged.
-pub fn connecting_goes_on()
+pub fn connecting_proceeds()
     ensures { (iss limit : ℕ) (news : News) (calls : List Call) (e : Tcb) → IsConnecting iss limit e → MayUse calls (arrived news e)
         → (before_flush news calls e).name ≡ SynSent
         → IsConnecting iss limit (turned news calls e) × ((turned news calls e).local ≡ e.local) × ((turned news calls e).remote ≡ e.remote) }
@@ -383,5 +383,5 @@ pub fn answers_begin()
 pub fn answers_are_acknowledged()
     ensures { (iss limit : ℕ) (news : News) (calls : List Call) (e : Tcb) → IsConnecting iss limit e → ReadsOnlyTaken calls (arrived news e)
         → has_begun (before_flush news calls e).name ≡ true
-        → AllByRecursion (Advertises (before_flush news calls e)) (sent_in news calls e) × (is_told (sent_in news calls e) ≡ true) }
+        → AllByRecursion (Advertises (before_flush news calls e)) (sent_in news calls e) × (is_reported (sent_in news calls e) ≡ true) }
 {}

@@ -8,7 +8,7 @@ ghost use Rattle.ft_model.specs.News.{News};
 ghost use Rattle.ft_model.specs.News.News.{Comes};
 ghost use Rattle.ft_model.specs.Opening.{is_syn};
 ghost use Rattle.tcp_endpoint.specs.Arrival.{received};
-ghost use Rattle.endpoint_laws.specs.Advertisement.{Advertises, is_told, ReadsOnlyTaken};
+ghost use Rattle.endpoint_laws.specs.Advertisement.{Advertises, is_reported, ReadsOnlyTaken};
 ghost use Rattle.tcp_endpoint.specs.declared.states.StateName.TheVariants.{Closed, Listen, SynSent};
 ghost use Rattle.tcp_endpoint.specs.States.{is_syn_sent, has_begun};
 ghost use Rattle.tcp_endpoint.specs.Tcb.{Tcb};
@@ -49,7 +49,7 @@ pub fn syns_are_acknowledged()
     ensures { (iss limit : ℕ) (syn : Segment) (calls : List Call) (e : Tcb) → IsListening iss limit e → is_syn syn ≡ true
         → ReadsOnlyTaken calls (received e syn)
         → AllByRecursion (Advertises (before_flush (Comes syn) calls e)) (sent_in (Comes syn) calls e)
-        × (is_told (sent_in (Comes syn) calls e) ≡ true) }
+        × (is_reported (sent_in (Comes syn) calls e) ≡ true) }
 {}
 
 /// While an active open waits, it sends a RST in reply to an acknowledgement of anything but the SYN, retransmits the SYN when the timer expires, and sends

@@ -137,12 +137,12 @@ pub(crate) fn check_taken(before: Seen, after: Seen, resets: bool, flags: u8) ->
 /// The numbers after a turn in which a segment acknowledged `ack`.
 pub(crate) fn check_numbers(before: Seen, after: Seen, ack: Seq) -> Kept {
     let grows = before.acked.le(after.acked) && before.sent.le(after.sent);
-    let is_told = after.acked == before.acked || after.acked == ack;
+    let is_reported = after.acked == before.acked || after.acked == ack;
     let is_sent = after.acked.le(after.sent);
     let readable = after.readable;
     let is_still = after == Seen { readable, ..before };
     require_all(&[
-        (grows && is_told && is_sent, Rule::Numbers),
+        (grows && is_reported && is_sent, Rule::Numbers),
         (readable <= 65_535, Rule::Text),
         (before.state != StateName::Closed || is_still, Rule::Closed),
     ])

@@ -57,7 +57,7 @@ pub(crate) struct Scene {
     pub(crate) isn: Seq,
     pub(crate) peer_isn: Seq,
     /// How many of the last turn's segments the script has named.
-    told: usize,
+    reported: usize,
     /// Whether something happened since the last flush.
     is_open: bool,
     pub(crate) alloc: Global,
@@ -121,7 +121,7 @@ impl Scene {
             peer: remote.unwrap_or(PEER),
             isn,
             peer_isn: PEER_ISN,
-            told: 0,
+            reported: 0,
             is_open: true,
             alloc,
         })
@@ -152,8 +152,8 @@ impl Scene {
             Deed::Leaves(segment) => self.leaves(segment),
             Deed::Segments(count) => {
                 self.flush();
-                let left = self.out.len().saturating_sub(self.told);
-                self.told = self.out.len();
+                let left = self.out.len().saturating_sub(self.reported);
+                self.reported = self.out.len();
                 self.meets(left as u64, u64::from(count))
             }
             Deed::State(wanted) => {
@@ -198,7 +198,7 @@ impl Scene {
     fn flush(&mut self) {
         if self.is_open {
             self.send();
-            self.told = 0;
+            self.reported = 0;
             self.is_open = false;
         }
     }
@@ -206,7 +206,7 @@ impl Scene {
     /// Ends the turn. The script must have named all segments that were sent.
     pub(crate) fn end_turn(&mut self) -> Met {
         self.flush();
-        if self.told < self.out.len() {
+        if self.reported < self.out.len() {
             return self.differs();
         }
         Ok(())
@@ -215,11 +215,11 @@ impl Scene {
     /// What leaves next differs from what the script names.
     fn differs(&self) -> Met {
         let mut said = Said::new(self.alloc);
-        if self.told >= self.out.len() {
+        if self.reported >= self.out.len() {
             said.add(b"nothing leaves");
             return Err(Miss::Differs(said));
         }
-        match read_packet(self.out.packet(self.told)) {
+        match read_packet(self.out.packet(self.reported)) {
             Ok(p) => {
                 said.add(b"out ");
                 write_segment(p, &mut said);
@@ -267,12 +267,12 @@ impl Scene {
         self.flush();
         let text = segment.text.bytes(self.alloc)?;
         let head = segment.head(self.local, self.peer);
-        if self.told < self.out.len()
-            && let Ok(p) = read_packet(self.out.packet(self.told))
+        if self.reported < self.out.len()
+            && let Ok(p) = read_packet(self.out.packet(self.reported))
             && is_same_head(p.head, head)
             && p.payload == text.as_slice()
         {
-            self.told = self.told.saturating_add(1);
+            self.reported = self.reported.saturating_add(1);
             return Ok(());
         }
         self.differs()

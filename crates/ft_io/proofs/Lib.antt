@@ -4,4 +4,4 @@ pub mod Copies
 pub mod Outcomes
 pub mod Numbers
 pub mod Lists
-pub mod Tellings
+pub mod Recordings

@@ -4,4 +4,4 @@ pub mod Link
 pub mod Sink
 pub mod Source
 pub mod Spawner
-pub mod Told
+pub mod Reported

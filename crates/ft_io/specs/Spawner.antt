@@ -6,14 +6,14 @@ use Rattle.ft_io.specs.declared.spawn_call.SpawnCall.{SpawnCall}
 use Rattle.ft_io.specs.declared.spawn_call.SpawnCall.TheVariants.{Started, Ended}
 
 -- a start that succeeded is recorded with its words, and one that failed isn't recorded
-abbrev pub start_told : List (List ℕ) → Result ℕ Failed → List SpawnCall
-start_told words (Ok _) = Started words ∷ []
-start_told words (Err _) = []
+abbrev pub start_reported : List (List ℕ) → Result ℕ Failed → List SpawnCall
+start_reported words (Ok _) = Started words ∷ []
+start_reported words (Err _) = []
 
 -- a wait that succeeded is recorded with the child and its exit status, and one that failed isn't recorded
-abbrev pub wait_told : ℕ → Result ℤ Failed → List SpawnCall
-wait_told child (Ok status) = Ended child status ∷ []
-wait_told child (Err _) = []
+abbrev pub wait_reported : ℕ → Result ℤ Failed → List SpawnCall
+wait_reported child (Ok status) = Ended child status ∷ []
+wait_reported child (Err _) = []
 
 -- children are numbered from 1 in the order of their starts: a start that succeeds returns the next number
 abbrev pub NumbersNext : ℕ → ℕ → Result ℕ Failed → Type 0

@@ -4,14 +4,14 @@ ghost use Rattle.std.specs.Prelude.{◌≡◌, ◌≤◌, ℕ, List, length, IfO
 ghost use Rattle.std.specs.declared.option.Option.{Option};
 ghost use Rattle.ft_io.specs.declared.link_call.LinkCall.{LinkCall};
 ghost use Rattle.ft_io.specs.Faults.{Rose};
-ghost use Rattle.ft_io.specs.Told.{Tells};
-ghost use Rattle.ft_io.specs.Link.{bind_told, send_told, recv_told, HasAtMost};
+ghost use Rattle.ft_io.specs.Reported.{Reports};
+ghost use Rattle.ft_io.specs.Link.{bind_reported, send_reported, recv_reported, HasAtMost};
 
 use crate::{Addr, Failed};
 
 /// What a receive returned.
 #[derive(Clone, Copy)]
-pub enum Heard {
+pub enum Receipt {
     /// The first `len` bytes of a datagram from `from`.
     Got { len: usize, from: Addr },
     /// No datagram came in time.
@@ -21,7 +21,7 @@ pub enum Heard {
 /// A socket for datagrams, once it is bound.
 pub trait Link {
     /// The calls so far, the oldest first, or `None` where they aren't recorded.
-    ghost told: { Self → Option (List LinkCall) };
+    ghost reported: { Self → Option (List LinkCall) };
 
     /// What `faults` returns.
     ghost fault_count: { Self → ℕ };
@@ -39,7 +39,7 @@ pub trait Link {
 
     /// Sends and receives at the address `at` from now on. After `Failed` all is as before, except for the counts.
     fn bind(&mut self, at: Addr) -> Result<(), Failed>
-        ensures told { Tells (told self.old) (told self.new) (bind_told at result) }
+        ensures reported { Reports (reported self.old) (reported self.new) (bind_reported at result) }
         ensures cause { OnErr result (Rose (fault_count self.old) (fault_count self.new)) }
         ensures bind_cause { OnErr result (Rose (bind_fault_count self.old) (bind_fault_count self.new)) }
         ensures no_fault { OnOk result (fault_count self.new ≡ fault_count self.old) }
@@ -49,7 +49,7 @@ pub trait Link {
 
     /// Sends one datagram. Whether it arrives is unspecified.
     fn send(&mut self, to: Addr, bytes: &[u8]) -> Result<(), Failed>
-        ensures told { Tells (told self.old) (told self.new) (send_told to bytes.now result) }
+        ensures reported { Reports (reported self.old) (reported self.new) (send_reported to bytes.now result) }
         ensures cause { OnErr result (Rose (fault_count self.old) (fault_count self.new)) }
         ensures no_fault { OnOk result (fault_count self.new ≡ fault_count self.old) }
         ensures never_falls { fault_count self.old ≤ fault_count self.new }
@@ -57,10 +57,10 @@ pub trait Link {
 
     /// Waits a while for a datagram and moves it to the beginning of `buf`, or only its first bytes where it is longer. What follows them in `buf`, and all of
     /// `buf` where none was given, is unspecified.
-    fn recv(&mut self, buf: &mut [u8]) -> Result<Heard, Failed>
+    fn recv(&mut self, buf: &mut [u8]) -> Result<Receipt, Failed>
         requires { 2048 ≤ length buf.old }
-        ensures within { IfOk result (λ heard. HasAtMost heard (length buf.new)) }
-        ensures told { Tells (told self.old) (told self.new) (recv_told result buf.new) }
+        ensures within { IfOk result (λ receipt. HasAtMost receipt (length buf.new)) }
+        ensures reported { Reports (reported self.old) (reported self.new) (recv_reported result buf.new) }
         ensures cause { OnErr result (Rose (fault_count self.old) (fault_count self.new)) }
         ensures no_fault { OnOk result (fault_count self.new ≡ fault_count self.old) }
         ensures never_falls { fault_count self.old ≤ fault_count self.new }

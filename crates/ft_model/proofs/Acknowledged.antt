@@ -20,15 +20,15 @@ use Rattle.ft_model.proofs.Fetching.{full_front}
 use Rattle.ft_model.proofs.Keys.{has_key_map, finds_itself, all_from_get}
 use Rattle.ft_model.proofs.LogAnswers.{all_answers}
 use Rattle.ft_model.proofs.Happened.{Happened, happened, holds_after}
-use Rattle.ft_model.proofs.Happened.Happened.{log_heard, client_heard, client_moved, server_turned, server_booted, server_down}
+use Rattle.ft_model.proofs.Happened.Happened.{log_received, client_received, client_moved, server_turned, server_booted, server_down}
 use Rattle.ft_model.proofs.StageTurns.{stage_went}
-use Rattle.ft_model.proofs.Fenced.{start_fenced, fenced_goes_on}
-use Rattle.ft_model.proofs.Asked.{start_asked, asked_goes_on}
+use Rattle.ft_model.proofs.Fenced.{start_fenced, fenced_proceeds}
+use Rattle.ft_model.proofs.Asked.{start_asked, asked_proceeds}
 use Rattle.ft_model.proofs.Exact.{IsOrderly}
 use Rattle.ft_model.proofs.Scripts.{EntryFits}
 use Rattle.ft_model.proofs.Faithful.{PacketFits, IsFit, EntriesFit}
 use Rattle.ft_model.proofs.FaithfulKept.{ClientFits, IsFaithful}
-use Rattle.ft_model.proofs.FaithfulOver.{script_of, isn_of, script_in, isn_in, turn_faithful, faithful_goes_on}
+use Rattle.ft_model.proofs.FaithfulOver.{script_of, isn_of, script_in, isn_in, turn_faithful, faithful_proceeds}
 use Rattle.ft_io.proofs.Booleans.{not_true}
 
 apart_distinct : (server : Addr) (clients : List Client) → are_apart server clients ≡ true → AreDistinct (map (λ c. c.key) clients)
@@ -70,8 +70,8 @@ true_after service start trace j =
     let s : IsStart start = start_is service start trace j in
     holds_after service (IsTrue start) start (λ x. ((start_fenced start x, start_asked start x), start_faithful start x))
     (λ before sent after o h. (
-      (fenced_goes_on service before sent after o.0.0 h, asked_goes_on service before sent after o.0.0 o.0.1 h),
-      faithful_goes_on service (script_of start) (isn_of start) before sent after (short_scripts start s) o.0.1 o.1 h,
+      (fenced_proceeds service before sent after o.0.0 h, asked_proceeds service before sent after o.0.0 o.0.1 h),
+      faithful_proceeds service (script_of start) (isn_of start) before sent after (short_scripts start s) o.0.1 o.1 h,
     )) trace j
 
 pub fit_acknowledges : (script : Key → List ℕ) (isn : Key → ℕ) (log : Log) (clients : List Client) (packet : Packet) → AllByRecursion (ClientFits script isn) clients
@@ -86,9 +86,9 @@ fit_acknowledges script isn log clients (From_logger message) a f = tt
 
 pub acknowledged_moment : {State : Type 0} (service : Machine State) (start before : World) (sent : List Packet) (after : World)
     → IsStart start → IsTrue start before → Happened service before sent after → AllByRecursion (AcknowledgesLogged after.log after.clients) sent
-acknowledged_moment service start before sent after s o (log_heard message under t e) =
+acknowledged_moment service start before sent after s o (log_received message under t e) =
     subst (AllByRecursion (AcknowledgesLogged after.log after.clients)) (sym t) (all_answers (AcknowledgesLogged after.log after.clients) before.log message (λ body a. tt))
-acknowledged_moment service start before sent after s o (client_heard segment under t e) = subst (AllByRecursion (AcknowledgesLogged after.log after.clients)) (sym t) tt
+acknowledged_moment service start before sent after s o (client_received segment under t e) = subst (AllByRecursion (AcknowledgesLogged after.log after.clients)) (sym t) tt
 acknowledged_moment service start before sent after s o (client_moved number m) = subst (AllByRecursion (AcknowledgesLogged after.log after.clients)) (sym m.sent_is) (tt, tt)
 acknowledged_moment service start before sent after s o (server_turned input node later brought is turn e) =
     let f = o.1 in

@@ -25,12 +25,12 @@ use Rattle.ft_model.proofs.Keys.{distinct_more, has_key_map}
 use Rattle.ft_model.proofs.LogAnswers.{LogWent, log_went, all_answers}
 use Rattle.ft_model.proofs.LogAnswers.LogWent.{ignored, raised, changed}
 use Rattle.ft_model.proofs.Happened.{Happened, IsBrought, IsUnderWay, all_sent, answers}
-use Rattle.ft_model.proofs.Happened.Happened.{log_heard, client_heard, client_moved, server_turned, server_booted, server_down}
+use Rattle.ft_model.proofs.Happened.Happened.{log_received, client_received, client_moved, server_turned, server_booted, server_down}
 use Rattle.ft_model.proofs.StageTurns.{Progress, StageWent, stage_went}
 use Rattle.ft_model.proofs.StageTurns.StageWent.{was_fenced, waited, held_off, asked_on, resumed, served}
 use Rattle.ft_model.proofs.Fenced.{IsFenced, IsLogged, IsOurs, IsSegment, IsNoChange, HasBoot, is_change, is_stale, turn_ours, was_restarting}
 use Rattle.ft_model.specs.FetchedFronts.{AreFetched}
-use Rattle.ft_model.proofs.Fetching.{AgreesWith, told_agrees, fetched_agrees}
+use Rattle.ft_model.proofs.Fetching.{AgreesWith, reported_agrees, fetched_agrees}
 use Rattle.ft_io.proofs.Choices.{holds_if}
 
 abbrev pub entry_keys : Log → List Key
@@ -121,11 +121,11 @@ stage_agrees_still logged before after node (Fenced newer) l same a = tt
 answers_agree : (boot : ℕ) (log : Log) (message : Message) → AllByRecursion (Agrees boot (log_after log message).entries) (answers log message)
 answers_agree boot log message =
     all_answers (Agrees boot (log_after log message).entries) log message
-    (λ body a. λ e. ⊎_elim (λ s. subst (AgreesWith (log_after log message).entries) (sym s) tt) (λ o. told_agrees message.body (log_after log message) body o.1) a)
+    (λ body a. λ e. ⊎_elim (λ s. subst (AgreesWith (log_after log message).entries) (sym s) tt) (λ o. reported_agrees message.body (log_after log message) body o.1) a)
 
-heard_asked : (w : World) (message : Message) → IsFenced w → IsAsked w → IsUnderWay w (To_logger message)
+received_asked : (w : World) (message : Message) → IsFenced w → IsAsked w → IsUnderWay w (To_logger message)
     → IsAsked (record w { log = log_after w.log message; packets = w.packets ++ answers w.log message })
-heard_asked w message f a under = record {
+received_asked w message f a under = record {
   distinct = distinct_after w.log message (log_after w.log message) (log_went w.log message) a.distinct;
   node = λ node e r.
       let n = f.node node e in
@@ -170,12 +170,12 @@ progress_agrees w node input count fetched a e brought p =
     let under : IsUnderWay w (From_logger p.message) = subst (IsBrought w) p.comes brought in
     ⊎_elim
     (λ h. let n = a.node node e (ap is_restarting h.0) in
-    let told : AgreesWith w.log.entries p.message.body = all_sent (Agrees node.boot w.log.entries) w (From_logger p.message) n.packets under p.boot in
-    (subst (AgreesWith w.log.entries) h.1 told, subst (AreFetched w.log.entries) (sym h.2) tt))
+    let reported : AgreesWith w.log.entries p.message.body = all_sent (Agrees node.boot w.log.entries) w (From_logger p.message) n.packets under p.boot in
+    (subst (AgreesWith w.log.entries) h.1 reported, subst (AreFetched w.log.entries) (sym h.2) tt))
     (λ h. let n = a.node node e (ap is_restarting h.1) in
-    let told : AgreesWith w.log.entries p.message.body = all_sent (Agrees node.boot w.log.entries) w (From_logger p.message) n.packets under p.boot in
+    let reported : AgreesWith w.log.entries p.message.body = all_sent (Agrees node.boot w.log.entries) w (From_logger p.message) n.packets under p.boot in
     let old : (count ≡ length w.log.entries) × AreFetched w.log.entries h.0 = subst (StageAgrees w.log.entries) h.1 n.fetched in
-    (old.0, fetched_agrees w.log.entries count h.0 fetched p.message.body a.distinct old.1 told h.2)) p.how
+    (old.0, fetched_agrees w.log.entries count h.0 fetched p.message.body a.distinct old.1 reported h.2)) p.how
 
 stage_agrees : {State : Type 0} (service : Machine State) (w : World) (node : Node) (input : Input) (sent : List Packet) (after : Stage)
     → IsAsked w → w.node ≡ Some node → IsBrought w input → is_restarting after ≡ true → StageWent service node input sent after
@@ -226,20 +226,20 @@ booted_asked w boot isn f a larger = record {
       });
 }
 
-pub asked_goes_on : {State : Type 0} (service : Machine State) (before : World) (sent : List Packet) (after : World)
+pub asked_proceeds : {State : Type 0} (service : Machine State) (before : World) (sent : List Packet) (after : World)
     → IsFenced before → IsAsked before → Happened service before sent after → IsAsked after
-asked_goes_on service before sent after f a (log_heard message under s e) =
-    subst IsAsked (sym (e ∙ ap (λ x. record before { log = log_after before.log message; packets = before.packets ++ x }) s)) (heard_asked before message f a under)
-asked_goes_on service before sent after f a (client_heard segment under s e) =
+asked_proceeds service before sent after f a (log_received message under s e) =
+    subst IsAsked (sym (e ∙ ap (λ x. record before { log = log_after before.log message; packets = before.packets ++ x }) s)) (received_asked before message f a under)
+asked_proceeds service before sent after f a (client_received segment under s e) =
     subst IsAsked (sym e) (asked_still before _ sent a (subst (AllByRecursion IsSegment) (sym s) tt))
-asked_goes_on service before sent after f a (client_moved number m) =
+asked_proceeds service before sent after f a (client_moved number m) =
     subst IsAsked (sym m.after_is) (asked_still before _ sent a (subst (AllByRecursion IsSegment) (sym m.sent_is) (tt, tt)))
-asked_goes_on service before sent after f a (server_turned input node later brought is turn e) =
+asked_proceeds service before sent after f a (server_turned input node later brought is turn e) =
     subst IsAsked (sym e) (turned_asked service before node later input sent a is brought turn)
-asked_goes_on service before sent after f a (server_booted boot isn down larger s e) =
+asked_proceeds service before sent after f a (server_booted boot isn down larger s e) =
     subst IsAsked (sym (e ∙ ap (λ x. record before { boot = boot; node = Some (booted before.server before.profile boot isn); packets = before.packets ++ x }) s))
     (booted_asked before boot isn f a larger.0)
-asked_goes_on service before sent after f a (server_down s e) =
+asked_proceeds service before sent after f a (server_down s e) =
     subst IsAsked (sym e) (record { distinct = a.distinct; node = λ x g r. none_is_some x g })
 
 pub start_asked : (w : World) → IsStart w → IsAsked w

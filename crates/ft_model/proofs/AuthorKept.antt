@@ -32,7 +32,7 @@ use Rattle.ft_model.proofs.Keys.{front_more}
 use Rattle.ft_model.proofs.Grows.{found_later, logged_lengths_grow}
 use Rattle.ft_model.proofs.Resumed.{get_left}
 use Rattle.ft_model.proofs.Fenced.{IsOurs, IsNoChange, HasBoot, is_change}
-use Rattle.ft_model.proofs.Services.{reads_go_on, sum_append}
+use Rattle.ft_model.proofs.Services.{reads_proceed, sum_append}
 use Rattle.ft_model.proofs.Authored.{IsSpoken, CarriesOutput, carries_later, logged_run}
 use Rattle.ft_model.proofs.FaithfulOver.{IsHeadOf}
 use Rattle.ft_model.proofs.AuthorOver.{ReadOf, EntryOf, StageRuns, HasAuthor}
@@ -56,11 +56,11 @@ no_read : (author : Key → List ℕ) (body : Body) → is_change body ≡ false
 no_read author (ReadMsg key index n) c = absurd (true≢false c)
 no_read author _ c = tt
 
-read_heard : (author : Key → List ℕ) (top logged later : ℕ) → logged ≤ later → (packet : Packet) → HasBoot top logged packet → ReadOf author logged packet → ReadOf author later packet
-read_heard author top logged later l (To_logger message) h f = λ e. body_read author message.boot logged later message.body h.1 l f e
-read_heard author top logged later l (To_server segment) h f = tt
-read_heard author top logged later l (To_client segment) h f = tt
-read_heard author top logged later l (From_logger message) h f = tt
+read_received : (author : Key → List ℕ) (top logged later : ℕ) → logged ≤ later → (packet : Packet) → HasBoot top logged packet → ReadOf author logged packet → ReadOf author later packet
+read_received author top logged later l (To_logger message) h f = λ e. body_read author message.boot logged later message.body h.1 l f e
+read_received author top logged later l (To_server segment) h f = tt
+read_received author top logged later l (To_client segment) h f = tt
+read_received author top logged later l (From_logger message) h f = tt
 
 pub quiet_reads : (author : Key → List ℕ) (boot logged : ℕ) (packet : Packet) → IsOurs boot packet → IsNoChange boot packet → ReadOf author logged packet
 quiet_reads author boot logged (To_logger message) o q = λ e. no_read author message.body (q o)
@@ -82,7 +82,7 @@ pub spoken_later : {State : Type 0} (service : Machine State) (script : Key → 
 spoken_later service script before after g (To_client segment) s = λ rst.
     let x : IsSpoken service script before (destination_of segment) segment = s rst in
     let later = found_later (destination_of segment) before.entries after.entries x.entry g.entries x.found in
-    let goes = reads_go_on service (script (destination_of segment)) (logged_lengths (destination_of segment) before) (logged_lengths (destination_of segment) after) (logged_lengths_grow (destination_of segment) before after g) in
+    let goes = reads_proceed service (script (destination_of segment)) (logged_lengths (destination_of segment) before) (logged_lengths (destination_of segment) after) (logged_lengths_grow (destination_of segment) before after g) in
     record {
       entry = later.0;
       found = later.1;
@@ -138,9 +138,9 @@ entries_of author log message after (ignored e) r a = subst (λ l. AllByRecursio
 entries_of author log message after (raised h b e) r a = subst (λ l. AllByRecursion (EntryOf author) l.entries) (sym e) a
 entries_of author log message after (changed b e) r a = subst (λ l. AllByRecursion (EntryOf author) l.entries) (sym e) (kept_of_author author message.body log (r b) a)
 
-pub heard_author : {State : Type 0} (service : Machine State) (script : Key → List ℕ) (w : World) (message : Message) → IsFenced w → HasAuthor service script w → IsUnderWay w (To_logger message)
+pub received_author : {State : Type 0} (service : Machine State) (script : Key → List ℕ) (w : World) (message : Message) → IsFenced w → HasAuthor service script w → IsUnderWay w (To_logger message)
     → HasAuthor service script (record w { log = log_after w.log message; packets = w.packets ++ answers w.log message })
-heard_author service script w message f a under =
+received_author service script w message f a under =
     let g : LogGrows w.log (log_after w.log message) = log_grows w.log message in
     let later : ℕ = (log_after w.log message).boot in
     record {
@@ -148,7 +148,7 @@ heard_author service script w message f a under =
       entries = entries_of a.author w.log message (log_after w.log message) (log_went w.log message) (all_sent (ReadOf a.author w.log.boot) w (To_logger message) a.reads under) a.entries;
       short = a.short;
       reads = all_append (ReadOf a.author later) w.packets (answers w.log message)
-          (all_both (HasBoot w.boot w.log.boot) (ReadOf a.author w.log.boot) (ReadOf a.author later) w.packets (read_heard a.author w.boot w.log.boot later g.boot) f.packets a.reads)
+          (all_both (HasBoot w.boot w.log.boot) (ReadOf a.author w.log.boot) (ReadOf a.author later) w.packets (read_received a.author w.boot w.log.boot later g.boot) f.packets a.reads)
           (all_answers (ReadOf a.author later) w.log message (λ body x. tt));
       spoken = all_append (Speaks service script (log_after w.log message)) w.packets (answers w.log message)
           (all_weaker (Speaks service script w.log) _ w.packets (spoken_later service script w.log (log_after w.log message) g) a.spoken)

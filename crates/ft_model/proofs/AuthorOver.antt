@@ -35,8 +35,8 @@ use Rattle.ft_model.proofs.FaithfulOver.{points_fit, restored_all, revives_fit}
 use Rattle.ft_model.proofs.Keys.{found_has_key}
 use Rattle.ft_model.proofs.Resumed.{restored_keys, restored_length, length_map}
 use Rattle.ft_model.proofs.Fetching.{full_front}
-use Rattle.ft_model.proofs.Services.{reads_go_on, prefix_length}
-use Rattle.ft_model.proofs.AuthorTurns.{settles, is_settled, settled_goes_on, one_settled, Before, After, all_go_then, connection_after, OnlySettled, TurnRuns, runs_after, new_author}
+use Rattle.ft_model.proofs.Services.{reads_proceed, prefix_length}
+use Rattle.ft_model.proofs.AuthorTurns.{settles, is_settled, settled_proceeds, one_settled, Before, After, all_go_then, connection_after, OnlySettled, TurnRuns, runs_after, new_author}
 
 -- the points of the log's entries, by what is logged
 points_run : {State : Type 0} (service : Machine State) (profile : Profile) (script author : Key → List ℕ) (isn : Key → ℕ) (log : Log) → ((k : Key) → length (script k) ≤ 2 ^ 24) → AreDistinct (entry_keys log)
@@ -50,7 +50,7 @@ points_run service profile script author isn log scripts d fits fronts short =
     let place = all_slice_get (λ x. PlaceFits script isn log (Lives (point_of service profile x))) log.entries i e (points_fit service profile script isn log scripts d fits) at in
     let found : entry_of e.key log ≡ Some e = finds_itself (λ x. x.key) log.entries i e d at in
     let small : length (reference service (script e.key) e.lengths).output ≤ 2 ^ 24 =
-    le_trans (prefix_length _ _ (reads_go_on service (script e.key) e.lengths (author e.key) g.0).output) (short e.key) in
+    le_trans (prefix_length _ _ (reads_proceed service (script e.key) e.lengths (author e.key) g.0).output) (short e.key) in
     (place, entry_runs service profile script (λ key. logged_lengths key log) e f.front g.1 small (ap lengths_in found)))
 
 revive_runs : {State : Type 0} (service : Machine State) (script old author : Key → List ℕ) (isn : Key → ℕ) (log : Log) (node : Node) → HasSmallOutputs service
@@ -111,7 +111,7 @@ resuming_runs service script author isn log node count fetched places sent small
     (revive_runs service script old (new_author places old) isn log node small short fits (λ key. ([], append-nil (logged_lengths key log)))) (all_restored service node.profile fetched) places sent before t in
     runs_after service script isn old log (all_restored service node.profile fetched) places sent apart all.0 all.1
     (λ key. logged_settled service node.profile log fetched key (entry_of key log) refl a whole.0 (omega (arith, whole.1, c)))
-    (λ key s. settled_goes_on (Revives service node) key (revive_settled service node key) (all_restored service node.profile fetched) places sent t s)
+    (λ key s. settled_proceeds (Revives service node) key (revive_settled service node key) (all_restored service node.profile fetched) places sent t s)
 
 -- a Read of the log's own boot
 abbrev pub ReadOf : (Key → List ℕ) → ℕ → Packet → Type 0

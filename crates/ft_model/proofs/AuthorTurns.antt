@@ -29,7 +29,7 @@ use Rattle.ft_model.proofs.PlaceTurns.PlaceWent.{stayed, went_on, began, dropped
 use Rattle.ft_model.proofs.Scripts.{NewsFits}
 use Rattle.ft_model.proofs.Faithful.{PlaceFits, EntriesFit}
 use Rattle.server_trait.specs.Service.{reference}
-use Rattle.ft_model.specs.Connection.{ConnectionTurn, told_by}
+use Rattle.ft_model.specs.Connection.{ConnectionTurn, reported_by}
 use Rattle.ft_model.specs.Copy.{copies}
 use Rattle.ft_model.specs.Node.{key_of, place_at, is_known}
 use Rattle.ft_model.specs.ServingTurn.{PlaceTurn, is_asked, opens_at}
@@ -81,13 +81,13 @@ settled_append key (x ∷ xs) ys (inl e) =
     (or_cases (settles key x) (is_settled key xs) e)
 settled_append key (x ∷ xs) ys (inr e) = or_right (settles key x) (is_settled key (xs ++ ys)) (settled_append key xs ys (inr e))
 
-pub settled_goes_on : (Goes : Place → List Place → List Packet → Type 0) (key : Key)
+pub settled_proceeds : (Goes : Place → List Place → List Packet → Type 0) (key : Key)
     → ((place : Place) (now : List Place) (sent : List Packet) → Goes place now sent → settles key place ≡ true → is_settled key now ≡ true)
     → (before after : List Place) (sent : List Packet) → AllGo Goes before after sent → is_settled key before ≡ true → is_settled key after ≡ true
-settled_goes_on Goes key step [] after sent t e = absurd (true≢false (sym e))
-settled_goes_on Goes key step (place ∷ places) after sent (now, later, first, others, places_are, sent_is, goes, rest) e =
+settled_proceeds Goes key step [] after sent t e = absurd (true≢false (sym e))
+settled_proceeds Goes key step (place ∷ places) after sent (now, later, first, others, places_are, sent_is, goes, rest) e =
     ap (is_settled key) places_are ∙ settled_append key now later
-    (⊎_elim (λ h. inl (step place now first goes h)) (λ h. inr (settled_goes_on Goes key step places later others rest h)) (or_cases (settles key place) (is_settled key places) e))
+    (⊎_elim (λ h. inl (step place now first goes h)) (λ h. inr (settled_proceeds Goes key step places later others rest h)) (or_cases (settles key place) (is_settled key places) e))
 
 pub one_settled : (key : Key) (place : Place) → settles key place ≡ true → is_settled key (place ∷ []) ≡ true
 one_settled key place e = or_left (settles key place) false e
@@ -196,7 +196,7 @@ opens_follow : {State : Type 0} (service : Machine State) (script author : Key �
 opens_follow service script author log node input [] = tt
 opens_follow service script author log node input (Opens n timestamping ∷ places) =
     all_append (Follows service script author log) (opens_at node input (Opens n timestamping)) _
-    (holds_if (AllByRecursion (Follows service script author log)) (is_asked node input n) (told_by node.boot (OpenMsg n) ∷ []) [] (λ t. (tt, tt)) (λ t. tt)) (opens_follow service script author log node input places)
+    (holds_if (AllByRecursion (Follows service script author log)) (is_asked node input n) (reported_by node.boot (OpenMsg n) ∷ []) [] (λ t. (tt, tt)) (λ t. tt)) (opens_follow service script author log node input places)
 opens_follow service script author log node input (Lives p ∷ places) = opens_follow service script author log node input places
 opens_follow service script author log node input (Ended k ∷ places) = opens_follow service script author log node input places
 
@@ -327,5 +327,5 @@ serving_runs service script old isn log node input opened places later sent smal
     (all_append (Follows service script author log) (refusals node input places) _ (listen_follows service script author log node input places) (opens_follow service script author log node input later))))
     only
     (λ key s. ap (is_settled key) t.places ∙ settled_append key t.went (newcomers node input opened places)
-    (inl (settled_goes_on (PlaceTurn service node input) key (λ place now some x e. place_settled service node input key place now some (place_went service node input place now some x) e)
+    (inl (settled_proceeds (PlaceTurn service node input) key (λ place now some x e. place_settled service node input key place now some (place_went service node input place now some x) e)
     places t.went t.by_places t.all_go s)))

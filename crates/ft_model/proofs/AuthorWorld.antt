@@ -16,7 +16,7 @@ use Rattle.ft_model.specs.World.{World, IsStart, with_client}
 use Rattle.ft_model.proofs.Lists.{all_both, all_weaker, all_append, prefix_trans, all_find, found_passes, all_slice_get, same_key, none_is_some, some_is}
 use Rattle.ft_model.proofs.Keys.{finds_itself, all_from_get}
 use Rattle.ft_model.proofs.Happened.{Happened, IsBrought}
-use Rattle.ft_model.proofs.Happened.Happened.{log_heard, client_heard, client_moved, server_turned, server_booted, server_down}
+use Rattle.ft_model.proofs.Happened.Happened.{log_received, client_received, client_moved, server_turned, server_booted, server_down}
 use Rattle.ft_model.proofs.StageTurns.{StageWent, stage_went}
 use Rattle.ft_model.proofs.StageTurns.StageWent.{was_fenced, waited, held_off, asked_on, resumed, served}
 use Rattle.ft_model.proofs.Fenced.{IsFenced}
@@ -32,13 +32,13 @@ use Rattle.ft_model.proofs.Authored.{Speaks, Follows, PlaceRuns}
 use Rattle.ft_model.proofs.FaithfulKept.{IsFaithful, InputFits, input_fits}
 use Rattle.ft_model.proofs.Distinct.{IsDistinct, StageDistinct, turn_distinct}
 use Rattle.ft_model.proofs.Fenced.{IsOurs, IsNoChange, turn_ours, turn_quiet, progress_logged}
-use Rattle.ft_model.proofs.Services.{reads_go_on, prefix_length}
+use Rattle.ft_model.proofs.Services.{reads_proceed, prefix_length}
 use Rattle.ft_model.proofs.FaithfulOver.{heads_of}
 use Rattle.ft_model.proofs.AuthorTurns.{Before, TurnRuns, serving_runs}
 use Rattle.ft_model.proofs.AuthorOver.{ReadOf, EntryOf, StageRuns, HasAuthor, resuming_runs}
 use Rattle.ft_model.proofs.Fenced.{was_restarting}
 use Rattle.ft_model.proofs.Asked.{StageAgrees}
-use Rattle.ft_model.proofs.AuthorKept.{packet_read_later, quiet_reads, restart_reads, heard_author, author_still, asked_speaks, held_speaks, follows_read, follows_speaks}
+use Rattle.ft_model.proofs.AuthorKept.{packet_read_later, quiet_reads, restart_reads, received_author, author_still, asked_speaks, held_speaks, follows_read, follows_speaks}
 
 no_runs : {State : Type 0} (service : Machine State) (author : Key → List ℕ) (stage : Stage) → is_restarting stage ≡ true → StageRuns service author stage
 no_runs service author Asking r = tt
@@ -98,7 +98,7 @@ turned_author service script isn w node later input sent small short f k fit d a
             subst (λ o. IsPrefix (lengths_in o) (runs.author x.key)) (finds_itself (λ y. y.key) w.log.entries i x k.distinct at) (runs.later x.key),
             (all_slice_get (EntryOf a.author) w.log.entries i x a.entries at).1,
           ));
-      short = runs.short (λ key. le_trans (prefix_length _ _ (reads_go_on service (script key) (logged_lengths key w.log) (a.author key) (front_of a.author w.log key (entry_of key w.log) a.entries refl)).output) (a.short key));
+      short = runs.short (λ key. le_trans (prefix_length _ _ (reads_proceed service (script key) (logged_lengths key w.log) (a.author key) (front_of a.author w.log key (entry_of key w.log) a.entries refl)).output) (a.short key));
       reads = all_append (ReadOf runs.author w.log.boot) w.packets sent
           (all_weaker (IsNoChange node.boot) _ w.packets (restart_reads runs.author node.boot w.log.boot own) ((f.node node e).quiet (was_restarting node input count fetched p)))
           (all_weaker (Follows service script runs.author w.log) _ sent (follows_read service script runs.author w.log w.log.boot) runs.follows);
@@ -124,28 +124,28 @@ turned_author service script isn w node later input sent small short f k fit d a
       stage = still_node service runs.author later (subst (StageRuns service runs.author) (sym (is ∙ g)) (runs.runs, runs.only));
     }
 
-pub author_goes_on : {State : Type 0} (service : Machine State) (script : Key → List ℕ) (isn : Key → ℕ) (before : World) (sent : List Packet) (after : World)
+pub author_proceeds : {State : Type 0} (service : Machine State) (script : Key → List ℕ) (isn : Key → ℕ) (before : World) (sent : List Packet) (after : World)
     → HasSmallOutputs service → ((k : Key) → length (script k) ≤ 2 ^ 24) → IsFenced before → IsAsked before → IsFaithful script isn before → IsDistinct before → HasAuthor service script before
     → Happened service before sent after → HasAuthor service script after
-author_goes_on service script isn before sent after small short f k fit d a (log_heard message under s e) =
-    subst (HasAuthor service script) (sym (e ∙ ap (λ x. record before { log = log_after before.log message; packets = before.packets ++ x }) s)) (heard_author service script before message f a under)
-author_goes_on service script isn before sent after small short f k fit d a (client_heard segment under s e) =
+author_proceeds service script isn before sent after small short f k fit d a (log_received message under s e) =
+    subst (HasAuthor service script) (sym (e ∙ ap (λ x. record before { log = log_after before.log message; packets = before.packets ++ x }) s)) (received_author service script before message f a under)
+author_proceeds service script isn before sent after small short f k fit d a (client_received segment under s e) =
     subst (HasAuthor service script) (sym e)
     (author_still service script before (with_client (destination_of segment) (λ c. received c segment) before.clients) before.boot before.node sent a
     (subst (AllByRecursion (ReadOf a.author before.log.boot)) (sym s) tt) (subst (AllByRecursion (Speaks service script before.log)) (sym s) tt) a.stage)
-author_goes_on service script isn before sent after small short f k fit d a (client_moved number m) =
+author_proceeds service script isn before sent after small short f k fit d a (client_moved number m) =
     subst (HasAuthor service script) (sym m.after_is)
     (author_still service script before (with_client m.client.key (λ x. m.later) before.clients) before.boot before.node sent a
     (subst (AllByRecursion (ReadOf a.author before.log.boot)) (sym m.sent_is) (tt, tt)) (subst (AllByRecursion (Speaks service script before.log)) (sym m.sent_is) (tt, tt)) a.stage)
-author_goes_on service script isn before sent after small short f k fit d a (server_turned input node later brought is turn e) =
+author_proceeds service script isn before sent after small short f k fit d a (server_turned input node later brought is turn e) =
     subst (HasAuthor service script) (sym e)
     (turned_author service script isn before node later input sent small short f k fit d a is brought later.stage refl (stage_went service node later input sent turn))
-author_goes_on service script isn before sent after small short f k fit d a (server_booted boot isn0 down larger s e) =
+author_proceeds service script isn before sent after small short f k fit d a (server_booted boot isn0 down larger s e) =
     subst (HasAuthor service script) (sym e)
     (author_still service script before before.clients boot (Some (booted before.server before.profile boot isn0)) sent a
     (subst (AllByRecursion (ReadOf a.author before.log.boot)) (sym s) ((λ x. tt), tt)) (subst (AllByRecursion (Speaks service script before.log)) (sym s) (tt, tt))
     (still_node service a.author (booted before.server before.profile boot isn0) tt))
-author_goes_on service script isn before sent after small short f k fit d a (server_down s e) =
+author_proceeds service script isn before sent after small short f k fit d a (server_down s e) =
     subst (HasAuthor service script) (sym e)
     (author_still service script before before.clients before.boot None sent a
     (subst (AllByRecursion (ReadOf a.author before.log.boot)) (sym s) tt) (subst (AllByRecursion (Speaks service script before.log)) (sym s) tt) (λ n g. none_is_some n g))

@@ -21,9 +21,9 @@ use Rattle.ft_model.specs.Point.{Point, released, answered_run}
 use Rattle.ft_model.specs.Opening.{point_opened}
 use Rattle.ft_model.specs.Segments.{text_at, fin_segment, segments_of}
 use Rattle.ft_model.specs.Copy.{copies}
-use Rattle.ft_model.specs.Reads.{reads_told, read_messages, first_told}
-use Rattle.ft_model.specs.ResetAndEnd.{dones, tells_done}
-use Rattle.ft_model.specs.Connection.{ResetTurn, LiveTurn, ConnectionTurn, told_by}
+use Rattle.ft_model.specs.Reads.{reads_reported, read_messages, first_reported}
+use Rattle.ft_model.specs.ResetAndEnd.{dones, reports_done}
+use Rattle.ft_model.specs.Connection.{ResetTurn, LiveTurn, ConnectionTurn, reported_by}
 use Rattle.ft_model.specs.Restart.{point_of}
 use Rattle.ft_model.specs.Node.{Place}
 use Rattle.ft_model.specs.Node.Place.{Opens, Lives, Ended}
@@ -34,7 +34,7 @@ use Rattle.ft_model.proofs.Scripts.{HasTaken, DataFits}
 use Rattle.ft_model.proofs.Faithful.{IsKnown, PlaceFits}
 use Rattle.ft_model.proofs.Spoken.{Spoken, segments_spoken}
 use Rattle.ft_model.proofs.Spoken.Spoken.{spoken_syn, spoken_text, spoken_fin, spoken_bare}
-use Rattle.ft_model.proofs.Services.{RunExtends, reads_go_on, more_bytes, prefix_length, sum_take}
+use Rattle.ft_model.proofs.Services.{RunExtends, reads_proceed, more_bytes, prefix_length, sum_take}
 use Rattle.ft_model.proofs.Running.{HasSmallOutputs, ReadsWithin, reset_within, live_within}
 use Rattle.ft_model.proofs.StageTurns.{either_turn}
 use Rattle.ft_io.proofs.Choices.{holds_if}
@@ -99,7 +99,7 @@ released_logged service script isn log q h k r front =
     let low : sum (take q.reads_answered q.lengths) ≤ length q.taken = le_trans (sum_take q.reads_answered q.lengths) r.enough in
     let bytes : reference service (script q.key) (take q.reads_answered q.lengths) ≡ answered_run service q = more_bytes service q.taken (script q.key) (take q.reads_answered q.lengths) h.fronts.front low in
     let part : IsPrefix (take q.reads_answered q.lengths) logged = subst (λ l. IsPrefix l logged) (sym same) (take_first q.reads_answered logged) in
-    subst (λ x. RunExtends x (logged_run service script log q.key)) bytes (reads_go_on service (script q.key) (take q.reads_answered q.lengths) logged part)
+    subst (λ x. RunExtends x (logged_run service script log q.key)) bytes (reads_proceed service (script q.key) (take q.reads_answered q.lengths) logged part)
 
 -- a later run carries it as well
 pub carries_later : {State : Type 0} (a b : Run State) (sisn : ℕ) (segment : Segment) → RunExtends a b → CarriesOutput a sisn segment → CarriesOutput b sisn segment
@@ -178,11 +178,11 @@ get_drop (suc k) i n (x ∷ xs) e =
     let there : slice_get (x ∷ xs) (suc (k + i)) ≡ Some n = get_drop k i n xs e in
     subst (λ m. slice_get (x ∷ xs) m ≡ Some n) same there
 
-told_reads_follow : (author : Key → List ℕ) (news : News) (p q : Point) → author q.key ≡ q.lengths → AllByRecursion (ReadFits author) (reads_told news p q)
-unfolding reads_told
-told_reads_follow author news p q e =
-    reads_follow author q.key (first_told news p q) (drop (first_told news p q) q.lengths)
-    (λ i n x. subst (λ l. slice_get l (first_told news p q + i) ≡ Some n) (sym e) (get_drop (first_told news p q) i n q.lengths x))
+reported_reads_follow : (author : Key → List ℕ) (news : News) (p q : Point) → author q.key ≡ q.lengths → AllByRecursion (ReadFits author) (reads_reported news p q)
+unfolding reads_reported
+reported_reads_follow author news p q e =
+    reads_follow author q.key (first_reported news p q) (drop (first_reported news p q) q.lengths)
+    (λ i n x. subst (λ l. slice_get l (first_reported news p q + i) ≡ Some n) (sym e) (get_drop (first_reported news p q) i n q.lengths x))
 
 data_follows : (script author : Key → List ℕ) (body : Body) → DataFits script body → ReadFits author body
 data_follows script author (DataMsg part) f = tt
@@ -190,11 +190,11 @@ data_follows script author _ f = absurd f
 
 dones_follow : (author : Key → List ℕ) (news : News) (p q : Point) → AllByRecursion (ReadFits author) (dones news p q)
 unfolding dones
-dones_follow author news p q = holds_if (AllByRecursion (ReadFits author)) (tells_done news p q) (DoneMsg q.key ∷ []) [] (λ t. (tt, tt)) (λ t. tt)
+dones_follow author news p q = holds_if (AllByRecursion (ReadFits author)) (reports_done news p q) (DoneMsg q.key ∷ []) [] (λ t. (tt, tt)) (λ t. tt)
 
 pub bodies_follow : {State : Type 0} (service : Machine State) (script author : Key → List ℕ) (log : Log) (boot : ℕ) (bodies : List Body) → AllByRecursion (ReadFits author) bodies
-    → AllByRecursion (Follows service script author log) (map (told_by boot) bodies)
-bodies_follow service script author log boot bodies a = all_map (Follows service script author log) (told_by boot) bodies a
+    → AllByRecursion (Follows service script author log) (map (reported_by boot) bodies)
+bodies_follow service script author log boot bodies a = all_map (Follows service script author log) (reported_by boot) bodies a
 
 live_prefix : {State : Type 0} (service : Machine State) (server : Addr) (old : Key → List ℕ) (boot : ℕ) (news : News) (p q : Point) (sent : List Packet)
     → old p.key ≡ p.lengths → LiveTurn service server boot news p q sent → IsPrefix (old q.key) q.lengths
@@ -220,18 +220,18 @@ live_runs service server script old author isn log boot news p q sent small fron
     released_logged service script (isn q.key) log q fits.0 fits.1 within (prefix_trans (logged_lengths q.key log) (old q.key) q.lengths (front q.key) lengths) in
     let less : length (answered_run service q).output ≤ 2 ^ 24 =
     le_trans (prefix_length (answered_run service q).output (reference service q.taken q.lengths).output
-    (reads_go_on service q.taken (take q.reads_answered q.lengths) q.lengths (take_first q.reads_answered q.lengths)).output) within.short in
+    (reads_proceed service q.taken (take q.reads_answered q.lengths) q.lengths (take_first q.reads_answered q.lengths)).output) within.short in
     let segments : AllByRecursion (λ s. Follows service script author log (To_client s)) (segments_of service server news p q) =
     all_weaker (Spoken service server news p q) (λ s. Follows service script author log (To_client s)) (segments_of service server news p q)
     (λ s spoken. λ rst. spoken_so service server news p q s script log fits.1 less goes spoken)
     (segments_spoken service server news p q) in
-    let bodies : AllByRecursion (ReadFits author) (copies news p q ++ (reads_told news p q ++ dones news p q)) =
+    let bodies : AllByRecursion (ReadFits author) (copies news p q ++ (reads_reported news p q ++ dones news p q)) =
     all_append (ReadFits author) (copies news p q) _ (all_weaker (DataFits script) (ReadFits author) (copies news p q) (data_follows script author) datas)
-    (all_append (ReadFits author) (reads_told news p q) (dones news p q) (told_reads_follow author news p q is) (dones_follow author news p q)) in
+    (all_append (ReadFits author) (reads_reported news p q) (dones news p q) (reported_reads_follow author news p q is) (dones_follow author news p q)) in
     subst (AllByRecursion (Follows service script author log)) (sym t.packets)
     (all_append (Follows service script author log) (map To_client (segments_of service server news p q)) _
     (all_map (Follows service script author log) To_client (segments_of service server news p q) segments)
-    (bodies_follow service script author log boot (copies news p q ++ (reads_told news p q ++ dones news p q)) bodies))
+    (bodies_follow service script author log boot (copies news p q ++ (reads_reported news p q ++ dones news p q)) bodies))
 
 live_ran : {State : Type 0} (service : Machine State) (server : Addr) (old : Key → List ℕ) (boot : ℕ) (news : News) (p q : Point) (sent : List Packet)
     → HasSmallOutputs service → PlaceRuns service old (Lives p) → LiveTurn service server boot news p q sent → PlaceRan service old (Lives q)

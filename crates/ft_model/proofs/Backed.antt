@@ -23,9 +23,9 @@ use Rattle.ft_model.specs.Taken.{uses, acknowledges_unsent, counts}
 use Rattle.ft_model.specs.Sending.{acknowledges, acknowledged_by, acknowledged_after}
 use Rattle.ft_model.specs.Segments.{segments_of}
 use Rattle.ft_model.specs.Copy.{copies}
-use Rattle.ft_model.specs.Reads.{reads_told, read_messages, first_told}
-use Rattle.ft_model.specs.ResetAndEnd.{dones, tells_done}
-use Rattle.ft_model.specs.Connection.{ConnectionTurn, told_by}
+use Rattle.ft_model.specs.Reads.{reads_reported, read_messages, first_reported}
+use Rattle.ft_model.specs.ResetAndEnd.{dones, reports_done}
+use Rattle.ft_model.specs.Connection.{ConnectionTurn, reported_by}
 use Rattle.ft_model.specs.Node.{Place, Stage}
 use Rattle.ft_model.specs.Node.Place.{Opens, Lives, Ended}
 use Rattle.ft_model.specs.Node.Stage.{Serving}
@@ -37,7 +37,7 @@ use Rattle.ft_model.proofs.Grows.{part_grows, found_later, logged_lengths_grow}
 use Rattle.ft_model.proofs.LogAnswers.{LogWent}
 use Rattle.ft_model.proofs.LogAnswers.LogWent.{ignored, raised, changed}
 use Rattle.ft_model.proofs.StageTurns.{either_turn}
-use Rattle.ft_model.proofs.Services.{reads_go_on, units_go_on}
+use Rattle.ft_model.proofs.Services.{reads_proceed, units_proceed}
 use Rattle.ft_model.proofs.Faithful.{IsKnown}
 use Rattle.ft_model.proofs.Authored.{logged_run}
 use Rattle.ft_model.proofs.AuthorKept.{change_all}
@@ -85,8 +85,8 @@ pub record IsBacked {State : Type 0} (service : Machine State) (script : Key →
 pub output_later : {State : Type 0} (service : Machine State) (script : Key → List ℕ) (before after : Log) (key : Key) → LogGrows before after
     → logged_output service script before key ≤ logged_output service script after key
 output_later service script before after key g =
-    units_go_on (logged_run service script before key) (logged_run service script after key)
-    (reads_go_on service (script key) (logged_lengths key before) (logged_lengths key after) (logged_lengths_grow key before after g))
+    units_proceed (logged_run service script before key) (logged_run service script after key)
+    (reads_proceed service (script key) (logged_lengths key before) (logged_lengths key after) (logged_lengths_grow key before after g))
 
 body_later : {State : Type 0} (service : Machine State) (script : Key → List ℕ) (before after : Log) → LogGrows before after → (body : Body) → BodyBacked service script before body → BodyBacked service script after body
 body_later service script before after g (DataMsg part) f = le_trans f (output_later service script before after part.key g)
@@ -178,13 +178,13 @@ messages_backed : {State : Type 0} (service : Machine State) (script : Key → L
 messages_backed service script log key index [] = tt
 messages_backed service script log key index (n ∷ lengths) = (tt, messages_backed service script log key (index + 1) lengths)
 
-reads_backed : {State : Type 0} (service : Machine State) (script : Key → List ℕ) (log : Log) (news : News) (p q : Point) → AllByRecursion (BodyBacked service script log) (reads_told news p q)
-unfolding reads_told
-reads_backed service script log news p q = messages_backed service script log q.key (first_told news p q) (drop (first_told news p q) q.lengths)
+reads_backed : {State : Type 0} (service : Machine State) (script : Key → List ℕ) (log : Log) (news : News) (p q : Point) → AllByRecursion (BodyBacked service script log) (reads_reported news p q)
+unfolding reads_reported
+reads_backed service script log news p q = messages_backed service script log q.key (first_reported news p q) (drop (first_reported news p q) q.lengths)
 
 dones_backed : {State : Type 0} (service : Machine State) (script : Key → List ℕ) (log : Log) (news : News) (p q : Point) → AllByRecursion (BodyBacked service script log) (dones news p q)
 unfolding dones
-dones_backed service script log news p q = holds_if (AllByRecursion (BodyBacked service script log)) (tells_done news p q) (DoneMsg q.key ∷ []) [] (λ t. (tt, tt)) (λ t. tt)
+dones_backed service script log news p q = holds_if (AllByRecursion (BodyBacked service script log)) (reports_done news p q) (DoneMsg q.key ∷ []) [] (λ t. (tt, tt)) (λ t. tt)
 
 pub segments_backed : {State : Type 0} (service : Machine State) (script : Key → List ℕ) (log : Log) (segments : List Segment) → AllByRecursion (PacketBacked service script log) (map To_client segments)
 segments_backed service script log segments = all_map (PacketBacked service script log) To_client segments (all_of _ segments (λ s. tt))
@@ -196,13 +196,13 @@ connection_backed service server script log boot news p q sent n h =
     let P : Packet → Type 0 = PacketBacked service script log in
     let B : Body → Type 0 = BodyBacked service script log in
     either_turn service server boot news p q sent
-    (λ t. (subst (λ x. PlaceBacked service script log (Lives x)) (sym t.point) h, subst (AllByRecursion P) (sym t.packets) (all_map P (told_by boot) (dones news p q) (dones_backed service script log news p q))))
+    (λ t. (subst (λ x. PlaceBacked service script log (Lives x)) (sym t.point) h, subst (AllByRecursion P) (sym t.packets) (all_map P (reported_by boot) (dones news p q) (dones_backed service script log news p q))))
     (λ t. let una : q.una ≤ logged_output service script log p.key = subst (λ u. u ≤ logged_output service script log p.key) (sym t.una) (una_backed service script log news p n h) in
     let after : q.una ≤ logged_output service script log q.key = subst (λ x. q.una ≤ logged_output service script log x) (sym t.same.key) una in (
       after,
       subst (AllByRecursion P) (sym t.packets)
           (all_append P (map To_client (segments_of service server news p q)) _ (segments_backed service script log (segments_of service server news p q))
-          (all_map P (told_by boot) (copies news p q ++ (reads_told news p q ++ dones news p q))
+          (all_map P (reported_by boot) (copies news p q ++ (reads_reported news p q ++ dones news p q))
           (all_append B (copies news p q) _ (copies_backed service script log news p q after)
-          (all_append B (reads_told news p q) (dones news p q) (reads_backed service script log news p q) (dones_backed service script log news p q))))),
+          (all_append B (reads_reported news p q) (dones news p q) (reads_backed service script log news p q) (dones_backed service script log news p q))))),
     ))

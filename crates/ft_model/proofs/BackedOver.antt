@@ -37,15 +37,15 @@ use Rattle.ft_model.proofs.Lists.{all_weaker, all_append, none_is_some, some_is}
 use Rattle.ft_model.proofs.Grows.{log_grows}
 use Rattle.ft_model.proofs.LogAnswers.{log_went, all_answers}
 use Rattle.ft_model.proofs.Happened.{Happened, IsBrought, IsUnderWay, all_sent, answers}
-use Rattle.ft_model.proofs.Happened.Happened.{log_heard, client_heard, client_moved, server_turned, server_booted, server_down}
-use Rattle.ft_model.proofs.PlaceTurns.{PlaceWent, IsNews, all_go_on, serving_goes_on}
+use Rattle.ft_model.proofs.Happened.Happened.{log_received, client_received, client_moved, server_turned, server_booted, server_down}
+use Rattle.ft_model.proofs.PlaceTurns.{PlaceWent, IsNews, all_proceed, serving_proceeds}
 use Rattle.ft_model.proofs.PlaceTurns.PlaceWent.{stayed, went_on, began, dropped, ended, refused}
 use Rattle.ft_model.proofs.StageTurns.{StageWent, stage_went}
 use Rattle.ft_model.proofs.StageTurns.StageWent.{was_fenced, waited, held_off, asked_on, resumed, served}
 use Rattle.ft_model.proofs.Fenced.{held_so, refusals_so}
 use Rattle.ft_model.proofs.Asked.{IsAsked, progress_agrees}
 use Rattle.ft_model.proofs.Resumed.{nothing_missing}
-use Rattle.ft_model.proofs.Services.{reads_go_on, prefix_length}
+use Rattle.ft_model.proofs.Services.{reads_proceed, prefix_length}
 use Rattle.ft_model.proofs.Faithful.{PlaceFits, StageFits}
 use Rattle.ft_model.proofs.FaithfulKept.{IsFaithful}
 use Rattle.ft_model.proofs.FaithfulOver.{restored_all, client_there}
@@ -166,13 +166,13 @@ turn_backed service script isn w node input sent after a f b e brought (resumed 
     let P : Place → Type 0 = PlaceBacked service script w.log in
     let agrees = progress_agrees w node input count fetched a e brought p in
     let whole = nothing_missing w.log.entries count fetched agrees.1 none in
-    let went = all_go_on (Revives service node) P P (PacketBacked service script w.log) (revive_backed service script w.log node) (all_restored service node.profile fetched) places sent
+    let went = all_proceed (Revives service node) P P (PacketBacked service script w.log) (revive_backed service script w.log node) (all_restored service node.profile fetched) places sent
     (restored_all P service node.profile w.log.entries fetched (points_backed service node.profile script w.log w.log.entries b.entries) (λ k. tt) agrees.1 whole.0) t in
     (subst (StageBacked service script w.log) (sym g) went.0, went.1)
 turn_backed service script isn w node input sent after a f b e brought (served opened places later was g t) =
     let fits : AllByRecursion (PlaceFits script isn w.log) places = subst (StageFits script isn w.log) was (f.stage node e) in
     let backed : AllByRecursion (PlaceBacked service script w.log) places = subst (StageBacked service script w.log) was (b.stage node e) in
-    let went = serving_goes_on service node input opened (StandsBacked service script isn w.log) (PlaceBacked service script w.log) (PacketBacked service script w.log) places later sent
+    let went = serving_proceeds service node input opened (StandsBacked service script isn w.log) (PlaceBacked service script w.log) (PacketBacked service script w.log) places later sent
     (place_backed service script isn w.log node input (input_backed service script w input b.packets brought)) (new_backed service script w.log node input opened places)
     (refusals_so (PacketBacked service script w.log) node input places (λ x. tt)) (λ n s c. tt) (both_hold (PlaceFits script isn w.log) (PlaceBacked service script w.log) places fits backed) t in
     (subst (StageBacked service script w.log) (sym g) went.0, went.1)
@@ -195,7 +195,7 @@ accepted_backed service script log c s =
 -- the run over logged reads is short
 pub logged_short : {State : Type 0} (service : Machine State) (script : Key → List ℕ) (w : World) → HasAuthor service script w → (key : Key) → length (logged_run service script w.log key).output ≤ 2 ^ 24
 logged_short service script w a key =
-    le_trans (prefix_length _ _ (reads_go_on service (script key) (logged_lengths key w.log) (a.author key) (front_of a.author w.log key (entry_of key w.log) a.entries refl)).output) (a.short key)
+    le_trans (prefix_length _ _ (reads_proceed service (script key) (logged_lengths key w.log) (a.author key) (front_of a.author w.log key (entry_of key w.log) a.entries refl)).output) (a.short key)
 
 -- an acknowledging move is one of an open client
 pub open_move : (c : Client) (move : Move) → may_move c move ≡ true → (window : ℕ) → has_ack (segment_of c move window) ≡ true
@@ -229,9 +229,9 @@ stage_later service script before after Asking g f = tt
 stage_later service script before after (Fetching count fetched) g f = tt
 stage_later service script before after (Fenced newer) g f = tt
 
-heard_backed : {State : Type 0} (service : Machine State) (script : Key → List ℕ) (w : World) (message : Message) → IsBacked service script w → IsUnderWay w (To_logger message)
+received_backed : {State : Type 0} (service : Machine State) (script : Key → List ℕ) (w : World) (message : Message) → IsBacked service script w → IsUnderWay w (To_logger message)
     → IsBacked service script (record w { log = log_after w.log message; packets = w.packets ++ answers w.log message })
-heard_backed service script w message b under =
+received_backed service script w message b under =
     let later : Log = log_after w.log message in
     let g : LogGrows w.log later = log_grows w.log message in
     record {
@@ -253,31 +253,31 @@ more_backed service script w clients boot up sent b s stage = record {
   stage = stage;
 }
 
-pub backed_goes_on : {State : Type 0} (service : Machine State) (script : Key → List ℕ) (isn : Key → ℕ) (before : World) (sent : List Packet) (after : World)
+pub backed_proceeds : {State : Type 0} (service : Machine State) (script : Key → List ℕ) (isn : Key → ℕ) (before : World) (sent : List Packet) (after : World)
     → IsAsked before → IsFaithful script isn before → HasAuthor service script before → AllByRecursion (IsSeen service script before.log) before.clients → IsBacked service script before
     → Happened service before sent after → IsBacked service script after
-backed_goes_on service script isn before sent after a f h s b (log_heard message under t e) =
-    subst (IsBacked service script) (sym (e ∙ ap (λ x. record before { log = log_after before.log message; packets = before.packets ++ x }) t)) (heard_backed service script before message b under)
-backed_goes_on service script isn before sent after a f h s b (client_heard segment under t e) =
+backed_proceeds service script isn before sent after a f h s b (log_received message under t e) =
+    subst (IsBacked service script) (sym (e ∙ ap (λ x. record before { log = log_after before.log message; packets = before.packets ++ x }) t)) (received_backed service script before message b under)
+backed_proceeds service script isn before sent after a f h s b (client_received segment under t e) =
     subst (IsBacked service script) (sym e)
     (more_backed service script before (with_client (destination_of segment) (λ c. received c segment) before.clients) before.boot before.node sent b
     (subst (AllByRecursion (PacketBacked service script before.log)) (sym t) tt) b.stage)
-backed_goes_on service script isn before sent after a f h s b (client_moved number m) =
+backed_proceeds service script isn before sent after a f h s b (client_moved number m) =
     let seen : IsSeen service script before.log m.client = client_there (IsSeen service script before.log) before.clients number m.client s m.is_there in
     let moved : PacketBacked service script before.log (To_server m.segment) =
     subst (λ x. PacketBacked service script before.log (To_server x)) (sym m.move.segment_is) (move_backed service script before m.client m.move.move m.move.window h seen m.move.may) in
     subst (IsBacked service script) (sym m.after_is)
     (more_backed service script before (with_client m.client.key (λ x. m.later) before.clients) before.boot before.node sent b
     (subst (AllByRecursion (PacketBacked service script before.log)) (sym m.sent_is) (moved, tt)) b.stage)
-backed_goes_on service script isn before sent after a f h s b (server_turned input node later brought is turn e) =
+backed_proceeds service script isn before sent after a f h s b (server_turned input node later brought is turn e) =
     let t = turn_backed service script isn before node input sent later.stage a f b is brought (stage_went service node later input sent turn) in
     subst (IsBacked service script) (sym e)
     (more_backed service script before before.clients before.boot (Some later) sent b t.1 (λ n g. subst (λ x. StageBacked service script before.log x.stage) (some_is later n g) t.0))
-backed_goes_on service script isn before sent after a f h s b (server_booted boot isn0 down larger t e) =
+backed_proceeds service script isn before sent after a f h s b (server_booted boot isn0 down larger t e) =
     subst (IsBacked service script) (sym e)
     (more_backed service script before before.clients boot (Some (booted before.server before.profile boot isn0)) sent b (subst (AllByRecursion (PacketBacked service script before.log)) (sym t) (tt, tt))
     (λ n g. subst (λ x. StageBacked service script before.log x.stage) (some_is (booted before.server before.profile boot isn0) n g) tt))
-backed_goes_on service script isn before sent after a f h s b (server_down t e) =
+backed_proceeds service script isn before sent after a f h s b (server_down t e) =
     subst (IsBacked service script) (sym e)
     (more_backed service script before before.clients before.boot None sent b (subst (AllByRecursion (PacketBacked service script before.log)) (sym t) tt) (λ n g. none_is_some n g))
 

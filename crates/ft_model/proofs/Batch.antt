@@ -39,11 +39,11 @@ turn_17 = serves_in echo wan 1 5000 path.stable_comes run.filled_point run.logge
 
 happens_11 : Happens echo wide.moment_10.world run.moment_11.event run.moment_11.sent run.moment_11.world
 unfolding laws IsLe
-happens_11 = record { client = path.open_client; segment = segment_in held.first_sent; later = held.telling_client; is_there = refl; move = record { move = Text 0 2; window = 65535; timestamps = None; may = refl; fits = refl; carries = refl; segment_is = refl; after_is = refl }; sent_is = refl; after_is = refl }
+happens_11 = record { client = path.open_client; segment = segment_in held.first_sent; later = held.reporting_client; is_there = refl; move = record { move = Text 0 2; window = 65535; timestamps = None; may = refl; fits = refl; carries = refl; segment_is = refl; after_is = refl }; sent_is = refl; after_is = refl }
 
 happens_12 : Happens echo run.moment_11.world run.moment_12.event run.moment_12.sent run.moment_12.world
 unfolding laws IsLe
-happens_12 = record { client = held.telling_client; segment = segment_in held.second_sent; later = path.told_client; is_there = refl; move = record { move = Text 2 3; window = 65535; timestamps = None; may = refl; fits = refl; carries = refl; segment_is = refl; after_is = refl }; sent_is = refl; after_is = refl }
+happens_12 = record { client = held.reporting_client; segment = segment_in held.second_sent; later = path.reported_client; is_there = refl; move = record { move = Text 2 3; window = 65535; timestamps = None; may = refl; fits = refl; carries = refl; segment_is = refl; after_is = refl }; sent_is = refl; after_is = refl }
 
 happens_13 : Happens echo run.moment_12.world run.moment_13.event run.moment_13.sent run.moment_13.world
 unfolding laws IsLe
@@ -73,7 +73,7 @@ allowed_11 : IsAllowed wide.moment_10.world run.moment_11
 allowed_11 = record { allowed = refl; scripted = scripted wide.moment_10.world run.moment_11.event path.open_client (Text 0 2) 1 run.moment_11.world refl refl refl }
 
 allowed_12 : IsAllowed run.moment_11.world run.moment_12
-allowed_12 = record { allowed = refl; scripted = scripted run.moment_11.world run.moment_12.event held.telling_client (Text 2 3) 1 run.moment_12.world refl refl refl }
+allowed_12 = record { allowed = refl; scripted = scripted run.moment_11.world run.moment_12.event held.reporting_client (Text 2 3) 1 run.moment_12.world refl refl refl }
 
 pub is_legal : Legal (λ kind. echo) run.schedule run.trace
 is_legal = record {

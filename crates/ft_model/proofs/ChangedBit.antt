@@ -10,7 +10,7 @@ use Rattle.seq_arith.specs.Checksum.{checksum}
 use Rattle.seq_arith.proofs.MessageSpelling.{spelled_length}
 use Rattle.ft_model.specs.Growth.{IsPrefix}
 use Rattle.seq_arith.specs.declared.kinds.Grammar.TheVariants.{Plain}
-use Rattle.ft_model.specs.Wire.{CanBeTold}
+use Rattle.ft_model.specs.Wire.{CanBeWritten}
 use Rattle.ft_model.specs.World.{Happens, Flipped}
 use Rattle.ft_model.specs.WeakerLaw.{IsWrongOnce}
 use Rattle.ft_model.specs.WorkedRuns.Common.{echo, part_with, hello_text}
@@ -25,9 +25,9 @@ use Rattle.ft_model.proofs.FirstPath.{opening_is_joint, happens_11, happens_12}
 abbrev data_message : Message
 data_message = record { boot = 1; body = DataMsg (part_with 0 0 false hello_text) }
 
-data_told : CanBeTold data_message
+data_reported : CanBeWritten data_message
 unfolding IsLe messages.is_sound_by messages.has_length
-data_told = (
+data_reported = (
   record {
     boot = le_by_compare 2 (256 ^ 8) tt;
     numbers = (le_by_compare 3221225986 (256 ^ 4) tt, (le_by_compare 40001 (256 ^ 2) tt, (le_by_compare 1 (256 ^ 4) tt, (le_by_compare 1 (256 ^ 4) tt, (le_by_compare 1 256 tt, tt)))));
@@ -40,7 +40,7 @@ data_told = (
 data_long : 248 < 8 * length (messages.spelling data_message)
 unfolding messages.spelling_by
 data_long =
-    let size = spelled_length Plain data_message (checksum (messages.spelled Plain data_message 0)) data_told.0.numbers in omega (arith, size)
+    let size = spelled_length Plain data_message (checksum (messages.spelled Plain data_message 0)) data_reported.0.numbers in omega (arith, size)
 
 refused : Happens echo path.moment_12.world run.wrong.event run.wrong.sent run.wrong.world → ⊥
 refused h =
@@ -59,7 +59,7 @@ wrong_once = record {
     (
       path.packet_10,
       refl,
-      record { wire = data_told; within = data_long; comes = nothing_read _ path.moment_12.world (message_bit_changed Plain 248 data_message data_told data_long) },
+      record { wire = data_reported; within = data_long; comes = nothing_read _ path.moment_12.world (message_bit_changed Plain 248 data_message data_reported data_long) },
     ),
   );
   after = tt;

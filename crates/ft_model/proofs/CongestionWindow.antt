@@ -129,7 +129,7 @@ happens_10 = (path.packet_7, refl, ((path.node_live path.open_point, refl, turn_
 
 happens_11 : Follows run.moment_10 run.moment_11
 unfolding laws IsLe
-happens_11 = record { client = run.open_client; segment = segment_in run.asking; later = run.told_client; is_there = refl; move = record { move = Text 0 8; window = 65535; may = refl; fits = refl; timestamps = None; carries = refl; segment_is = refl; after_is = refl }; sent_is = refl; after_is = refl }
+happens_11 = record { client = run.open_client; segment = segment_in run.asking; later = run.reported_client; is_there = refl; move = record { move = Text 0 8; window = 65535; may = refl; fits = refl; timestamps = None; carries = refl; segment_is = refl; after_is = refl }; sent_is = refl; after_is = refl }
 
 happens_12 : Follows run.moment_11 run.moment_12
 unfolding laws IsLe

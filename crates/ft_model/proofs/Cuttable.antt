@@ -12,7 +12,7 @@ use Rattle.ft_model.specs.Log.{Log, Entry, new_entry, with_bytes, with_its_fin, 
 use Rattle.ft_model.specs.Network.{Packet}
 use Rattle.ft_model.specs.World.{World, Moment, Joint, world_after}
 use Rattle.ft_model.proofs.Happened.{Happened, holds_after}
-use Rattle.ft_model.proofs.Happened.Happened.{log_heard, client_heard, client_moved, server_turned, server_booted, server_down}
+use Rattle.ft_model.proofs.Happened.Happened.{log_received, client_received, client_moved, server_turned, server_booted, server_down}
 use Rattle.ft_io.proofs.Booleans.{not_true}
 use Rattle.ft_io.proofs.Choices.{holds_if}
 
@@ -84,15 +84,15 @@ log_cut log message a =
     holds_if AreCut (is_answer message.body || nat_lt message.boot log.boot) log _ (λ t. a)
     (λ t. holds_if AreCut (is_hello message.body) _ _ (λ s. a) (λ s. holds_if AreCut (message.boot == log.boot) _ _ (λ u. kept_cut message.body log a) (λ u. a)))
 
-pub cut_goes_on : {State : Type 0} (service : Machine State) (before : World) (sent : List Packet) (after : World) → AreCut before.log → Happened service before sent after → AreCut after.log
-cut_goes_on service before sent after a (log_heard message under sent_is e) = subst AreCut (sym (ap (λ w. w.log) e)) (log_cut before.log message a)
-cut_goes_on service before sent after a (client_heard segment under sent_is e) = subst AreCut (sym (ap (λ w. w.log) e)) a
-cut_goes_on service before sent after a (client_moved number m) = subst AreCut (sym (ap (λ w. w.log) m.after_is)) a
-cut_goes_on service before sent after a (server_turned input node later brought is turn e) = subst AreCut (sym (ap (λ w. w.log) e)) a
-cut_goes_on service before sent after a (server_booted boot isn down larger sent_is e) = subst AreCut (sym (ap (λ w. w.log) e)) a
-cut_goes_on service before sent after a (server_down sent_is e) = subst AreCut (sym (ap (λ w. w.log) e)) a
+pub cut_proceeds : {State : Type 0} (service : Machine State) (before : World) (sent : List Packet) (after : World) → AreCut before.log → Happened service before sent after → AreCut after.log
+cut_proceeds service before sent after a (log_received message under sent_is e) = subst AreCut (sym (ap (λ w. w.log) e)) (log_cut before.log message a)
+cut_proceeds service before sent after a (client_received segment under sent_is e) = subst AreCut (sym (ap (λ w. w.log) e)) a
+cut_proceeds service before sent after a (client_moved number m) = subst AreCut (sym (ap (λ w. w.log) m.after_is)) a
+cut_proceeds service before sent after a (server_turned input node later brought is turn e) = subst AreCut (sym (ap (λ w. w.log) e)) a
+cut_proceeds service before sent after a (server_booted boot isn down larger sent_is e) = subst AreCut (sym (ap (λ w. w.log) e)) a
+cut_proceeds service before sent after a (server_down sent_is e) = subst AreCut (sym (ap (λ w. w.log) e)) a
 
 pub cut_over : {State : Type 0} (service : Machine State) (start : World) (trace : List Moment) → Joint service start trace
     → AllByRecursion (λ e. CanCut e.bytes e.lengths) (world_after start trace).log.entries
 cut_over service start trace joint =
-    holds_after service (λ w. AreCut w.log) start (λ s. subst AreCut (sym s.log) tt) (λ before sent after a h. cut_goes_on service before sent after a h) trace joint
+    holds_after service (λ w. AreCut w.log) start (λ s. subst AreCut (sym s.log) tt) (λ before sent after a h. cut_proceeds service before sent after a h) trace joint

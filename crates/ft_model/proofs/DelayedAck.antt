@@ -137,7 +137,7 @@ happens_10 = (path.packet_7, refl, ((run.node_live run.open_point, refl, turn_10
 
 happens_11 : Follows run.moment_10 run.moment_11
 unfolding laws IsLe
-happens_11 = record { client = path.open_client; segment = segment_in path.packet_8; later = path.told_client; is_there = refl; move = record { move = Text 0 5; window = 65535; may = refl; fits = refl; timestamps = None; carries = refl; segment_is = refl; after_is = refl }; sent_is = refl; after_is = refl }
+happens_11 = record { client = path.open_client; segment = segment_in path.packet_8; later = path.reported_client; is_there = refl; move = record { move = Text 0 5; window = 65535; may = refl; fits = refl; timestamps = None; carries = refl; segment_is = refl; after_is = refl }; sent_is = refl; after_is = refl }
 
 happens_12 : Follows run.moment_11 run.moment_12
 unfolding laws IsLe

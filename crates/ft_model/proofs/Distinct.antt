@@ -21,7 +21,7 @@ use Rattle.ft_model.specs.Keys.{AreDistinct, has_key}
 use Rattle.ft_model.proofs.Lists.{none_is_some, some_is}
 use Rattle.ft_model.proofs.Keys.{absent_key, distinct_front, distinct_more}
 use Rattle.ft_model.proofs.Happened.{Happened, IsBrought}
-use Rattle.ft_model.proofs.Happened.Happened.{log_heard, client_heard, client_moved, server_turned, server_booted, server_down}
+use Rattle.ft_model.proofs.Happened.Happened.{log_received, client_received, client_moved, server_turned, server_booted, server_down}
 use Rattle.ft_model.proofs.PlaceTurns.{PlaceWent, IsDropped, place_went}
 use Rattle.ft_model.proofs.PlaceTurns.PlaceWent.{stayed, went_on, began, dropped, ended, refused}
 use Rattle.ft_model.proofs.StageTurns.{StageWent, stage_went, either_turn}
@@ -63,11 +63,11 @@ no_key_after Goes keeps key (place ∷ places) after sent (now, later, first, ot
     (λ n. ap (λ l. has_key key (map key_of l)) (places_are ∙ ap (λ l. l ++ later) n.1)
     ∙ or_from (key_eq (key_of n.0) key) (has_key key (map key_of later)) (ap (λ k. key_eq k key) n.2 ∙ parts.0) there) (keeps place now first goes)
 
-pub distinct_goes_on : (Goes : Place → List Place → List Packet → Type 0) → ((place : Place) (now : List Place) (sent : List Packet) → Goes place now sent → KeepsKey place now)
+pub distinct_proceeds : (Goes : Place → List Place → List Packet → Type 0) → ((place : Place) (now : List Place) (sent : List Packet) → Goes place now sent → KeepsKey place now)
     → (before after : List Place) (sent : List Packet) → AllGo Goes before after sent → AreDistinct (map key_of before) → AreDistinct (map key_of after)
-distinct_goes_on Goes keeps [] after sent t d = subst (λ l. AreDistinct (map key_of l)) (sym t.0) tt
-distinct_goes_on Goes keeps (place ∷ places) after sent (now, later, first, others, places_are, sent_is, goes, rest) d =
-    let there : AreDistinct (map key_of later) = distinct_goes_on Goes keeps places later others rest d.1 in
+distinct_proceeds Goes keeps [] after sent t d = subst (λ l. AreDistinct (map key_of l)) (sym t.0) tt
+distinct_proceeds Goes keeps (place ∷ places) after sent (now, later, first, others, places_are, sent_is, goes, rest) d =
+    let there : AreDistinct (map key_of later) = distinct_proceeds Goes keeps places later others rest d.1 in
     ⊎_elim (λ n. subst (λ l. AreDistinct (map key_of l)) (sym (places_are ∙ ap (λ l. l ++ later) n)) there)
     (λ n. subst (λ l. AreDistinct (map key_of l)) (sym (places_are ∙ ap (λ l. l ++ later) n.1))
     (subst (λ k. has_key k (map key_of later) ≡ false) (sym n.2) (no_key_after Goes keeps (key_of place) places later others rest d.0), there)) (keeps place now first goes)
@@ -116,15 +116,15 @@ turn_distinct service w node input sent after a d e brought (served opened place
     let was : AreDistinct (map key_of places) = subst StageDistinct b (d node e) in
     let keeps : (place : Place) (now : List Place) (some : List Packet) → PlaceTurn service node input place now some → KeepsKey place now =
     λ place now some x. keeps_key service node input place now some (place_went service node input place now some x) in
-    let went : AreDistinct (map key_of t.went) = distinct_goes_on (PlaceTurn service node input) keeps places t.went t.by_places t.all_go was in
+    let went : AreDistinct (map key_of t.went) = distinct_proceeds (PlaceTurn service node input) keeps places t.went t.by_places t.all_go was in
     subst StageDistinct (sym g)
     (subst (λ l. AreDistinct (map key_of l)) (sym t.places)
     (with_new node input opened places t.went went (λ key none. no_key_after (PlaceTurn service node input) keeps key places t.went t.by_places t.all_go none)))
 
 pub distinct_after : {State : Type 0} (service : Machine State) (before : World) (sent : List Packet) (after : World)
     → IsAsked before → IsDistinct before → Happened service before sent after → IsDistinct after
-distinct_after service before sent after a d (log_heard message under s e) = subst IsDistinct (sym e) d
-distinct_after service before sent after a d (client_heard segment under s e) = subst IsDistinct (sym e) d
+distinct_after service before sent after a d (log_received message under s e) = subst IsDistinct (sym e) d
+distinct_after service before sent after a d (client_received segment under s e) = subst IsDistinct (sym e) d
 distinct_after service before sent after a d (client_moved number m) = subst IsDistinct (sym m.after_is) d
 distinct_after service before sent after a d (server_turned input node later brought is turn e) =
     subst IsDistinct (sym e)

@@ -7,9 +7,9 @@ use Rattle.ft_model.specs.Node.{Node}
 use Rattle.ft_model.specs.Masked.{RestartIsExact}
 use Rattle.ft_model.specs.World.{World, Moment, Joint, world_after}
 use Rattle.ft_model.proofs.Happened.{Happened, happened, holds_after}
-use Rattle.ft_model.proofs.Happened.Happened.{log_heard, client_heard, client_moved, server_turned, server_booted, server_down}
-use Rattle.ft_model.proofs.Fenced.{IsFenced, start_fenced, fenced_goes_on}
-use Rattle.ft_model.proofs.Asked.{IsAsked, start_asked, asked_goes_on}
+use Rattle.ft_model.proofs.Happened.Happened.{log_received, client_received, client_moved, server_turned, server_booted, server_down}
+use Rattle.ft_model.proofs.Fenced.{IsFenced, start_fenced, fenced_proceeds}
+use Rattle.ft_model.proofs.Asked.{IsAsked, start_asked, asked_proceeds}
 use Rattle.ft_model.proofs.Resumed.{exact, not_resumed}
 
 -- what the messages that are under way may say
@@ -19,7 +19,7 @@ IsOrderly w = IsFenced w × IsAsked w
 pub orderly : {State : Type 0} (service : Machine State) (start : World) (trace : List Moment) → Joint service start trace → IsOrderly (world_after start trace)
 orderly service start trace j =
     holds_after service IsOrderly start (λ s. (start_fenced start s, start_asked start s))
-    (λ before sent after o h. (fenced_goes_on service before sent after o.0 h, asked_goes_on service before sent after o.0 o.1 h)) trace j
+    (λ before sent after o h. (fenced_proceeds service before sent after o.0 h, asked_proceeds service before sent after o.0 o.1 h)) trace j
 
 pub same_exact : {State : Type 0} (service : Machine State) (log : Log) (n : Option Node) → RestartIsExact service log n n
 same_exact service log (Some node) = λ r. not_resumed service log node node.stage r
@@ -31,9 +31,9 @@ down_exact service log None = tt
 
 pub exact_moment : {State : Type 0} (service : Machine State) (before : World) (sent : List Packet) (after : World)
     → IsOrderly before → Happened service before sent after → RestartIsExact service after.log before.node after.node
-exact_moment service before sent after o (log_heard message under s e) =
+exact_moment service before sent after o (log_received message under s e) =
     subst (λ w. RestartIsExact service w.log before.node w.node) (sym e) (same_exact service (log_after before.log message) before.node)
-exact_moment service before sent after o (client_heard segment under s e) =
+exact_moment service before sent after o (client_received segment under s e) =
     subst (λ w. RestartIsExact service w.log before.node w.node) (sym e) (same_exact service before.log before.node)
 exact_moment service before sent after o (client_moved number m) =
     subst (λ w. RestartIsExact service w.log before.node w.node) (sym m.after_is) (same_exact service before.log before.node)

@@ -20,17 +20,17 @@ use Rattle.ft_model.specs.News.{News}
 use Rattle.ft_model.specs.News.News.{Logged}
 use Rattle.ft_model.specs.Answered.{answered_after, reads_answered_after}
 use Rattle.ft_model.specs.Copy.{copies}
-use Rattle.ft_model.specs.Reads.{reads_told, read_messages, first_told}
-use Rattle.ft_model.specs.ResetAndEnd.{dones, tells_done}
+use Rattle.ft_model.specs.Reads.{reads_reported, read_messages, first_reported}
+use Rattle.ft_model.specs.ResetAndEnd.{dones, reports_done}
 use Rattle.ft_model.specs.Segments.{segments_of}
-use Rattle.ft_model.specs.Connection.{ResetTurn, LiveTurn, ConnectionTurn, told_by}
+use Rattle.ft_model.specs.Connection.{ResetTurn, LiveTurn, ConnectionTurn, reported_by}
 use Rattle.ft_model.specs.Node.{Place, Stage}
 use Rattle.ft_model.specs.Node.Place.{Opens, Lives, Ended}
 use Rattle.ft_model.specs.Node.Stage.{Serving}
 use Rattle.ft_model.specs.Growth.{IsPrefix, LogGrows, units_in, lengths_in, logged_units, logged_lengths}
 use Rattle.ft_model.proofs.Lists.{all_weaker, all_map, all_append, all_find, found_passes, same_key, none_is_some, some_is}
 use Rattle.ft_model.proofs.Grows.{found_later, units_grow, lengths_grow, logged_units_grow, logged_lengths_grow}
-use Rattle.ft_model.proofs.Fetching.{own_entry, on_some, chosen_some, told_last}
+use Rattle.ft_model.proofs.Fetching.{own_entry, on_some, chosen_some, reported_last}
 use Rattle.ft_model.proofs.Scripts.{FitsScript, HasTaken, PartFits, EntryFits, NewsFits, DataFits, taken_fits, copies_fit}
 use Rattle.ft_model.proofs.Running.{taken_more}
 use Rattle.ft_model.proofs.Spoken.{Spoken, segments_spoken, IsHeaded, headed}
@@ -144,26 +144,26 @@ opened_fits log key (Some e) answer found t = subst (AnswerFits log) (some_is _ 
 opened_fits log key None answer found t = subst (AnswerFits log) (some_is _ _ t) tt
 
 -- what the log tells is so
-pub told_fits : (body : Body) (log : Log) (answer : Body) → answer_from body log ≡ Some answer → AnswerFits log answer
-told_fits HelloMsg log answer t = subst (AnswerFits log) (some_is _ _ t) tt
-told_fits (OpenMsg n) log answer t = opened_fits log n.key (entry_of n.key log) answer refl t
-told_fits (DataMsg part) log answer t =
-    let o = on_some (entry_of part.key log) (λ e. Some (StableMsg (kept_of e))) answer (told_last part.more _ answer t) in
+pub reported_fits : (body : Body) (log : Log) (answer : Body) → answer_from body log ≡ Some answer → AnswerFits log answer
+reported_fits HelloMsg log answer t = subst (AnswerFits log) (some_is _ _ t) tt
+reported_fits (OpenMsg n) log answer t = opened_fits log n.key (entry_of n.key log) answer refl t
+reported_fits (DataMsg part) log answer t =
+    let o = on_some (entry_of part.key log) (λ e. Some (StableMsg (kept_of e))) answer (reported_last part.more _ answer t) in
     subst (AnswerFits log) (some_is _ _ o.2) (kept_entry log part.key o.0 o.1)
-told_fits (ReadMsg key index n) log answer t =
+reported_fits (ReadMsg key index n) log answer t =
     let o = on_some (entry_of key log) (λ e. Some (ReadsMsg (kept_of e))) answer t in
     subst (AnswerFits log) (some_is _ _ o.2) (kept_entry log key o.0 o.1)
-told_fits (ListMsg index) log answer t =
+reported_fits (ListMsg index) log answer t =
     let o = on_some (slice_get log.entries index) (λ e. Some (EntryMsg index (head_of e))) answer t in subst (AnswerFits log) (some_is _ _ o.2) tt
-told_fits (BytesMsg key offset) log answer t =
+reported_fits (BytesMsg key offset) log answer t =
     let o = on_some (entry_of key log) (λ e. part_of e offset) answer t in
     subst (AnswerFits log) (chosen_some (nat_lt offset (length o.0.bytes)) (PartMsg o.0.key offset (take 1024 (drop offset o.0.bytes))) answer o.2) tt
-told_fits (CutsMsg key first) log answer t =
+reported_fits (CutsMsg key first) log answer t =
     let o = on_some (entry_of key log) (λ e. lens_of e first) answer t in
     subst (AnswerFits log) (chosen_some (nat_lt first (length o.0.lengths)) (LensMsg o.0.key first (take 512 (drop first o.0.lengths))) answer o.2) tt
-told_fits (DoneMsg key) log answer t =
+reported_fits (DoneMsg key) log answer t =
     let o = on_some (entry_of key log) (λ e. Some (EndedMsg key)) answer t in subst (AnswerFits log) (some_is _ _ o.2) tt
-told_fits _ log answer t = none_is_some answer t
+reported_fits _ log answer t = none_is_some answer t
 
 -- an entry's units lie within the script
 pub units_within : (script : Key → List ℕ) (isn : Key → ℕ) (log : Log) (key : Key) (e : Entry) → EntriesFit script isn log.entries → entry_of key log ≡ Some e
@@ -217,7 +217,7 @@ known_after log news p q k n key sisn answered reads = record {
 }
 
 bodies_fit : (script : Key → List ℕ) (isn : Key → ℕ) (log : Log) (boot : ℕ) (bodies : List Body) → AllByRecursion (BodyFits script isn) bodies
-    → AllByRecursion (IsFit script isn log) (map (told_by boot) bodies)
+    → AllByRecursion (IsFit script isn log) (map (reported_by boot) bodies)
 bodies_fit script isn log boot [] a = tt
 bodies_fit script isn log boot (body ∷ bodies) a = ((a.0, tt), bodies_fit script isn log boot bodies a.1)
 
@@ -231,11 +231,11 @@ reads_fit script isn key index (n ∷ lengths) = (tt, reads_fit script isn key (
 
 dones_fit : (script : Key → List ℕ) (isn : Key → ℕ) (news : News) (p q : Point) → AllByRecursion (BodyFits script isn) (dones news p q)
 unfolding dones
-dones_fit script isn news p q = holds_if (AllByRecursion (BodyFits script isn)) (tells_done news p q) (DoneMsg q.key ∷ []) [] (λ t. (tt, tt)) (λ t. tt)
+dones_fit script isn news p q = holds_if (AllByRecursion (BodyFits script isn)) (reports_done news p q) (DoneMsg q.key ∷ []) [] (λ t. (tt, tt)) (λ t. tt)
 
-told_reads_fit : (script : Key → List ℕ) (isn : Key → ℕ) (news : News) (p q : Point) → AllByRecursion (BodyFits script isn) (reads_told news p q)
-unfolding reads_told
-told_reads_fit script isn news p q = reads_fit script isn q.key (first_told news p q) (drop (first_told news p q) q.lengths)
+reported_reads_fit : (script : Key → List ℕ) (isn : Key → ℕ) (news : News) (p q : Point) → AllByRecursion (BodyFits script isn) (reads_reported news p q)
+unfolding reads_reported
+reported_reads_fit script isn news p q = reads_fit script isn q.key (first_reported news p q) (drop (first_reported news p q) q.lengths)
 
 reset_fits : (script : Key → List ℕ) (isn : Key → ℕ) (log : Log) (boot : ℕ) (news : News) (p q : Point) (sent : List Packet)
     → NewsKnown log p news → PlaceFits script isn log (Lives p) → ResetTurn boot news p q sent
@@ -262,14 +262,14 @@ live_fits service server script isn log boot news p q sent short entries nf n f 
     (λ s spoken. let h : IsHeaded q s = headed service server news p q s spoken in
     (tt, acknowledges_units script isn log s q.key known.entry (acknowledgement q) q.cisn short entries known.found (omega (arith, known.answered)) taken.cisn h.destination h.ack))
     (segments_spoken service server news p q) in
-    let bodies : AllByRecursion (BodyFits script isn) (copies news p q ++ (reads_told news p q ++ dones news p q)) =
+    let bodies : AllByRecursion (BodyFits script isn) (copies news p q ++ (reads_reported news p q ++ dones news p q)) =
     all_append (BodyFits script isn) (copies news p q) _
     (all_weaker (DataFits script) (BodyFits script isn) (copies news p q) (data_fits script isn) (copies_fit script (isn q.key) news p q (taken_more news p q t.taken) nfq taken))
-    (all_append (BodyFits script isn) (reads_told news p q) (dones news p q) (told_reads_fit script isn news p q) (dones_fit script isn news p q)) in (
+    (all_append (BodyFits script isn) (reads_reported news p q) (dones news p q) (reported_reads_fit script isn news p q) (dones_fit script isn news p q)) in (
       (taken, known),
       subst (AllByRecursion (IsFit script isn log)) (sym t.packets)
           (all_append (IsFit script isn log) (map To_client (segments_of service server news p q)) _ (all_map (IsFit script isn log) To_client (segments_of service server news p q) segments)
-          (bodies_fit script isn log boot (copies news p q ++ (reads_told news p q ++ dones news p q)) bodies)),
+          (bodies_fit script isn log boot (copies news p q ++ (reads_reported news p q ++ dones news p q)) bodies)),
     )
 
 pub connection_fits : {State : Type 0} (service : Machine State) (server : Addr) (script : Key → List ℕ) (isn : Key → ℕ) (log : Log) (boot : ℕ) (news : News) (p q : Point) (sent : List Packet)

@@ -43,7 +43,7 @@ use Rattle.ft_model.proofs.PlaceTurns.{PlaceWent, IsNews}
 use Rattle.ft_model.proofs.PlaceTurns.PlaceWent.{stayed, went_on, began, dropped, ended, refused}
 use Rattle.ft_model.proofs.Stands.{nothing_first}
 use Rattle.ft_model.proofs.Scripts.{FitsScript, PartFits, EntryFits, NewsFits, nothing_held, entry_fits}
-use Rattle.ft_model.proofs.Faithful.{HasEntry, BodyFits, AnswerFits, PacketFits, PlaceFits, StageFits, EntriesFit, IsFit, NewsKnown, place_later, packet_later, told_fits, units_within, connection_fits}
+use Rattle.ft_model.proofs.Faithful.{HasEntry, BodyFits, AnswerFits, PacketFits, PlaceFits, StageFits, EntriesFit, IsFit, NewsKnown, place_later, packet_later, reported_fits, units_within, connection_fits}
 use Rattle.ft_io.proofs.Choices.{holds_if}
 
 abbrev pub ClientFits : (Key → List ℕ) → (Key → ℕ) → Client → Type 0
@@ -151,9 +151,9 @@ stage_later script isn before after Asking g f = tt
 stage_later script isn before after (Fetching count fetched) g f = tt
 stage_later script isn before after (Fenced newer) g f = tt
 
-pub heard_faithful : (script : Key → List ℕ) (isn : Key → ℕ) (w : World) (message : Message) → IsFaithful script isn w → IsUnderWay w (To_logger message)
+pub received_faithful : (script : Key → List ℕ) (isn : Key → ℕ) (w : World) (message : Message) → IsFaithful script isn w → IsUnderWay w (To_logger message)
     → IsFaithful script isn (record w { log = log_after w.log message; packets = w.packets ++ answers w.log message })
-heard_faithful script isn w message f under =
+received_faithful script isn w message f under =
     let came : BodyFits script isn message.body = all_sent (PacketFits script isn w.log) w (To_logger message) f.packets under in
     let g : LogGrows w.log (log_after w.log message) = log_grows w.log message in
     record {
@@ -161,7 +161,7 @@ heard_faithful script isn w message f under =
       packets = all_append (PacketFits script isn (log_after w.log message)) w.packets (answers w.log message)
           (all_weaker (PacketFits script isn w.log) _ w.packets (packet_later script isn w.log (log_after w.log message) g) f.packets)
           (all_answers (PacketFits script isn (log_after w.log message)) w.log message
-          (λ body a. ⊎_elim (λ s. subst (AnswerFits (log_after w.log message)) (sym s) tt) (λ o. told_fits message.body (log_after w.log message) body o.1) a));
+          (λ body a. ⊎_elim (λ s. subst (AnswerFits (log_after w.log message)) (sym s) tt) (λ o. reported_fits message.body (log_after w.log message) body o.1) a));
       entries = entries_after script isn w.log message (log_after w.log message) (log_went w.log message) came f.entries;
       stage = λ node e. stage_later script isn w.log (log_after w.log message) node.stage g (f.stage node e);
     }
@@ -209,8 +209,8 @@ pub news_fit : (script : Key → List ℕ) (isn : Key → ℕ) (log : Log) (node
 news_fit script isn log node input (Comes segment) p f n =
     (subst (λ k. FitsScript (script k) (isn k) segment) n.1 (subst (InputFits script isn log) n.0 f), tt)
 news_fit script isn log node input (Logged kept) p f n =
-    let told : AnswerFits log n.0.body = subst (InputFits script isn log) n.1 f in
-    (tt, (⊎_elim (λ s. subst (AnswerFits log) s told) (λ s. subst (AnswerFits log) s told) n.4, n.3))
+    let reported : AnswerFits log n.0.body = subst (InputFits script isn log) n.1 f in
+    (tt, (⊎_elim (λ s. subst (AnswerFits log) s reported) (λ s. subst (AnswerFits log) s reported) n.4, n.3))
 news_fit script isn log node input Ticks p f n = (tt, tt)
 news_fit script isn log node input Begins p f n = absurd n
 
@@ -232,8 +232,8 @@ place_fits service script isn log node input short entries i place now sent f (w
     let c = connection_fits service node.server script isn log node.boot news p after sent short entries nf.0 nf.1 (subst (PlaceFits script isn log) e f) t in
     (subst (AllByRecursion (PlaceFits script isn log)) (sym n) (c.0, tt), c.1)
 place_fits service script isn log node input short entries i place now sent f (began asked kept timestamping after e h n t) =
-    let told : AnswerFits log h.message.body = subst (InputFits script isn log) h.comes i in
-    let has : HasEntry log kept = subst (AnswerFits log) h.body told in
+    let reported : AnswerFits log h.message.body = subst (InputFits script isn log) h.comes i in
+    let has : HasEntry log kept = subst (AnswerFits log) h.body reported in
     let c = connection_fits service node.server script isn log node.boot Begins (point_opened node.profile timestamping kept) after sent short entries tt tt (opened_point node.profile timestamping script isn log kept entries has) t in
     (subst (AllByRecursion (PlaceFits script isn log)) (sym n) (c.0, tt), c.1)
 place_fits service script isn log node input short entries i place now sent f (dropped asked timestamping e d n s) = (

@@ -26,8 +26,8 @@ use Rattle.ft_model.specs.Keys.{AreDistinct}
 use Rattle.ft_model.proofs.Lists.{all_weaker, all_append, all_find, all_slice_get, none_is_some, some_is}
 use Rattle.ft_model.proofs.Keys.{finds_itself, all_from_get}
 use Rattle.ft_model.proofs.Happened.{Happened, IsBrought}
-use Rattle.ft_model.proofs.Happened.Happened.{log_heard, client_heard, client_moved, server_turned, server_booted, server_down}
-use Rattle.ft_model.proofs.PlaceTurns.{all_go_on, serving_goes_on}
+use Rattle.ft_model.proofs.Happened.Happened.{log_received, client_received, client_moved, server_turned, server_booted, server_down}
+use Rattle.ft_model.proofs.PlaceTurns.{all_proceed, serving_proceeds}
 use Rattle.ft_model.proofs.StageTurns.{StageWent, stage_went}
 use Rattle.ft_model.proofs.StageTurns.StageWent.{was_fenced, waited, held_off, asked_on, resumed, served}
 use Rattle.ft_model.specs.FetchedFronts.{IsFront, IsWhole, AreFetched}
@@ -37,7 +37,7 @@ use Rattle.ft_model.proofs.Resumed.{nothing_missing}
 use Rattle.ft_model.proofs.Services.{prefix_length}
 use Rattle.ft_model.proofs.Scripts.{FitsScript, EntryFits, nothing_held, move_fits}
 use Rattle.ft_model.proofs.Faithful.{PacketFits, PlaceFits, StageFits, EntriesFit, IsFit, units_within, acknowledges_units, connection_fits}
-use Rattle.ft_model.proofs.FaithfulKept.{ClientFits, IsFaithful, IsSameClient, received_same, client_fits, clients_fit, heard_faithful, listen_fits, asked_fits, InputFits, input_fits, place_fits, new_fits}
+use Rattle.ft_model.proofs.FaithfulKept.{ClientFits, IsFaithful, IsSameClient, received_same, client_fits, clients_fit, received_faithful, listen_fits, asked_fits, InputFits, input_fits, place_fits, new_fits}
 use Rattle.ft_io.proofs.Choices.{holds_if}
 
 -- a fetched entry is headed as one of the log
@@ -136,13 +136,13 @@ turn_faithful service script isn w node input sent after short a f e brought (as
 turn_faithful service script isn w node input sent after short a f e brought (resumed count fetched places p none g t) =
     let agrees = progress_agrees w node input count fetched a e brought p in
     let whole = nothing_missing w.log.entries count fetched agrees.1 none in
-    let went = all_go_on (Revives service node) (PlaceFits script isn w.log) (PlaceFits script isn w.log) (IsFit script isn w.log) (revives_fit service script isn w.log node short f.entries)
+    let went = all_proceed (Revives service node) (PlaceFits script isn w.log) (PlaceFits script isn w.log) (IsFit script isn w.log) (revives_fit service script isn w.log node short f.entries)
     (all_restored service node.profile fetched) places sent
     (restored_all (PlaceFits script isn w.log) service node.profile w.log.entries fetched (points_fit service node.profile script isn w.log short a.distinct f.entries) (λ k. tt) agrees.1 whole.0) t in
     (subst (StageFits script isn w.log) (sym g) went.0, went.1)
 turn_faithful service script isn w node input sent after short a f e brought (served opened places later b g t) =
     let i : InputFits script isn w.log input = input_fits script isn w input f.packets brought in
-    let went = serving_goes_on service node input opened (PlaceFits script isn w.log) (PlaceFits script isn w.log) (IsFit script isn w.log) places later sent
+    let went = serving_proceeds service node input opened (PlaceFits script isn w.log) (PlaceFits script isn w.log) (IsFit script isn w.log) places later sent
     (place_fits service script isn w.log node input short f.entries i) (new_fits script isn w.log node input opened places i) (listen_fits script isn w.log node input places)
     (λ n s c. (c, tt)) (subst (StageFits script isn w.log) b (f.stage node e)) t in
     (subst (StageFits script isn w.log) (sym g) went.0, went.1)
@@ -179,13 +179,13 @@ moved_faithful script isn w after number sent f m =
       stage = f.stage;
     })
 
-pub faithful_goes_on : {State : Type 0} (service : Machine State) (script : Key → List ℕ) (isn : Key → ℕ) (before : World) (sent : List Packet) (after : World)
+pub faithful_proceeds : {State : Type 0} (service : Machine State) (script : Key → List ℕ) (isn : Key → ℕ) (before : World) (sent : List Packet) (after : World)
     → ((k : Key) → length (script k) ≤ 2 ^ 24) → IsAsked before → IsFaithful script isn before → Happened service before sent after
     → IsFaithful script isn after
-faithful_goes_on service script isn before sent after short a f (log_heard message under s e) =
+faithful_proceeds service script isn before sent after short a f (log_received message under s e) =
     subst (IsFaithful script isn) (sym (e ∙ ap (λ x. record before { log = log_after before.log message; packets = before.packets ++ x }) s))
-    (heard_faithful script isn before message f under)
-faithful_goes_on service script isn before sent after short a f (client_heard segment under s e) =
+    (received_faithful script isn before message f under)
+faithful_proceeds service script isn before sent after short a f (client_received segment under s e) =
     subst (IsFaithful script isn) (sym e)
     (record {
       clients = clients_fit (ClientFits script isn) (destination_of segment) (λ c. received c segment) before.clients
@@ -194,11 +194,11 @@ faithful_goes_on service script isn before sent after short a f (client_heard se
       entries = f.entries;
       stage = f.stage;
     })
-faithful_goes_on service script isn before sent after short a f (client_moved number m) = moved_faithful script isn before after number sent f m
-faithful_goes_on service script isn before sent after short a f (server_turned input node later brought is turn e) =
+faithful_proceeds service script isn before sent after short a f (client_moved number m) = moved_faithful script isn before after number sent f m
+faithful_proceeds service script isn before sent after short a f (server_turned input node later brought is turn e) =
     let t = turn_faithful service script isn before node input sent later.stage short a f is brought (stage_went service node later input sent turn) in
     subst (IsFaithful script isn) (sym e) (turned_faithful service script isn before node later input sent f t.0 t.1)
-faithful_goes_on service script isn before sent after short a f (server_booted boot isn0 down larger s e) =
+faithful_proceeds service script isn before sent after short a f (server_booted boot isn0 down larger s e) =
     subst (IsFaithful script isn) (sym e)
     (record {
       clients = f.clients;
@@ -206,7 +206,7 @@ faithful_goes_on service script isn before sent after short a f (server_booted b
       entries = f.entries;
       stage = λ n g. subst (λ x. StageFits script isn before.log x.stage) (some_is (booted before.server before.profile boot isn0) n g) tt;
     })
-faithful_goes_on service script isn before sent after short a f (server_down s e) =
+faithful_proceeds service script isn before sent after short a f (server_down s e) =
     subst (IsFaithful script isn) (sym e)
     (record {
       clients = f.clients;

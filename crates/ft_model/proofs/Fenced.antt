@@ -13,10 +13,10 @@ use Rattle.ft_model.specs.Network.{Packet, source_of}
 use Rattle.ft_model.specs.Network.Packet.{To_server, To_client, To_logger, From_logger}
 use Rattle.ft_model.specs.Point.{Point}
 use Rattle.ft_model.specs.News.{News}
-use Rattle.ft_model.specs.Connection.{ConnectionTurn, told_by}
+use Rattle.ft_model.specs.Connection.{ConnectionTurn, reported_by}
 use Rattle.ft_model.specs.Segments.{segments_of}
 use Rattle.ft_model.specs.Copy.{copies}
-use Rattle.ft_model.specs.Reads.{reads_told}
+use Rattle.ft_model.specs.Reads.{reads_reported}
 use Rattle.ft_model.specs.ResetAndEnd.{dones}
 use Rattle.ft_model.specs.Restart.{Fetched, Wanted, wanted, live_entry, holding_segment}
 use Rattle.ft_model.specs.Restart.Wanted.{An_entry, Its_bytes, Its_lengths}
@@ -33,8 +33,8 @@ use Rattle.ft_model.proofs.Lists.{all_of, all_both, all_weaker, all_append, none
 use Rattle.ft_model.proofs.Grows.{log_grows}
 use Rattle.ft_model.proofs.LogAnswers.{log_went, boot_after, all_answers}
 use Rattle.ft_model.proofs.Happened.{Happened, IsBrought, IsUnderWay, all_sent, answers}
-use Rattle.ft_model.proofs.Happened.Happened.{log_heard, client_heard, client_moved, server_turned, server_booted, server_down}
-use Rattle.ft_model.proofs.PlaceTurns.{PlaceWent, all_go_on, serving_goes_on}
+use Rattle.ft_model.proofs.Happened.Happened.{log_received, client_received, client_moved, server_turned, server_booted, server_down}
+use Rattle.ft_model.proofs.PlaceTurns.{PlaceWent, all_proceed, serving_proceeds}
 use Rattle.ft_model.proofs.PlaceTurns.PlaceWent.{stayed, went_on, began, dropped, ended, refused}
 use Rattle.ft_model.proofs.StageTurns.{Progress, StageWent, stage_went, either_turn}
 use Rattle.ft_model.proofs.StageTurns.StageWent.{was_fenced, waited, held_off, asked_on, resumed, served}
@@ -84,7 +84,7 @@ pub record IsFenced (w : World) : Type 0 where
   pub packets : AllByRecursion (HasBoot w.boot w.log.boot) w.packets
   pub node : (node : Node) → w.node ≡ Some node → IsFencedNode w node
 
-pub messages_ours : (boot : ℕ) (bodies : List Body) → AllByRecursion (IsOurs boot) (map (told_by boot) bodies)
+pub messages_ours : (boot : ℕ) (bodies : List Body) → AllByRecursion (IsOurs boot) (map (reported_by boot) bodies)
 messages_ours boot [] = tt
 messages_ours boot (body ∷ bodies) = (refl, messages_ours boot bodies)
 
@@ -99,7 +99,7 @@ connection_ours service server boot news p q sent =
     (λ t. subst (AllByRecursion (IsOurs boot)) (sym t.packets) (messages_ours boot (dones news p q)))
     (λ t. subst (AllByRecursion (IsOurs boot)) (sym t.packets)
     (all_append (IsOurs boot) (map To_client (segments_of service server news p q)) _ (segments_ours boot (segments_of service server news p q))
-    (messages_ours boot (copies news p q ++ (reads_told news p q ++ dones news p q)))))
+    (messages_ours boot (copies news p q ++ (reads_reported news p q ++ dones news p q)))))
 
 place_ours : {State : Type 0} (service : Machine State) (node : Node) (input : Input) (place : Place) (now : List Place) (sent : List Packet)
     → PlaceWent service node input place now sent → AllByRecursion (IsOurs node.boot) sent
@@ -152,10 +152,10 @@ turn_ours service node input sent after (held_off count fetched segment b a s) =
     subst (AllByRecursion (IsOurs node.boot)) (sym s) (held_so (IsOurs node.boot) node fetched segment (λ x. tt))
 turn_ours service node input sent after (asked_on count fetched p a s) = subst (AllByRecursion (IsOurs node.boot)) (sym s) (asked_ours node (wanted count fetched))
 turn_ours service node input sent after (resumed count fetched places p w a t) =
-    (all_go_on (Revives service node) Anywhere Anywhere (IsOurs node.boot) (λ place now some h r. (all_of Anywhere now (λ x. tt), revived_ours service node place now some r))
+    (all_proceed (Revives service node) Anywhere Anywhere (IsOurs node.boot) (λ place now some h r. (all_of Anywhere now (λ x. tt), revived_ours service node place now some r))
     (all_restored service node.profile fetched) places sent (all_of Anywhere (all_restored service node.profile fetched) (λ x. tt)) t).1
 turn_ours service node input sent after (served opened places later b a t) =
-    (serving_goes_on service node input opened Anywhere Anywhere (IsOurs node.boot) places later sent
+    (serving_proceeds service node input opened Anywhere Anywhere (IsOurs node.boot) places later sent
     (λ place now some h r. (all_of Anywhere now (λ x. tt), place_ours service node input place now some r)) (all_of Anywhere _ (λ x. tt))
     (refusals_so (IsOurs node.boot) node input places (λ x. tt)) (λ numbers s h. refl) (all_of Anywhere places (λ x. tt)) t).1
 
@@ -215,9 +215,9 @@ answers_have_boot log message top m =
 answers_quiet : (boot : ℕ) (log : Log) (message : Message) → AllByRecursion (IsNoChange boot) (answers log message)
 answers_quiet boot log message = all_answers (IsNoChange boot) log message (λ body a. tt)
 
-heard_fenced : (w : World) (message : Message) → IsFenced w → IsUnderWay w (To_logger message)
+received_fenced : (w : World) (message : Message) → IsFenced w → IsUnderWay w (To_logger message)
     → IsFenced (record w { log = log_after w.log message; packets = w.packets ++ answers w.log message })
-heard_fenced w message f under =
+received_fenced w message f under =
     let came : HasBoot w.boot w.log.boot (To_logger message) = all_sent (HasBoot w.boot w.log.boot) w (To_logger message) f.packets under in
     let grows : w.log.boot ≤ (log_after w.log message).boot = (log_grows w.log message).boot in
     let top : (log_after w.log message).boot ≤ w.boot = boot_after w.log message _ w.boot (log_went w.log message) f.log came.0 in
@@ -367,20 +367,20 @@ booted_fenced w boot isn f larger = record {
       });
 }
 
-pub fenced_goes_on : {State : Type 0} (service : Machine State) (before : World) (sent : List Packet) (after : World)
+pub fenced_proceeds : {State : Type 0} (service : Machine State) (before : World) (sent : List Packet) (after : World)
     → IsFenced before → Happened service before sent after → IsFenced after
-fenced_goes_on service before sent after f (log_heard message under s e) =
-    subst IsFenced (sym (e ∙ ap (λ x. record before { log = log_after before.log message; packets = before.packets ++ x }) s)) (heard_fenced before message f under)
-fenced_goes_on service before sent after f (client_heard segment under s e) =
+fenced_proceeds service before sent after f (log_received message under s e) =
+    subst IsFenced (sym (e ∙ ap (λ x. record before { log = log_after before.log message; packets = before.packets ++ x }) s)) (received_fenced before message f under)
+fenced_proceeds service before sent after f (client_received segment under s e) =
     subst IsFenced (sym e) (fenced_still before _ sent f (subst (AllByRecursion IsSegment) (sym s) tt))
-fenced_goes_on service before sent after f (client_moved number m) =
+fenced_proceeds service before sent after f (client_moved number m) =
     subst IsFenced (sym m.after_is) (fenced_still before _ sent f (subst (AllByRecursion IsSegment) (sym m.sent_is) (tt, tt)))
-fenced_goes_on service before sent after f (server_turned input node later brought is turn e) =
+fenced_proceeds service before sent after f (server_turned input node later brought is turn e) =
     subst IsFenced (sym e) (turned_fenced service before node later input sent f is brought turn)
-fenced_goes_on service before sent after f (server_booted boot isn down larger s e) =
+fenced_proceeds service before sent after f (server_booted boot isn down larger s e) =
     subst IsFenced (sym (e ∙ ap (λ x. record before { boot = boot; node = Some (booted before.server before.profile boot isn); packets = before.packets ++ x }) s))
     (booted_fenced before boot isn f larger.0)
-fenced_goes_on service before sent after f (server_down s e) =
+fenced_proceeds service before sent after f (server_down s e) =
     subst IsFenced (sym e) (record {
       log = f.log;
       packets = all_append (HasBoot before.boot before.log.boot) before.packets sent f.packets (subst (AllByRecursion (HasBoot before.boot before.log.boot)) (sym s) tt);

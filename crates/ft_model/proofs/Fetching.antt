@@ -25,9 +25,9 @@ AgreesWith entries (PartMsg key offset bytes) = (e : Entry) × (find (λ x. key_
 AgreesWith entries (LensMsg key first lens) = (e : Entry) × (find (λ x. key_eq x.key key) entries ≡ Some e) × IsPrefix lens (drop first e.lengths)
 AgreesWith entries _ = Unit {0}
 
-pub on_some : (o : Option Entry) (tell : Entry → Option Body) (answer : Body) → on_entry tell o ≡ Some answer → (e : Entry) × (o ≡ Some e) × (tell e ≡ Some answer)
-on_some (Some e) tell answer t = (e, refl, t)
-on_some None tell answer t = none_is_some answer t
+pub on_some : (o : Option Entry) (shown : Entry → Option Body) (answer : Body) → on_entry shown o ≡ Some answer → (e : Entry) × (o ≡ Some e) × (shown e ≡ Some answer)
+on_some (Some e) shown answer t = (e, refl, t)
+on_some None shown answer t = none_is_some answer t
 
 pub chosen_some : {A : Type 0} (b : Bool) (x y : A) → (if b then Some x else None) ≡ Some y → x ≡ y
 chosen_some true x y e = some_is x y e
@@ -44,29 +44,29 @@ opened_agrees key (Some e) entries answer t = subst (AgreesWith entries) (some_i
 opened_agrees key None entries answer t = subst (AgreesWith entries) (some_is _ _ t) tt
 
 -- a Data that is answered is the last of its turn
-pub told_last : {A : Type 0} (more : Bool) (o : Option A) (x : A) → (if more then None else o) ≡ Some x → o ≡ Some x
-told_last true o x e = none_is_some x e
-told_last false o x e = e
+pub reported_last : {A : Type 0} (more : Bool) (o : Option A) (x : A) → (if more then None else o) ≡ Some x → o ≡ Some x
+reported_last true o x e = none_is_some x e
+reported_last false o x e = e
 
 -- what the log tells agrees with it
-pub told_agrees : (body : Body) (log : Log) (answer : Body) → answer_from body log ≡ Some answer → AgreesWith log.entries answer
-told_agrees HelloMsg log answer t = subst (AgreesWith log.entries) (some_is _ _ t) refl
-told_agrees (ListMsg index) log answer t =
+pub reported_agrees : (body : Body) (log : Log) (answer : Body) → answer_from body log ≡ Some answer → AgreesWith log.entries answer
+reported_agrees HelloMsg log answer t = subst (AgreesWith log.entries) (some_is _ _ t) refl
+reported_agrees (ListMsg index) log answer t =
     let o = on_some (slice_get log.entries index) (λ e. Some (EntryMsg index (head_of e))) answer t in
     subst (AgreesWith log.entries) (some_is _ _ o.2) (o.0, o.1, refl)
-told_agrees (BytesMsg key offset) log answer t =
+reported_agrees (BytesMsg key offset) log answer t =
     let o = on_some (entry_of key log) (λ e. part_of e offset) answer t in
     let part = chosen_some (nat_lt offset (length o.0.bytes)) (PartMsg o.0.key offset (take 1024 (drop offset o.0.bytes))) answer o.2 in
     subst (AgreesWith log.entries) part (o.0, own_entry key log o.0 o.1, take_first 1024 (drop offset o.0.bytes))
-told_agrees (CutsMsg key first) log answer t =
+reported_agrees (CutsMsg key first) log answer t =
     let o = on_some (entry_of key log) (λ e. lens_of e first) answer t in
     let part = chosen_some (nat_lt first (length o.0.lengths)) (LensMsg o.0.key first (take 512 (drop first o.0.lengths))) answer o.2 in
     subst (AgreesWith log.entries) part (o.0, own_entry key log o.0 o.1, take_first 512 (drop first o.0.lengths))
-told_agrees (OpenMsg n) log answer t = opened_agrees n.key (entry_of n.key log) log.entries answer t
-told_agrees (DataMsg part) log answer t = let o = on_some (entry_of part.key log) (λ e. Some (StableMsg (kept_of e))) answer (told_last part.more _ answer t) in subst (AgreesWith log.entries) (some_is _ _ o.2) tt
-told_agrees (ReadMsg key index n) log answer t = let o = on_some (entry_of key log) (λ e. Some (ReadsMsg (kept_of e))) answer t in subst (AgreesWith log.entries) (some_is _ _ o.2) tt
-told_agrees (DoneMsg key) log answer t = let o = on_some (entry_of key log) (λ e. Some (EndedMsg key)) answer t in subst (AgreesWith log.entries) (some_is _ _ o.2) tt
-told_agrees _ log answer t = none_is_some answer t
+reported_agrees (OpenMsg n) log answer t = opened_agrees n.key (entry_of n.key log) log.entries answer t
+reported_agrees (DataMsg part) log answer t = let o = on_some (entry_of part.key log) (λ e. Some (StableMsg (kept_of e))) answer (reported_last part.more _ answer t) in subst (AgreesWith log.entries) (some_is _ _ o.2) tt
+reported_agrees (ReadMsg key index n) log answer t = let o = on_some (entry_of key log) (λ e. Some (ReadsMsg (kept_of e))) answer t in subst (AgreesWith log.entries) (some_is _ _ o.2) tt
+reported_agrees (DoneMsg key) log answer t = let o = on_some (entry_of key log) (λ e. Some (EndedMsg key)) answer t in subst (AgreesWith log.entries) (some_is _ _ o.2) tt
+reported_agrees _ log answer t = none_is_some answer t
 
 pub chosen_is : {A : Type 0} (b : Bool) (x y : A) → (if b then Some x else None) ≡ Some y → (b ≡ true) × (x ≡ y)
 chosen_is true x y e = (refl, some_is x y e)

@@ -47,9 +47,9 @@ unfolding laws
 takes = goes echo server 1 (Comes (segment_in run.packet_8)) run.open_point run.taken_point run.moment_12.sent refl refl refl refl
 
 -- the text is logged
-hears : Goes echo (Logged (kept_in run.packet_12)) run.taken_point run.logged_point run.moment_14.sent
+on_receipt : Goes echo (Logged (kept_in run.packet_12)) run.taken_point run.logged_point run.moment_14.sent
 unfolding laws
-hears = goes echo server 1 (Logged (kept_in run.packet_12)) run.taken_point run.logged_point run.moment_14.sent refl refl refl refl
+on_receipt = goes echo server 1 (Logged (kept_in run.packet_12)) run.taken_point run.logged_point run.moment_14.sent refl refl refl refl
 
 -- the read is logged
 releases : Goes echo (Logged (kept_in run.packet_14)) run.logged_point run.released_point run.moment_16.sent
@@ -79,7 +79,7 @@ turn_12 = record { server = refl; profile = refl; boot = refl; isn = refl; live 
 
 pub turn_14 : LawfulTurn echo (run.node_live run.taken_point) (Message_comes (message_in run.packet_12)) run.moment_14.sent (run.node_live run.logged_point)
 unfolding laws
-turn_14 = record { server = refl; profile = refl; boot = refl; isn = refl; live = refl; stage = (Lives run.logged_point ∷ [], refl, record { went = Lives run.logged_point ∷ []; by_places = run.moment_14.sent; all_go = alone (PlaceTurn echo (run.node_live run.taken_point) (Message_comes (message_in run.packet_12))) (Lives run.taken_point) (Lives run.logged_point ∷ []) run.moment_14.sent (run.logged_point, refl, hears); places = refl; packets = refl }) }
+turn_14 = record { server = refl; profile = refl; boot = refl; isn = refl; live = refl; stage = (Lives run.logged_point ∷ [], refl, record { went = Lives run.logged_point ∷ []; by_places = run.moment_14.sent; all_go = alone (PlaceTurn echo (run.node_live run.taken_point) (Message_comes (message_in run.packet_12))) (Lives run.taken_point) (Lives run.logged_point ∷ []) run.moment_14.sent (run.logged_point, refl, on_receipt); places = refl; packets = refl }) }
 
 turn_16 : LawfulTurn echo (run.node_live run.logged_point) (Message_comes (message_in run.packet_14)) run.moment_16.sent (run.node_live run.released_point)
 unfolding laws
@@ -128,7 +128,7 @@ happens_10 service = (run.packet_7, refl, ((run.node_live run.open_point, refl, 
 
 pub happens_11 : Happens echo run.moment_10.world run.moment_11.event run.moment_11.sent run.moment_11.world
 unfolding laws IsLe
-happens_11 = record { client = run.open_client; segment = segment_in run.packet_8; later = run.told_client; is_there = refl; move = record { move = Text 0 5; window = 65535; may = refl; fits = refl; timestamps = None; carries = refl; segment_is = refl; after_is = refl }; sent_is = refl; after_is = refl }
+happens_11 = record { client = run.open_client; segment = segment_in run.packet_8; later = run.reported_client; is_there = refl; move = record { move = Text 0 5; window = 65535; may = refl; fits = refl; timestamps = None; carries = refl; segment_is = refl; after_is = refl }; sent_is = refl; after_is = refl }
 
 pub happens_12 : Happens echo run.moment_11.world run.moment_12.event run.moment_12.sent run.moment_12.world
 unfolding laws IsLe

@@ -13,7 +13,7 @@ use Rattle.ft_model.proofs.Lists.{all_weaker, all_map, all_append, all_find, all
 use Rattle.ft_model.proofs.Services.{sum_append, sum_more, prefix_length}
 use Rattle.ft_model.proofs.LogAnswers.{LogWent, kept_boot}
 use Rattle.ft_model.proofs.LogAnswers.LogWent.{ignored, raised, changed}
-use Rattle.ft_model.proofs.Fetching.{on_some, chosen_some, told_last}
+use Rattle.ft_model.proofs.Fetching.{on_some, chosen_some, reported_last}
 use Rattle.ft_model.proofs.Resumed.{length_map}
 use Rattle.ft_model.proofs.Scripts.{EntryFits}
 use Rattle.ft_model.proofs.Faithful.{EntriesFit}
@@ -117,7 +117,7 @@ log_formed start log message after (changed w e) m b a =
     (kept_formed start message.boot message.body log m.1 a, subst (λ n. n < 2 ^ 64) (sym (kept_boot message.body log)) b)
 
 -- what an entry tells
-pub record EntryTells (start : World) (e : Entry) : Type 0 where
+pub record EntryReports (start : World) (e : Entry) : Type 0 where
   pub formed : EntryFormed start e
   pub cisn : e.cisn < 2 ^ 32
   pub short : length e.bytes ≤ 2 ^ 24
@@ -128,8 +128,8 @@ pub record EntryTells (start : World) (e : Entry) : Type 0 where
 abbrev pub AckedWithin : Entry → Type 0
 AckedWithin e = e.acknowledged ≤ 2 ^ 24 + 1
 
-entry_tells : (start : World) → StartFormed start → (e : Entry) → EntryFormed start e → EntryFits (script_of start e.key) (isn_of start e.key) e → AckedWithin e → EntryTells start e
-entry_tells start s e h f acked =
+entry_reports : (start : World) → StartFormed start → (e : Entry) → EntryFormed start e → EntryFits (script_of start e.key) (isn_of start e.key) e → AckedWithin e → EntryReports start e
+entry_reports start s e h f acked =
     let number = s.isn e.key in
     let size = prefix_length e.bytes (script_of start e.key) f.front in
     let small = s.short e.key in
@@ -141,17 +141,17 @@ entry_tells start s e h f acked =
       acknowledged = acked;
     }
 
-pub entries_tell : (start : World) → StartFormed start → (entries : List Entry) → AllByRecursion (EntryFormed start) entries → EntriesFit (script_of start) (isn_of start) entries
-    → AllByRecursion AckedWithin entries → AllByRecursion (EntryTells start) entries
-entries_tell start s [] a f k = tt
-entries_tell start s (e ∷ entries) a f k = (entry_tells start s e a.0 f.0 k.0, entries_tell start s entries a.1 f.1 k.1)
+pub entries_report : (start : World) → StartFormed start → (entries : List Entry) → AllByRecursion (EntryFormed start) entries → EntriesFit (script_of start) (isn_of start) entries
+    → AllByRecursion AckedWithin entries → AllByRecursion (EntryReports start) entries
+entries_report start s [] a f k = tt
+entries_report start s (e ∷ entries) a f k = (entry_reports start s e a.0 f.0 k.0, entries_report start s entries a.1 f.1 k.1)
 
-pub head_formed : (start : World) (e : Entry) → EntryTells start e → HeadFormed start (head_of e)
+pub head_formed : (start : World) (e : Entry) → EntryReports start e → HeadFormed start (head_of e)
 head_formed start e h =
     (h.formed.key, h.cisn, h.formed.sisn, h.formed.mss, h.short, omega (arith, h.short, h.formed.enough, h.formed.count), h.acknowledged)
 
-kept_told : (start : World) (e : Entry) → EntryTells start e → KeptFormed start (kept_of e)
-kept_told start e h = (h.formed.key, h.short, omega (arith, h.short, h.formed.enough, h.formed.count))
+kept_reported : (start : World) (e : Entry) → EntryReports start e → KeptFormed start (kept_of e)
+kept_reported start e h = (h.formed.key, h.short, omega (arith, h.short, h.formed.enough, h.formed.count))
 
 lengths_take : (n : ℕ) (xs : List ℕ) → AreLengths xs → AreLengths (take n xs)
 lengths_take zero xs a = tt
@@ -175,61 +175,61 @@ chunk_within most at xs some below =
     let size = length-take most (drop at xs) in
     (omega (arith, behind, size, some, below), omega (arith, size), omega (arith, behind, size, below))
 
-opened_told : (start : World) (boot : ℕ) (log : Log) (key : Key) (o : Option Entry) (answer : Body) → HasClient start key → AllByRecursion (EntryTells start) log.entries
+opened_reported : (start : World) (boot : ℕ) (log : Log) (key : Key) (o : Option Entry) (answer : Body) → HasClient start key → AllByRecursion (EntryReports start) log.entries
     → entry_of key log ≡ o → opened_answer key o ≡ Some answer → BodyFormed start boot answer
-opened_told start boot log key (Some e) answer h a found t =
-    let x : EntryTells start e = all_find (EntryTells start) (λ y. key_eq y.key key) log.entries e a found in
+opened_reported start boot log key (Some e) answer h a found t =
+    let x : EntryReports start e = all_find (EntryReports start) (λ y. key_eq y.key key) log.entries e a found in
     subst (BodyFormed start boot) (some_is _ _ t) (x.formed.key, x.cisn, x.formed.sisn, x.formed.mss)
-opened_told start boot log key None answer h a found t = subst (BodyFormed start boot) (some_is _ _ t) h
+opened_reported start boot log key None answer h a found t = subst (BodyFormed start boot) (some_is _ _ t) h
 
-pub told_formed : (start : World) (boot : ℕ) (body : Body) (log : Log) (answer : Body) → BodyFormed start boot body → length log.entries ≤ 64 → AllByRecursion (EntryTells start) log.entries
+pub reported_formed : (start : World) (boot : ℕ) (body : Body) (log : Log) (answer : Body) → BodyFormed start boot body → length log.entries ≤ 64 → AllByRecursion (EntryReports start) log.entries
     → answer_from body log ≡ Some answer → BodyFormed start boot answer
-told_formed start boot HelloMsg log answer h few a t = subst (BodyFormed start boot) (some_is _ _ t) few
-told_formed start boot (ListMsg index) log answer h few a t =
+reported_formed start boot HelloMsg log answer h few a t = subst (BodyFormed start boot) (some_is _ _ t) few
+reported_formed start boot (ListMsg index) log answer h few a t =
     let o = on_some (slice_get log.entries index) (λ e. Some (EntryMsg index (head_of e))) answer t in
-    subst (BodyFormed start boot) (some_is _ _ o.2) (h, head_formed start o.0 (all_slice_get (EntryTells start) log.entries index o.0 a o.1))
-told_formed start boot (BytesMsg key offset) log answer h few a t =
+    subst (BodyFormed start boot) (some_is _ _ o.2) (h, head_formed start o.0 (all_slice_get (EntryReports start) log.entries index o.0 a o.1))
+reported_formed start boot (BytesMsg key offset) log answer h few a t =
     let o = on_some (entry_of key log) (λ e. part_of e offset) answer t in
-    let x : EntryTells start o.0 = all_find (EntryTells start) (λ y. key_eq y.key key) log.entries o.0 a o.1 in
+    let x : EntryReports start o.0 = all_find (EntryReports start) (λ y. key_eq y.key key) log.entries o.0 a o.1 in
     subst (BodyFormed start boot) (chosen_some (nat_lt offset (length o.0.bytes)) (PartMsg o.0.key offset (take 1024 (drop offset o.0.bytes))) answer o.2)
     (let below = chosen_true (nat_lt offset (length o.0.bytes)) (PartMsg o.0.key offset (take 1024 (drop offset o.0.bytes))) answer o.2 in
     let chunk = chunk_within 1024 offset o.0.bytes (omega arith) (ltb-true _ _ below) in
     (x.formed.key, omega (arith, chunk.2, x.short), bytes_take 1024 (drop offset o.0.bytes) (bytes_drop offset o.0.bytes x.bytes), chunk.0, chunk.1))
-told_formed start boot (CutsMsg key first) log answer h few a t =
+reported_formed start boot (CutsMsg key first) log answer h few a t =
     let o = on_some (entry_of key log) (λ e. lens_of e first) answer t in
-    let x : EntryTells start o.0 = all_find (EntryTells start) (λ y. key_eq y.key key) log.entries o.0 a o.1 in
+    let x : EntryReports start o.0 = all_find (EntryReports start) (λ y. key_eq y.key key) log.entries o.0 a o.1 in
     subst (BodyFormed start boot) (chosen_some (nat_lt first (length o.0.lengths)) (LensMsg o.0.key first (take 512 (drop first o.0.lengths))) answer o.2)
     (let below = chosen_true (nat_lt first (length o.0.lengths)) (LensMsg o.0.key first (take 512 (drop first o.0.lengths))) answer o.2 in
     let chunk = chunk_within 512 first o.0.lengths (omega arith) (ltb-true _ _ below) in
     (x.formed.key, h.1, lengths_take 512 (drop first o.0.lengths) (lengths_drop first o.0.lengths x.formed.lengths), chunk.0, chunk.1))
-told_formed start boot (OpenMsg n) log answer h few a t = opened_told start boot log n.key (entry_of n.key log) answer h.0 a refl t
-told_formed start boot (DataMsg part) log answer h few a t =
-    let o = on_some (entry_of part.key log) (λ e. Some (StableMsg (kept_of e))) answer (told_last part.more _ answer t) in
-    subst (BodyFormed start boot) (some_is _ _ o.2) (kept_told start o.0 (all_find (EntryTells start) (λ y. key_eq y.key part.key) log.entries o.0 a o.1))
-told_formed start boot (ReadMsg key index n) log answer h few a t =
+reported_formed start boot (OpenMsg n) log answer h few a t = opened_reported start boot log n.key (entry_of n.key log) answer h.0 a refl t
+reported_formed start boot (DataMsg part) log answer h few a t =
+    let o = on_some (entry_of part.key log) (λ e. Some (StableMsg (kept_of e))) answer (reported_last part.more _ answer t) in
+    subst (BodyFormed start boot) (some_is _ _ o.2) (kept_reported start o.0 (all_find (EntryReports start) (λ y. key_eq y.key part.key) log.entries o.0 a o.1))
+reported_formed start boot (ReadMsg key index n) log answer h few a t =
     let o = on_some (entry_of key log) (λ e. Some (ReadsMsg (kept_of e))) answer t in
-    subst (BodyFormed start boot) (some_is _ _ o.2) (kept_told start o.0 (all_find (EntryTells start) (λ y. key_eq y.key key) log.entries o.0 a o.1))
-told_formed start boot (DoneMsg key) log answer h few a t =
+    subst (BodyFormed start boot) (some_is _ _ o.2) (kept_reported start o.0 (all_find (EntryReports start) (λ y. key_eq y.key key) log.entries o.0 a o.1))
+reported_formed start boot (DoneMsg key) log answer h few a t =
     let o = on_some (entry_of key log) (λ e. Some (EndedMsg key)) answer t in subst (BodyFormed start boot) (some_is _ _ o.2) h
-told_formed start boot _ log answer h few a t = none_is_some answer t
+reported_formed start boot _ log answer h few a t = none_is_some answer t
 
 -- the log tells no Data
 opened_acks : (key : Key) (o : Option Entry) (answer : Body) → opened_answer key o ≡ Some answer → AckWithin answer
 opened_acks key (Some e) answer t = subst AckWithin (some_is _ _ t) tt
 opened_acks key None answer t = subst AckWithin (some_is _ _ t) tt
 
-pub told_acks : (body : Body) (log : Log) (answer : Body) → answer_from body log ≡ Some answer → AckWithin answer
-told_acks HelloMsg log answer t = subst AckWithin (some_is _ _ t) tt
-told_acks (ListMsg index) log answer t =
+pub reported_acks : (body : Body) (log : Log) (answer : Body) → answer_from body log ≡ Some answer → AckWithin answer
+reported_acks HelloMsg log answer t = subst AckWithin (some_is _ _ t) tt
+reported_acks (ListMsg index) log answer t =
     let o = on_some (slice_get log.entries index) (λ e. Some (EntryMsg index (head_of e))) answer t in subst AckWithin (some_is _ _ o.2) tt
-told_acks (BytesMsg key offset) log answer t =
+reported_acks (BytesMsg key offset) log answer t =
     let o = on_some (entry_of key log) (λ e. part_of e offset) answer t in
     subst AckWithin (chosen_some (nat_lt offset (length o.0.bytes)) (PartMsg o.0.key offset (take 1024 (drop offset o.0.bytes))) answer o.2) tt
-told_acks (CutsMsg key first) log answer t =
+reported_acks (CutsMsg key first) log answer t =
     let o = on_some (entry_of key log) (λ e. lens_of e first) answer t in
     subst AckWithin (chosen_some (nat_lt first (length o.0.lengths)) (LensMsg o.0.key first (take 512 (drop first o.0.lengths))) answer o.2) tt
-told_acks (OpenMsg n) log answer t = opened_acks n.key (entry_of n.key log) answer t
-told_acks (DataMsg part) log answer t = let o = on_some (entry_of part.key log) (λ e. Some (StableMsg (kept_of e))) answer (told_last part.more _ answer t) in subst AckWithin (some_is _ _ o.2) tt
-told_acks (ReadMsg key index n) log answer t = let o = on_some (entry_of key log) (λ e. Some (ReadsMsg (kept_of e))) answer t in subst AckWithin (some_is _ _ o.2) tt
-told_acks (DoneMsg key) log answer t = let o = on_some (entry_of key log) (λ e. Some (EndedMsg key)) answer t in subst AckWithin (some_is _ _ o.2) tt
-told_acks _ log answer t = none_is_some answer t
+reported_acks (OpenMsg n) log answer t = opened_acks n.key (entry_of n.key log) answer t
+reported_acks (DataMsg part) log answer t = let o = on_some (entry_of part.key log) (λ e. Some (StableMsg (kept_of e))) answer (reported_last part.more _ answer t) in subst AckWithin (some_is _ _ o.2) tt
+reported_acks (ReadMsg key index n) log answer t = let o = on_some (entry_of key log) (λ e. Some (ReadsMsg (kept_of e))) answer t in subst AckWithin (some_is _ _ o.2) tt
+reported_acks (DoneMsg key) log answer t = let o = on_some (entry_of key log) (λ e. Some (EndedMsg key)) answer t in subst AckWithin (some_is _ _ o.2) tt
+reported_acks _ log answer t = none_is_some answer t

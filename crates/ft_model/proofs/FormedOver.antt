@@ -25,7 +25,7 @@ use Rattle.ft_model.proofs.Happened.{IsBrought, all_sent}
 use Rattle.ft_model.specs.FetchedFronts.{AreFetched}
 use Rattle.ft_model.proofs.Asked.{StageAgrees, progress_agrees}
 use Rattle.ft_model.proofs.Resumed.{nothing_missing}
-use Rattle.ft_model.proofs.PlaceTurns.{all_go_on, serving_goes_on}
+use Rattle.ft_model.proofs.PlaceTurns.{all_proceed, serving_proceeds}
 use Rattle.ft_model.proofs.StageTurns.{StageWent, IsMissing}
 use Rattle.ft_model.proofs.StageTurns.StageWent.{was_fenced, waited, held_off, asked_on, resumed, served}
 use Rattle.ft_model.proofs.Faithful.{PlaceFits, StageFits, EntriesFit}
@@ -34,7 +34,7 @@ use Rattle.ft_model.proofs.FaithfulOver.{script_of, isn_of, points_fit, restored
 use Rattle.ft_model.proofs.Acknowledged.{IsTrue}
 use Rattle.ft_model.proofs.Formed.{HasClient, IsBoot, PacketFormed, StartFormed, EntryFormed, PointFormed, PlaceFormed, StageFormed, WorldFormed}
 use Rattle.ft_model.proofs.Stamped.{resumed_has_room}
-use Rattle.ft_model.proofs.FormedLog.{EntryTells, AckedWithin, entries_tell}
+use Rattle.ft_model.proofs.FormedLog.{EntryReports, AckedWithin, entries_report}
 use Rattle.ft_model.proofs.FormedTurns.{InputFormed, PlaceSound, connection_formed, listen_formed, new_formed, place_formed}
 use Rattle.ft_io.proofs.Choices.{holds_if}
 
@@ -44,15 +44,15 @@ WantedFormed start (An_entry index) = index ≤ 63
 WantedFormed start (Its_bytes key offset) = HasClient start key × (offset ≤ 2 ^ 24)
 WantedFormed start (Its_lengths key first) = HasClient start key × (first ≤ 2 ^ 24 + 1)
 
-pub newest_formed : (start : World) (entries : List Entry) (f : Fetched) (earlier : List Fetched) → AllByRecursion (EntryTells start) entries → AreFetched entries (f ∷ earlier)
+pub newest_formed : (start : World) (entries : List Entry) (f : Fetched) (earlier : List Fetched) → AllByRecursion (EntryReports start) entries → AreFetched entries (f ∷ earlier)
     → HasClient start f.head.key × (length f.bytes ≤ 2 ^ 24) × (length f.lengths ≤ 2 ^ 24 + 1)
 newest_formed start entries f earlier e a =
-    let tells : EntryTells start a.0 = all_slice_get (EntryTells start) entries (length earlier) a.0 e a.1 in
+    let reports : EntryReports start a.0 = all_slice_get (EntryReports start) entries (length earlier) a.0 e a.1 in
     let bytes = prefix_length f.bytes a.0.bytes a.2.bytes in
     let lengths = prefix_length f.lengths a.0.lengths a.2.lengths in (
-      subst (λ h. HasClient start h.key) (sym a.2.head) tells.formed.key,
-      omega (arith, bytes, tells.short),
-      omega (arith, lengths, tells.formed.count, tells.formed.enough, tells.short),
+      subst (λ h. HasClient start h.key) (sym a.2.head) reports.formed.key,
+      omega (arith, bytes, reports.short),
+      omega (arith, lengths, reports.formed.count, reports.formed.enough, reports.short),
     )
 
 next_formed : (start : World) (count index : ℕ) (w : Wanted) → count ≤ 64 → next_entry count index ≡ Some w → WantedFormed start w
@@ -60,7 +60,7 @@ next_formed start count index w h =
     holds_if (λ o. o ≡ Some w → WantedFormed start w) (nat_lt index count) (Some (An_entry index)) None
     (λ t e. subst (WantedFormed start) (some_is _ _ e) (let less : index < count = ltb-true _ _ t in omega (arith, less, h))) (λ t e. none_is_some w e)
 
-pub wanted_formed : (start : World) (entries : List Entry) (count : ℕ) (fetched : List Fetched) (w : Wanted) → count ≤ 64 → AllByRecursion (EntryTells start) entries
+pub wanted_formed : (start : World) (entries : List Entry) (count : ℕ) (fetched : List Fetched) (w : Wanted) → count ≤ 64 → AllByRecursion (EntryReports start) entries
     → AreFetched entries fetched → wanted count fetched ≡ Some w → WantedFormed start w
 wanted_formed start entries count [] w few e a g = next_formed start count 0 w few g
 wanted_formed start entries count (f ∷ earlier) w few e a missing =
@@ -79,7 +79,7 @@ asked_formed start node (Some (Its_lengths key first)) b h = ((b, h (Its_lengths
 asked_formed start node None b h = tt
 
 -- how a client is held off meanwhile
-headed_by : (start : World) (entries : List Entry) (fetched : List Fetched) → AllByRecursion (EntryTells start) entries → AreFetched entries fetched
+headed_by : (start : World) (entries : List Entry) (fetched : List Fetched) → AllByRecursion (EntryReports start) entries → AreFetched entries fetched
     → AllByRecursion (λ f. HasClient start f.head.key) fetched
 headed_by start entries [] e a = tt
 headed_by start entries (f ∷ earlier) e a = ((newest_formed start entries f earlier e a).0, headed_by start entries earlier e a.4)
@@ -121,8 +121,8 @@ pub record Knows (start w : World) : Type 0 where
   pub acked : AllByRecursion AckedWithin w.log.entries
   pub truth : IsTrue start w
 
-tells_of : (start w : World) → StartFormed start → Knows start w → AllByRecursion (EntryTells start) w.log.entries
-tells_of start w s k = entries_tell start s w.log.entries k.formed.entries k.truth.1.entries k.acked
+reports_of : (start w : World) → StartFormed start → Knows start w → AllByRecursion (EntryReports start) w.log.entries
+reports_of start w s k = entries_report start s w.log.entries k.formed.entries k.truth.1.entries k.acked
 
 input_formed : (start w : World) (input : Input) → AllByRecursion (PacketFormed start) w.packets → IsBrought w input → InputFormed start input
 input_formed start w (Packet_comes segment) a b = all_sent (PacketFormed start) w (To_server segment) a b
@@ -135,7 +135,7 @@ missing_formed : (start w : World) (node : Node) (o : Option Wanted) → StartFo
 missing_formed start w node (Some y) s k e m x g =
     let n = k.truth.0.1.node node e (ap is_restarting m.2) in
     let agrees : (m.0 ≡ length w.log.entries) × AreFetched w.log.entries m.1 = subst (StageAgrees w.log.entries) m.2 n.fetched in
-    wanted_formed start w.log.entries m.0 m.1 x (subst (λ n. n ≤ 64) (sym agrees.0) k.formed.few) (tells_of start w s k) agrees.1 (m.3 ∙ g)
+    wanted_formed start w.log.entries m.0 m.1 x (subst (λ n. n ≤ 64) (sym agrees.0) k.formed.few) (reports_of start w s k) agrees.1 (m.3 ∙ g)
 missing_formed start w node None s k e m x g = none_is_some x g
 
 pub no_places : (start : World) (stage : Stage) → is_restarting stage ≡ true → StageFormed start stage
@@ -164,14 +164,14 @@ turn_formed service start w node input sent after writes s k e brought (held_off
     let a = k.truth.0.1.node node e (ap is_restarting b) in
     let agrees : (count ≡ length w.log.entries) × AreFetched w.log.entries fetched = subst (StageAgrees w.log.entries) b a.fetched in (
       subst (StageFormed start) (sym g) tt,
-      subst (AllByRecursion (PacketFormed start)) (sym x) (held_formed start node fetched segment n.server (headed_by start w.log.entries fetched (tells_of start w s k) agrees.1)),
+      subst (AllByRecursion (PacketFormed start)) (sym x) (held_formed start node fetched segment n.server (headed_by start w.log.entries fetched (reports_of start w s k) agrees.1)),
     )
 turn_formed service start w node input sent after writes s k e brought (asked_on count fetched p g x) =
     let n = k.formed.node node e in
     let agrees = progress_agrees w node input count fetched k.truth.0.1 e brought p in (
       subst (StageFormed start) (sym g) tt,
       subst (AllByRecursion (PacketFormed start)) (sym x)
-          (asked_formed start node (wanted count fetched) n.boot (λ y h. wanted_formed start w.log.entries count fetched y (subst (λ n. n ≤ 64) (sym agrees.0) k.formed.few) (tells_of start w s k) agrees.1 h)),
+          (asked_formed start node (wanted count fetched) n.boot (λ y h. wanted_formed start w.log.entries count fetched y (subst (λ n. n ≤ 64) (sym agrees.0) k.formed.few) (reports_of start w s k) agrees.1 h)),
     )
 turn_formed service start w node input sent after writes s k e brought (resumed count fetched places p none g t) =
     let n = k.formed.node node e in
@@ -181,7 +181,7 @@ turn_formed service start w node input sent after writes s k e brought (resumed 
     all_both (λ x. PlaceFits (script_of start) (isn_of start) w.log (Lives (point_of service node.profile x))) (EntryFormed start) _ w.log.entries
     (λ x f h. (f, point_formed service node.profile start x n.profile h))
     (points_fit service node.profile (script_of start) (isn_of start) w.log s.short k.truth.0.1.distinct k.truth.1.entries) k.formed.entries in
-    let went = all_go_on (Revives service node) (PlaceSound start w.log) (PlaceSound start w.log) (PacketFormed start)
+    let went = all_proceed (Revives service node) (PlaceSound start w.log) (PlaceSound start w.log) (PacketFormed start)
     (revived_formed service start w.log node writes s k.truth.1.entries n.server n.boot) (all_restored service node.profile fetched) places sent
     (restored_all (PlaceSound start w.log) service node.profile w.log.entries fetched points (λ key. (tt, tt)) agrees.1 whole.0) t in
     (subst (StageFormed start) (sym g) (sound_places start w.log places went.0), went.1)
@@ -191,7 +191,7 @@ turn_formed service start w node input sent after writes s k e brought (served o
     let h : InputFormed start input = input_formed start w input k.formed.packets brought in
     let fits : AllByRecursion (PlaceFits (script_of start) (isn_of start) w.log) places = subst (StageFits (script_of start) (isn_of start) w.log) b (k.truth.1.stage node e) in
     let formed : AllByRecursion (PlaceFormed start) places = subst (StageFormed start) b n.stage in
-    let went = serving_goes_on service node input opened (PlaceSound start w.log) (PlaceSound start w.log) (PacketFormed start) places later sent
+    let went = serving_proceeds service node input opened (PlaceSound start w.log) (PlaceSound start w.log) (PacketFormed start) places later sent
     (place_formed service start w.log node input writes s k.truth.1.entries n.server n.profile n.boot i h)
     (all_both (PlaceFits (script_of start) (isn_of start) w.log) (PlaceFormed start) _ (newcomers node input opened places) (λ p x y. (x, y))
     (new_fits (script_of start) (isn_of start) w.log node input opened places i) (new_formed start node input opened places h))

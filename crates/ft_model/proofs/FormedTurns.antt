@@ -19,13 +19,13 @@ use Rattle.ft_model.specs.Network.Packet.{To_server, To_client, From_logger}
 use Rattle.ft_model.specs.Point.{Point, answered_run}
 use Rattle.ft_model.specs.News.{News}
 use Rattle.ft_model.specs.News.News.{Comes, Logged, Ticks, Begins}
-use Rattle.ft_model.specs.Reads.{next_length, may_read, next_read, with_read, Makes, read_messages, first_told, reads_told}
+use Rattle.ft_model.specs.Reads.{next_length, may_read, next_read, with_read, Makes, read_messages, first_reported, reads_reported}
 use Rattle.ft_model.specs.Copy.{copies}
-use Rattle.ft_model.specs.ResetAndEnd.{dones, tells_done}
+use Rattle.ft_model.specs.ResetAndEnd.{dones, reports_done}
 use Rattle.ft_model.specs.Segments.{segments_of}
 use Rattle.ft_model.specs.Opening.{is_syn, numbers_for, timestamping_for, point_opened}
 use Rattle.ft_model.specs.Refusal.{rst_at_ack, rst_behind, as_listen, as_closed, full_rst}
-use Rattle.ft_model.specs.Connection.{ResetTurn, LiveTurn, ConnectionTurn, told_by}
+use Rattle.ft_model.specs.Connection.{ResetTurn, LiveTurn, ConnectionTurn, reported_by}
 use Rattle.ft_model.specs.Node.{Node, Place, Input, pending_count}
 use Rattle.ft_model.specs.Node.Place.{Opens, Lives}
 use Rattle.ft_model.specs.Node.Input.{Packet_comes, Message_comes, Noise_comes, Tick_comes}
@@ -179,19 +179,19 @@ messages_formed start boot key index (n ∷ lengths) h a low =
     let all = low (omega arith) in
     ((h, omega (arith, all), a.0), messages_formed start boot key (index + 1) lengths h a.1 (λ some. omega (arith, all)))
 
-reads_formed : (start : World) (boot : ℕ) (news : News) (p q : Point) → PointFormed start q → TakesBytes start q → AllByRecursion (BodyFormed start boot) (reads_told news p q)
-unfolding reads_told
+reads_formed : (start : World) (boot : ℕ) (news : News) (p q : Point) → PointFormed start q → TakesBytes start q → AllByRecursion (BodyFormed start boot) (reads_reported news p q)
+unfolding reads_reported
 reads_formed start boot news p q h s =
-    let index : ℕ = first_told news p q in
+    let index : ℕ = first_reported news p q in
     let rest = length-drop index q.lengths in
     messages_formed start boot q.key index (drop index q.lengths) h.key (lengths_drop index q.lengths h.lengths)
     (λ some. omega (arith, some, rest, h.count, h.enough, s.short))
 
 dones_formed : (start : World) (boot : ℕ) (news : News) (p q : Point) → HasClient start q.key → AllByRecursion (BodyFormed start boot) (dones news p q)
 unfolding dones
-dones_formed start boot news p q h = holds_if (AllByRecursion (BodyFormed start boot)) (tells_done news p q) (DoneMsg q.key ∷ []) [] (λ t. (h, tt)) (λ t. tt)
+dones_formed start boot news p q h = holds_if (AllByRecursion (BodyFormed start boot)) (reports_done news p q) (DoneMsg q.key ∷ []) [] (λ t. (h, tt)) (λ t. tt)
 
-bodies_sent : (start : World) (boot : ℕ) (bodies : List Body) → IsBoot boot → AllByRecursion (BodyFormed start boot) bodies → AllByRecursion (PacketFormed start) (map (told_by boot) bodies)
+bodies_sent : (start : World) (boot : ℕ) (bodies : List Body) → IsBoot boot → AllByRecursion (BodyFormed start boot) bodies → AllByRecursion (PacketFormed start) (map (reported_by boot) bodies)
 bodies_sent start boot [] b a = tt
 bodies_sent start boot (body ∷ bodies) b a = ((b, a.0), bodies_sent start boot bodies b a.1)
 
@@ -239,13 +239,13 @@ live_formed service start server boot news p q sent writes at b n h s t =
     let segments : AllByRecursion (λ x. PacketFormed start (To_client x)) (segments_of service server news p q) =
     all_weaker (Spoken service server news p q) _ (segments_of service server news p q)
     (λ x spoken. segment_formed service start server news p q x writes at point s.bytes spoken) (segments_spoken service server news p q) in
-    let bodies : AllByRecursion (BodyFormed start boot) (copies news p q ++ (reads_told news p q ++ dones news p q)) =
+    let bodies : AllByRecursion (BodyFormed start boot) (copies news p q ++ (reads_reported news p q ++ dones news p q)) =
     all_append (BodyFormed start boot) (copies news p q) _ (copies_formed start boot news p q n point.key s (taken_more news p q t.taken) point.batches)
-    (all_append (BodyFormed start boot) (reads_told news p q) (dones news p q) (reads_formed start boot news p q point s) (dones_formed start boot news p q point.key)) in (
+    (all_append (BodyFormed start boot) (reads_reported news p q) (dones news p q) (reads_formed start boot news p q point s) (dones_formed start boot news p q point.key)) in (
       point,
       subst (AllByRecursion (PacketFormed start)) (sym t.packets)
           (all_append (PacketFormed start) (map To_client (segments_of service server news p q)) _ (all_map (PacketFormed start) To_client (segments_of service server news p q) segments)
-          (bodies_sent start boot (copies news p q ++ (reads_told news p q ++ dones news p q)) b bodies)),
+          (bodies_sent start boot (copies news p q ++ (reads_reported news p q ++ dones news p q)) b bodies)),
     )
 
 -- a place that fits the log and is well formed
@@ -327,12 +327,12 @@ place_formed service start log node input writes s entries at same b i h place n
     (subst (PlaceSound start log) e f) t in
     (subst (AllByRecursion (PlaceSound start log)) (sym n) (c.0, tt), c.1)
 place_formed service start log node input writes s entries at same b i h place now sent f (began asked kept timestamping after e has n t) =
-    let told : InputFits (script_of start) (isn_of start) log (Message_comes has.message) = subst (InputFits (script_of start) (isn_of start) log) has.comes i in
+    let reported : InputFits (script_of start) (isn_of start) log (Message_comes has.message) = subst (InputFits (script_of start) (isn_of start) log) has.comes i in
     let came : InputFormed start (Message_comes has.message) = subst (InputFormed start) has.comes h in
     let numbers : NumbersFormed start kept = subst (BodyFormed start has.message.boot) has.body came.0.1 in
     let pending : PlaceSound start log (Opens asked timestamping) = subst (PlaceSound start log) e f in
     let c = connection_formed service start log node Begins (point_opened node.profile timestamping kept) after sent writes s entries at b tt tt tt
-    (opened_point node.profile timestamping (script_of start) (isn_of start) log kept entries (subst (AnswerFits log) has.body told), opened_point_formed node.profile timestamping start kept pending.1.1 same numbers) t in
+    (opened_point node.profile timestamping (script_of start) (isn_of start) log kept entries (subst (AnswerFits log) has.body reported), opened_point_formed node.profile timestamping start kept pending.1.1 same numbers) t in
     (subst (AllByRecursion (PlaceSound start log)) (sym n) (c.0, tt), c.1)
 place_formed service start log node input writes s entries at same b i h place now sent f (dropped asked timestamping e why n x) =
     let numbers : PlaceSound start log (Opens asked timestamping) = subst (PlaceSound start log) e f in (

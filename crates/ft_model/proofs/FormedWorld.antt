@@ -21,9 +21,9 @@ use Rattle.ft_model.specs.Report.{number_of_client}
 use Rattle.ft_model.proofs.Lists.{all_weaker, all_both, all_append, all_find, all_slice_get, none_is_some, some_is, key_is}
 use Rattle.ft_model.proofs.Keys.{all_from_get}
 use Rattle.ft_model.proofs.Happened.{Happened, IsUnderWay, all_sent, answers, happened}
-use Rattle.ft_model.proofs.Happened.Happened.{log_heard, client_heard, client_moved, server_turned, server_booted, server_down}
+use Rattle.ft_model.proofs.Happened.Happened.{log_received, client_received, client_moved, server_turned, server_booted, server_down}
 use Rattle.ft_model.proofs.LogAnswers.{log_went, all_answers_so}
-use Rattle.ft_model.proofs.Services.{reads_go_on, prefix_length}
+use Rattle.ft_model.proofs.Services.{reads_proceed, prefix_length}
 use Rattle.ft_model.proofs.StageTurns.{stage_went}
 use Rattle.ft_model.proofs.Faithful.{EntriesFit}
 use Rattle.ft_model.proofs.FaithfulKept.{ClientFits, clients_fit}
@@ -36,11 +36,11 @@ use Rattle.ft_model.proofs.AuthorWorld.{front_of}
 use Rattle.ft_model.proofs.Backed.{logged_output, BodyBacked, PacketBacked, EntryBacked}
 use Rattle.ft_model.proofs.JointMasked.{JointInvariant, sound_after}
 use Rattle.ft_model.proofs.Formed.{AckWithin, MessageFormed, PacketFormed, IsBoot, StartFormed, EntryFormed, NodeFormed, ClientFormed, WorldFormed}
-use Rattle.ft_model.proofs.FormedLog.{AckedWithin, LogFormed, log_formed, EntryTells, entries_tell, told_formed, told_acks}
+use Rattle.ft_model.proofs.FormedLog.{AckedWithin, LogFormed, log_formed, EntryReports, entries_report, reported_formed, reported_acks}
 use Rattle.ft_model.proofs.FormedClients.{received_formed, move_formed}
 use Rattle.ft_model.proofs.FormedOver.{Knows, turn_formed}
 use Rattle.ft_model.proofs.Wires.{PacketAckWithin, packet_wire}
-use Rattle.ft_model.proofs.OneTrace.{goes_on}
+use Rattle.ft_model.proofs.OneTrace.{proceeds}
 use Rattle.ft_model.specs.Image.{HasWires}
 use Rattle.seq_arith.proofs.Units.{one_at_most}
 use Rattle.ft_io.proofs.Choices.{holds_if}
@@ -80,21 +80,21 @@ moves_formed start w number sent after s k x =
 
 -- what comes to the log
 answers_formed : (start : World) (log : Log) (message : Message) → MessageFormed start message → log.boot < 2 ^ 64 → LogFormed start (log_after log message).entries
-    → AllByRecursion (EntryTells start) (log_after log message).entries → AllByRecursion (PacketFormed start) (answers log message)
-answers_formed start log message came b few tells =
+    → AllByRecursion (EntryReports start) (log_after log message).entries → AllByRecursion (PacketFormed start) (answers log message)
+answers_formed start log message came b few reports =
     all_answers_so (PacketFormed start) log message
     (λ body a. ⊎_elim (λ stale. subst (λ x. MessageFormed start (record { boot = message.boot; body = x }) × AckWithin x) (sym stale.0) ((came.0, (stale.1, b)), tt))
-    (λ o. ((came.0, told_formed start message.boot message.body (log_after log message) body came.1 few.1 tells o.1), told_acks message.body (log_after log message) body o.1)) a)
+    (λ o. ((came.0, reported_formed start message.boot message.body (log_after log message) body came.1 few.1 reports o.1), reported_acks message.body (log_after log message) body o.1)) a)
 
-heard_formed : (start w : World) (message : Message) → StartFormed start → Knows start w → IsUnderWay w (To_logger message)
+arrival_formed : (start w : World) (message : Message) → StartFormed start → Knows start w → IsUnderWay w (To_logger message)
     → EntriesFit (script_of start) (isn_of start) (log_after w.log message).entries → AllByRecursion AckedWithin (log_after w.log message).entries
     → Outcome start (answers w.log message) (record w { log = log_after w.log message; packets = w.packets ++ answers w.log message })
-heard_formed start w message s k under fits acked =
+arrival_formed start w message s k under fits acked =
     let f = k.formed in
     let came : PacketFormed start (To_logger message) = all_sent (PacketFormed start) w (To_logger message) f.packets under in
     let log = log_formed start w.log message (log_after w.log message) (log_went w.log message) came f.boot (f.entries, f.few) in
     let all : AllByRecursion (PacketFormed start) (answers w.log message) =
-    answers_formed start w.log message came f.boot log.0 (entries_tell start s (log_after w.log message).entries log.0.0 fits acked) in (
+    answers_formed start w.log message came f.boot log.0 (entries_report start s (log_after w.log message).entries log.0.0 fits acked) in (
       all,
       record {
         server = f.server;
@@ -126,13 +126,13 @@ server_formed start w boot node sent f all n = record {
 pub moment_formed : {State : Type 0} (service : Machine State) (start w : World) (sent : List Packet) (after : World) → WritesBytes service → StartFormed start
     → Knows start w → EntriesFit (script_of start) (isn_of start) after.log.entries → AllByRecursion AckedWithin after.log.entries → Happened service w sent after
     → Outcome start sent after
-moment_formed service start w sent after writes s k fits acked (log_heard message under is e) =
+moment_formed service start w sent after writes s k fits acked (log_received message under is e) =
     let log : after.log ≡ log_after w.log message = ap (λ x. x.log) e in
-    let went = heard_formed start w message s k under (subst (λ l. EntriesFit (script_of start) (isn_of start) l.entries) log fits) (subst (λ l. AllByRecursion AckedWithin l.entries) log acked) in (
+    let went = arrival_formed start w message s k under (subst (λ l. EntriesFit (script_of start) (isn_of start) l.entries) log fits) (subst (λ l. AllByRecursion AckedWithin l.entries) log acked) in (
       subst (AllByRecursion (PacketFormed start)) (sym is) went.0,
       subst (WorldFormed start) (sym (e ∙ ap (λ x. record w { log = log_after w.log message; packets = w.packets ++ x }) is)) went.1,
     )
-moment_formed service start w sent after writes s k fits acked (client_heard segment under is e) =
+moment_formed service start w sent after writes s k fits acked (client_received segment under is e) =
     let all : AllByRecursion (PacketFormed start) sent = subst (AllByRecursion (PacketFormed start)) (sym is) tt in (
       all,
       subst (WorldFormed start) (sym e)
@@ -210,7 +210,7 @@ start_formed start s = record {
 output_within : {State : Type 0} (service : Machine State) (script : Key → List ℕ) (w : World) → HasAuthor service script w → (key : Key) → logged_output service script w.log key ≤ 2 ^ 24 + 1
 output_within service script w a key =
     let front = front_of a.author w.log key (entry_of key w.log) a.entries refl in
-    let size = prefix_length _ _ (reads_go_on service (script key) (logged_lengths key w.log) (a.author key) front).output in
+    let size = prefix_length _ _ (reads_proceed service (script key) (logged_lengths key w.log) (a.author key) front).output in
     let small = a.short key in
     let one = one_at_most (logged_run service script w.log key).closed in
     omega (arith, size, small, one)
@@ -269,7 +269,7 @@ each_moment : {State : Type 0} (service : Machine State) (start : World) (P : Pa
 each_moment service start P all [] j = tt
 each_moment service start P all (m ∷ earlier) j =
     let w : World = world_after start earlier in
-    (all_behind P w.packets m.sent (subst (AllByRecursion P) (goes_on service m.event w m.world m.sent j.1) (all (m ∷ earlier) j)), each_moment service start P all earlier j.0)
+    (all_behind P w.packets m.sent (subst (AllByRecursion P) (proceeds service m.event w m.world m.sent j.1) (all (m ∷ earlier) j)), each_moment service start P all earlier j.0)
 
 pub sent_formed : {State : Type 0} (service : Machine State) → HasSmallOutputs service → WritesBytes service → (start : World) (trace : List Moment) → Joint service start trace
     → AllByRecursion (λ m. AllByRecursion (PacketFormed start) m.sent) trace

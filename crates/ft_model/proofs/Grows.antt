@@ -162,8 +162,8 @@ kept_grows (ReadMsg key index n) log = record { boot = le_refl log.boot; entries
 kept_grows (DoneMsg key) log = record { boot = le_refl log.boot; entries = changed_grow key (λ e. record e { done = true }) log.entries done_grows }
 kept_grows _ log = log_refl log
 
-heard_grows : (message : Message) (log : Log) → log.boot ≤ message.boot → LogGrows log (with_message message log)
-heard_grows message log h =
+received_grows : (message : Message) (log : Log) → log.boot ≤ message.boot → LogGrows log (with_message message log)
+received_grows message log h =
     holds_if (LogGrows log) (is_hello message.body) _ _ (λ t. record { boot = h; entries = entries_refl log.entries })
     (λ t. holds_if (LogGrows log) (message.boot == log.boot) _ _ (λ s. kept_grows message.body log) (λ s. log_refl log))
 
@@ -173,7 +173,7 @@ log_grows log message =
     holds_if (LogGrows log) (is_answer message.body || nat_lt message.boot log.boot) log _ (λ t. log_refl log)
     (λ t. let parts = or_parts (is_answer message.body) (nat_lt message.boot log.boot) t in
     let h : log.boot ≤ message.boot = grind (arith, parts) in
-    heard_grows message log h)
+    received_grows message log h)
 
 -- Fence: a message of a boot that the log has left behind changes nothing
 pub old_boots_change_nothing : (log : Log) (message : Message) → message.boot < log.boot → log_after log message ≡ log

@@ -14,7 +14,7 @@ use Rattle.seq_arith.proofs.Refused.{flipped_packet_is_refused, flipped_is_refus
 use Rattle.ft_io.specs.declared.Key.{Key}
 use Rattle.seq_arith.specs.declared.kinds.Grammar.{Grammar}
 use Rattle.tcp_rules.specs.Profile.{grammar_of}
-use Rattle.ft_model.specs.Wire.{CanBeSent, CanBeToldBy}
+use Rattle.ft_model.specs.Wire.{CanBeSent, CanBeWrittenBy}
 use Rattle.server_trait.specs.Service.{Machine}
 use Rattle.ft_model.specs.Client.{received}
 use Rattle.ft_model.specs.Log.{Log, log_after, answer_to}
@@ -43,9 +43,9 @@ abbrev pub answers : Log → Message → List Packet
 answers log message = option_to_list (option_map From_logger (answer_to log message))
 
 pub data Happened {State : Type 0} (service : Machine State) (before : World) (sent : List Packet) (after : World) : Type 0 where
-  log_heard : (message : Message) → IsUnderWay before (To_logger message) → sent ≡ answers before.log message
+  log_received : (message : Message) → IsUnderWay before (To_logger message) → sent ≡ answers before.log message
       → after ≡ record before { log = log_after before.log message; packets = before.packets ++ sent } → Happened service before sent after
-  client_heard : (segment : Segment) → IsUnderWay before (To_client segment) → sent ≡ []
+  client_received : (segment : Segment) → IsUnderWay before (To_client segment) → sent ≡ []
       → after ≡ record before { clients = with_client (destination_of segment) (λ c. received c segment) before.clients; packets = before.packets ++ sent } → Happened service before sent after
   client_moved : (number : ℕ) → Moves before number sent after → Happened service before sent after
   server_turned : (input : Input) (node later : Node) → IsBrought before input → before.node ≡ Some node → LawfulTurn service node input sent later
@@ -65,8 +65,8 @@ turned service input before sent after (Some node) brought e t a =
 delivered : {State : Type 0} (service : Machine State) (before : World) (packet : Packet) (sent : List Packet) (after : World)
     → IsUnderWay before packet → Delivered service before packet sent after → Happened service before sent after
 delivered service before (To_server segment) sent after u d = turned service (Packet_comes segment) before sent after before.node u refl d.0 d.1
-delivered service before (To_client segment) sent after u d = client_heard segment u d.0 d.1
-delivered service before (To_logger message) sent after u d = log_heard message u d.0 d.1
+delivered service before (To_client segment) sent after u d = client_received segment u d.0 d.1
+delivered service before (To_logger message) sent after u d = log_received message u d.0 d.1
 delivered service before (From_logger message) sent after u d = turned service (Message_comes message) before sent after before.node u refl d.0 d.1
 
 -- nothing is sent, and nothing changes
@@ -80,7 +80,7 @@ quiet before sent after n = (n.0, n.1 ∙ (ap (λ ps. record before { packets = 
 pub bit_changed : (bit : ℕ) (segment : Segment) → CanBeSent segment → bit < 8 * length (segments.spelling segment) → IsErr (segments.reading (flipped bit (segments.spelling segment)))
 bit_changed bit segment w h = flipped_packet_is_refused bit (segments.spelling segment) segment (spelling_is_read segment w.0) h
 
-pub message_bit_changed : (grammar : Grammar) (bit : ℕ) (message : Message) → CanBeToldBy grammar message → bit < 8 * length (messages.spelling_by grammar message)
+pub message_bit_changed : (grammar : Grammar) (bit : ℕ) (message : Message) → CanBeWrittenBy grammar message → bit < 8 * length (messages.spelling_by grammar message)
     → IsErr (messages.reading_by grammar (flipped bit (messages.spelling_by grammar message)))
 message_bit_changed grammar bit message w h = flipped_is_refused_by grammar bit (messages.spelling_by grammar message) message (message_is_read message w.0) h
 

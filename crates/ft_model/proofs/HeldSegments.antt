@@ -30,11 +30,11 @@ turn_14 = serves echo 1 5000 run.gap_filled run.held_point run.filled_point run.
 
 happens_11 : Happens echo path.moment_10.world run.moment_11.event run.moment_11.sent run.moment_11.world
 unfolding laws IsLe
-happens_11 = record { client = path.open_client; segment = segment_in run.first_sent; later = run.telling_client; is_there = refl; move = record { move = Text 0 2; window = 65535; may = refl; fits = refl; timestamps = None; carries = refl; segment_is = refl; after_is = refl }; sent_is = refl; after_is = refl }
+happens_11 = record { client = path.open_client; segment = segment_in run.first_sent; later = run.reporting_client; is_there = refl; move = record { move = Text 0 2; window = 65535; may = refl; fits = refl; timestamps = None; carries = refl; segment_is = refl; after_is = refl }; sent_is = refl; after_is = refl }
 
 happens_12 : Happens echo run.moment_11.world run.moment_12.event run.moment_12.sent run.moment_12.world
 unfolding laws IsLe
-happens_12 = record { client = run.telling_client; segment = segment_in run.second_sent; later = path.told_client; is_there = refl; move = record { move = Text 2 3; window = 65535; may = refl; fits = refl; timestamps = None; carries = refl; segment_is = refl; after_is = refl }; sent_is = refl; after_is = refl }
+happens_12 = record { client = run.reporting_client; segment = segment_in run.second_sent; later = path.reported_client; is_there = refl; move = record { move = Text 2 3; window = 65535; may = refl; fits = refl; timestamps = None; carries = refl; segment_is = refl; after_is = refl }; sent_is = refl; after_is = refl }
 
 happens_13 : Happens echo run.moment_12.world run.moment_13.event run.moment_13.sent run.moment_13.world
 unfolding laws IsLe
@@ -52,7 +52,7 @@ allowed_11 : IsAllowed path.moment_10.world run.moment_11
 allowed_11 = record { allowed = refl; scripted = scripted path.moment_10.world run.moment_11.event path.open_client (Text 0 2) 1 run.moment_11.world refl refl refl }
 
 allowed_12 : IsAllowed run.moment_11.world run.moment_12
-allowed_12 = record { allowed = refl; scripted = scripted run.moment_11.world run.moment_12.event run.telling_client (Text 2 3) 1 run.moment_12.world refl refl refl }
+allowed_12 = record { allowed = refl; scripted = scripted run.moment_11.world run.moment_12.event run.reporting_client (Text 2 3) 1 run.moment_12.world refl refl refl }
 
 pub is_legal : Legal (λ kind. echo) run.schedule run.trace
 is_legal = record {

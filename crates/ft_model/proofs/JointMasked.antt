@@ -27,21 +27,21 @@ use Rattle.ft_model.specs.World.{World, Moment, Joint, IsStart, IsNewClient, wor
 use Rattle.ft_model.proofs.Lists.{all_both, all_weaker, all_find, all_slice_get, found_passes, same_key, none_is_some, some_is}
 use Rattle.ft_model.proofs.Grows.{log_grows}
 use Rattle.ft_model.proofs.Happened.{Happened, holds_after, all_sent}
-use Rattle.ft_model.proofs.Happened.Happened.{log_heard, client_heard, client_moved, server_turned, server_booted, server_down}
-use Rattle.ft_model.proofs.Fenced.{IsFenced, start_fenced, fenced_goes_on}
-use Rattle.ft_model.proofs.Asked.{IsAsked, start_asked, asked_goes_on}
+use Rattle.ft_model.proofs.Happened.Happened.{log_received, client_received, client_moved, server_turned, server_booted, server_down}
+use Rattle.ft_model.proofs.Fenced.{IsFenced, start_fenced, fenced_proceeds}
+use Rattle.ft_model.proofs.Asked.{IsAsked, start_asked, asked_proceeds}
 use Rattle.ft_model.proofs.Exact.{exact_after}
 use Rattle.ft_model.proofs.FaithfulKept.{ClientFits, IsFaithful, received_same, clients_fit}
-use Rattle.ft_model.proofs.FaithfulOver.{script_of, isn_of, client_there, faithful_goes_on}
+use Rattle.ft_model.proofs.FaithfulOver.{script_of, isn_of, client_there, faithful_proceeds}
 use Rattle.ft_model.proofs.Acknowledged.{start_is, short_scripts, start_faithful, acknowledged_after}
 use Rattle.ft_model.proofs.Distinct.{IsDistinct, distinct_after}
-use Rattle.ft_model.proofs.ToldOver.{told_after}
+use Rattle.ft_model.proofs.ReportedOver.{reported_after}
 use Rattle.ft_model.proofs.Running.{HasSmallOutputs}
 use Rattle.ft_model.proofs.Authored.{Speaks, IsSpoken, CarriesOutput, logged_run}
 use Rattle.ft_model.proofs.AuthorOver.{HasAuthor, EntryOf}
-use Rattle.ft_model.proofs.AuthorWorld.{author_goes_on, start_author}
+use Rattle.ft_model.proofs.AuthorWorld.{author_proceeds, start_author}
 use Rattle.ft_model.proofs.Backed.{PacketBacked, EntryBacked, IsBacked}
-use Rattle.ft_model.proofs.BackedOver.{start_backed, backed_goes_on}
+use Rattle.ft_model.proofs.BackedOver.{start_backed, backed_proceeds}
 use Rattle.ft_model.proofs.Seen.{HoldsOf, Sees, IsSeen, SaysRun, seen_later, received_sees, moved_seen}
 use Rattle.ft_io.proofs.Choices.{holds_if}
 
@@ -122,10 +122,10 @@ AllSee service script w = AllByRecursion (IsSeen service script w.log) w.clients
 
 pub sees_on : {State : Type 0} (service : Machine State) (script : Key → List ℕ) (before : World) (sent : List Packet) (after : World)
     → HasAuthor service script before → AllSee service script before → Happened service before sent after → AllSee service script after
-sees_on service script before sent after a s (log_heard message under t e) =
+sees_on service script before sent after a s (log_received message under t e) =
     subst (AllSee service script) (sym e)
     (all_weaker (IsSeen service script before.log) _ before.clients (λ c x. seen_later service script before.log (log_after before.log message) c (log_grows before.log message) x) s)
-sees_on service script before sent after a s (client_heard segment under t e) =
+sees_on service script before sent after a s (client_received segment under t e) =
     subst (AllSee service script) (sym e)
     (clients_fit (IsSeen service script before.log) (destination_of segment) (λ c. received c segment) before.clients
     (λ c k x. received_seen service script before.log c segment k (all_sent (Speaks service script before.log) before (To_client segment) a.spoken under) x) s)
@@ -164,22 +164,22 @@ start_sound service small start x = record {
   backed = start_backed service (script_of start) start x;
 }
 
-pub sound_goes_on : {State : Type 0} (service : Machine State) → HasSmallOutputs service → (start before : World) (sent : List Packet) (after : World)
+pub sound_proceeds : {State : Type 0} (service : Machine State) → HasSmallOutputs service → (start before : World) (sent : List Packet) (after : World)
     → IsStart start → JointInvariant service start before → Happened service before sent after → JointInvariant service start after
-sound_goes_on service small start before sent after s o h = record {
-  fenced = fenced_goes_on service before sent after o.fenced h;
-  asked = asked_goes_on service before sent after o.fenced o.asked h;
-  faithful = faithful_goes_on service (script_of start) (isn_of start) before sent after (short_scripts start s) o.asked o.faithful h;
+sound_proceeds service small start before sent after s o h = record {
+  fenced = fenced_proceeds service before sent after o.fenced h;
+  asked = asked_proceeds service before sent after o.fenced o.asked h;
+  faithful = faithful_proceeds service (script_of start) (isn_of start) before sent after (short_scripts start s) o.asked o.faithful h;
   distinct = distinct_after service before sent after o.asked o.distinct h;
-  author = author_goes_on service (script_of start) (isn_of start) before sent after small (short_scripts start s) o.fenced o.asked o.faithful o.distinct o.author h;
+  author = author_proceeds service (script_of start) (isn_of start) before sent after small (short_scripts start s) o.fenced o.asked o.faithful o.distinct o.author h;
   sees = sees_on service (script_of start) before sent after o.author o.sees h;
-  backed = backed_goes_on service (script_of start) (isn_of start) before sent after o.asked o.faithful o.author o.sees o.backed h;
+  backed = backed_proceeds service (script_of start) (isn_of start) before sent after o.asked o.faithful o.author o.sees o.backed h;
 }
 
 pub sound_after : {State : Type 0} (service : Machine State) → HasSmallOutputs service → (start : World) (trace : List Moment) → Joint service start trace → JointInvariant service start (world_after start trace)
 sound_after service small start trace j =
     let s : IsStart start = start_is service start trace j in
-    holds_after service (JointInvariant service start) start (start_sound service small start) (λ before sent after o h. sound_goes_on service small start before sent after s o h) trace j
+    holds_after service (JointInvariant service start) start (start_sound service small start) (λ before sent after o h. sound_proceeds service small start before sent after s o h) trace j
 
 -- each client sees the front of the uncrashed server's output
 pub sees_front : {State : Type 0} (service : Machine State) → HasSmallOutputs service → (start : World) (trace : List Moment) → Joint service start trace
@@ -274,6 +274,6 @@ masked service small start (moment ∷ earlier) j = (
     clients = sees_front service small start (moment ∷ earlier) j;
     acknowledged = acknowledged_after service start moment earlier j;
     restart = exact_after service start moment earlier j;
-    told = told_after service start (moment ∷ earlier) j;
+    reported = reported_after service start (moment ∷ earlier) j;
   },
 )

@@ -17,10 +17,10 @@ use Rattle.ft_model.specs.Network.Packet.{To_server, To_client, To_logger, From_
 use Rattle.ft_model.specs.Point.{Point}
 use Rattle.ft_model.specs.News.{News}
 use Rattle.ft_model.specs.Copy.{copies}
-use Rattle.ft_model.specs.Reads.{reads_told, read_messages, first_told}
-use Rattle.ft_model.specs.ResetAndEnd.{dones, tells_done}
+use Rattle.ft_model.specs.Reads.{reads_reported, read_messages, first_reported}
+use Rattle.ft_model.specs.ResetAndEnd.{dones, reports_done}
 use Rattle.ft_model.specs.Segments.{segments_of}
-use Rattle.ft_model.specs.Connection.{ConnectionTurn, told_by}
+use Rattle.ft_model.specs.Connection.{ConnectionTurn, reported_by}
 use Rattle.ft_model.specs.Opening.{is_syn, numbers_for, timestamping_for}
 use Rattle.ft_model.specs.Refusal.{as_listen, as_closed, rst_at_ack, rst_behind}
 use Rattle.ft_model.specs.Node.{Node, Place, Stage, Input, key_of, is_for, is_known, pending_count}
@@ -36,7 +36,7 @@ use Rattle.ft_model.proofs.Grows.{log_grows}
 use Rattle.ft_model.proofs.Keys.{absent_key}
 use Rattle.ft_model.proofs.LogAnswers.{log_went, all_answers}
 use Rattle.ft_model.proofs.Happened.{IsBrought, IsUnderWay, all_sent, answers}
-use Rattle.ft_model.proofs.PlaceTurns.{PlaceWent, IsDropped, place_went, all_go_on, all_flat, asks_so}
+use Rattle.ft_model.proofs.PlaceTurns.{PlaceWent, IsDropped, place_went, all_proceed, all_flat, asks_so}
 use Rattle.ft_model.proofs.PlaceTurns.PlaceWent.{stayed, went_on, began, dropped, ended, refused}
 use Rattle.ft_model.proofs.StageTurns.{either_turn}
 use Rattle.ft_model.proofs.Fenced.{IsLogged}
@@ -129,9 +129,9 @@ place_ends log message (Lives p) e = tt
 place_ends log message (Opens n timestamping) e = tt
 
 -- a message comes to the log
-pub stage_hears : (w : World) (message : Message) (node : Node) (stage : Stage) → IsUnderWay w (To_logger message) → IsLogged w.log.boot node stage
+pub stage_receives : (w : World) (message : Message) (node : Node) (stage : Stage) → IsUnderWay w (To_logger message) → IsLogged w.log.boot node stage
     → StageKnows w.log w.packets node.boot stage → StageKnows (log_after w.log message) (w.packets ++ answers w.log message) node.boot stage
-stage_hears w message node (Serving opened places) under own k =
+stage_receives w message node (Serving opened places) under own k =
     let keys : List Key = entry_keys w.log in
     let later : List Key = entry_keys (log_after w.log message) in
     let g = log_grows w.log message in
@@ -149,9 +149,9 @@ stage_hears w message node (Serving opened places) under own k =
           (has_key_either key keys r.0.key (sym (ap (has_key key) r.4) ∙ h))) go;
       ends = all_weaker (PlaceEnds w.log) (PlaceEnds (log_after w.log message)) places (place_ends w.log message) k.ends;
     }
-stage_hears w message node Asking under own k = tt
-stage_hears w message node (Fetching count fetched) under own k = tt
-stage_hears w message node (Fenced newer) under own k = tt
+stage_receives w message node Asking under own k = tt
+stage_receives w message node (Fetching count fetched) under own k = tt
+stage_receives w message node (Fenced newer) under own k = tt
 
 -- a live connection sends no RST and no Open
 abbrev pub asks_to_open : Body → Bool
@@ -178,7 +178,7 @@ plain_asks boot keys places (From_logger message) e = tt
 abbrev NoOpen : Body → Type 0
 NoOpen body = asks_to_open body ≡ false
 
-bodies_plain : (log : Log) (boot : ℕ) (bodies : List Body) → AllByRecursion NoOpen bodies → AllByRecursion (IsPlain log) (map (told_by boot) bodies)
+bodies_plain : (log : Log) (boot : ℕ) (bodies : List Body) → AllByRecursion NoOpen bodies → AllByRecursion (IsPlain log) (map (reported_by boot) bodies)
 bodies_plain log boot [] a = tt
 bodies_plain log boot (body ∷ bodies) a = ((tt, a.0), bodies_plain log boot bodies a.1)
 
@@ -189,13 +189,13 @@ messages_plain : (key : Key) (index : ℕ) (lengths : List ℕ) → AllByRecursi
 messages_plain key index [] = tt
 messages_plain key index (n ∷ lengths) = (refl, messages_plain key (index + 1) lengths)
 
-reads_plain : (news : News) (p q : Point) → AllByRecursion NoOpen (reads_told news p q)
-unfolding reads_told
-reads_plain news p q = messages_plain q.key (first_told news p q) (drop (first_told news p q) q.lengths)
+reads_plain : (news : News) (p q : Point) → AllByRecursion NoOpen (reads_reported news p q)
+unfolding reads_reported
+reads_plain news p q = messages_plain q.key (first_reported news p q) (drop (first_reported news p q) q.lengths)
 
 dones_plain : (news : News) (p q : Point) → AllByRecursion NoOpen (dones news p q)
 unfolding dones
-dones_plain news p q = holds_if (AllByRecursion NoOpen) (tells_done news p q) (DoneMsg q.key ∷ []) [] (λ t. (refl, tt)) (λ t. tt)
+dones_plain news p q = holds_if (AllByRecursion NoOpen) (reports_done news p q) (DoneMsg q.key ∷ []) [] (λ t. (refl, tt)) (λ t. tt)
 
 pub connection_plain : {State : Type 0} (service : Machine State) (log : Log) (server : Addr) (boot : ℕ) (news : News) (p q : Point) (sent : List Packet)
     → ConnectionTurn service server boot news p q sent → AllByRecursion (IsPlain log) sent
@@ -207,8 +207,8 @@ connection_plain service log server boot news p q sent =
     (λ s spoken. (λ r. absurd (true≢false (sym r ∙ (headed service server news p q s spoken).no_rst)), tt)) (segments_spoken service server news p q) in
     subst (AllByRecursion (IsPlain log)) (sym t.packets)
     (all_append (IsPlain log) (map To_client (segments_of service server news p q)) _ (all_map (IsPlain log) To_client (segments_of service server news p q) segments)
-    (bodies_plain log boot (copies news p q ++ (reads_told news p q ++ dones news p q))
-    (all_append NoOpen (copies news p q) _ (copies_plain news p q) (all_append NoOpen (reads_told news p q) (dones news p q) (reads_plain news p q) (dones_plain news p q))))))
+    (bodies_plain log boot (copies news p q ++ (reads_reported news p q ++ dones news p q))
+    (all_append NoOpen (copies news p q) _ (copies_plain news p q) (all_append NoOpen (reads_reported news p q) (dones news p q) (reads_plain news p q) (dones_plain news p q))))))
 
 done_reset : (log : Log) (segment : Segment) → IsDone log (destination_of segment) → IsPlain log (To_client segment)
 done_reset log segment d = (λ r. inl d, tt)
@@ -234,13 +234,13 @@ input_says w Tick_comes a b = tt
 dropped_shut : (script : Key → List ℕ) (isn : Key → ℕ) (log : Log) (node : Node) (input : Input) (asked : Numbers) → EntriesFit script isn log.entries → InputFits script isn log input
     → InputSays log input → asked.cisn ≡ isn asked.key → IsDropped node input asked → IsShut (entry_keys log) asked.key
 dropped_shut script isn log node input asked entries i says own (inl (kept, h, other)) =
-    let told : AnswerFits log h.message.body = subst (InputFits script isn log) h.comes i in
-    let has : HasEntry log kept = subst (AnswerFits log) h.body told in
+    let reported : AnswerFits log h.message.body = subst (InputFits script isn log) h.comes i in
+    let has : HasEntry log kept = subst (AnswerFits log) h.body reported in
     let within = units_within script isn log kept.key has.0 entries has.1 in
     let same : kept.cisn ≡ asked.cisn = (sym has.2 ∙ within.0.cisn) ∙ (ap isn h.key ∙ sym own) in
     absurd (true≢false (sym (eq-eqb kept.cisn asked.cisn same) ∙ other))
 dropped_shut script isn log node input asked entries i says own (inr (message, c, b)) =
-    let told : BodySays log message.body = subst (InputSays log) c says in subst (BodySays log) b told
+    let reported : BodySays log message.body = subst (InputSays log) c says in subst (BodySays log) b reported
 
 -- a place in a turn
 place_knows : {State : Type 0} (service : Machine State) (script : Key → List ℕ) (isn : Key → ℕ) (log : Log) (node : Node) (input : Input)
@@ -259,8 +259,8 @@ place_knows service script isn log node input entries i says place now sent q (d
       ⊎_elim (λ x. subst (AllByRecursion (IsPlain log)) (sym x) tt) (λ x. subst (AllByRecursion (IsPlain log)) (sym x) ((λ r. inr shut, tt), tt)) s,
     )
 place_knows service script isn log node input entries i says place now sent q (ended p e h n s) =
-    let told : BodySays log h.0.body = subst (InputSays log) h.1 says in
-    let done : IsDone log p.key = subst (BodySays log) h.2 told in
+    let reported : BodySays log h.0.body = subst (InputSays log) h.1 says in
+    let done : IsDone log p.key = subst (BodySays log) h.2 reported in
     (subst (AllByRecursion (PlaceEnds log)) (sym n) (done, tt), subst (AllByRecursion (IsPlain log)) (sym s) tt)
 place_knows service script isn log node input entries i says place now sent q (refused key segment e c k n s) =
     let done : IsDone log key = subst (PlaceEnds log) e q.1 in
@@ -349,7 +349,7 @@ pub serving_knows : {State : Type 0} (service : Machine State) (script : Key →
 serving_knows service script isn log packets node input opened places later sent entries i says calls fits k t =
     let fair : Packet → Type 0 = IsFair log node.boot later in
     let new : List Place = newcomers node input opened places in
-    let went = all_go_on (PlaceTurn service node input) (λ x. PlaceFits script isn log x × PlaceEnds log x) (PlaceEnds log) (IsPlain log)
+    let went = all_proceed (PlaceTurn service node input) (λ x. PlaceFits script isn log x × PlaceEnds log x) (PlaceEnds log) (IsPlain log)
     (λ place now some q x. place_knows service script isn log node input entries i says place now some q (place_went service node input place now some x))
     places t.went t.by_places (all_both (PlaceFits script isn log) (PlaceEnds log) _ places (λ p a b. (a, b)) fits k.ends) t.all_go in
     let on : (key : Key) → Knows places key → IsKnownOrShut (entry_keys log) later key =

@@ -2,7 +2,7 @@ pub mod Settled
 pub mod LiveOnce
 pub mod LiveTurns
 pub mod TurnOnce
-pub mod TurnTells
+pub mod TurnReports
 pub mod TurnExists
 pub mod Turns
 pub mod AskedMoves
@@ -71,8 +71,8 @@ pub mod Reassembly
 pub mod Distinct
 pub mod Refused
 pub mod KnownKeys
-pub mod ToldLast
-pub mod ToldOver
+pub mod ReportedLast
+pub mod ReportedOver
 pub mod Services
 pub mod Running
 pub mod Authored
@@ -95,11 +95,11 @@ pub mod FormedOver
 pub mod FormedClients
 pub mod FormedWorld
 pub mod Readable
-pub mod WiresTell
+pub mod WiresDetermine
 pub mod ReportLines
 pub mod ReportTurns
 pub mod ReportHeader
-pub mod ReportTells
+pub mod ReportDetermines
 pub mod Resets
 pub mod EarlyAcknowledgement
 pub mod ResetWhileRestarting

@@ -119,18 +119,18 @@ module _ {State : Type 0} (service : Machine State) where
   happens_once (Stop part) before w x s t p q a b = absurd p
 
   -- what was sent stays
-  pub goes_on : (event : Event) (before w : World) (s : List Packet) → Happens service before event s w → w.packets ≡ before.packets ++ s
-  goes_on (Boot boot isn) before w s p = ap (λ v. v.packets) p.3
-  goes_on Crash before w s p = ap (λ v. v.packets) p.2
-  goes_on Tick before w s p = ap (λ v. v.packets) p.1.1
-  goes_on (Deliver number) before w s p = delivered_on p.0 p.2
+  pub proceeds : (event : Event) (before w : World) (s : List Packet) → Happens service before event s w → w.packets ≡ before.packets ++ s
+  proceeds (Boot boot isn) before w s p = ap (λ v. v.packets) p.3
+  proceeds Crash before w s p = ap (λ v. v.packets) p.2
+  proceeds Tick before w s p = ap (λ v. v.packets) p.1.1
+  proceeds (Deliver number) before w s p = delivered_on p.0 p.2
     where
       delivered_on : (packet : Packet) → Delivered service before packet s w → w.packets ≡ before.packets ++ s
       delivered_on (To_server segment) d = ap (λ v. v.packets) d.1
       delivered_on (To_client segment) d = ap (λ v. v.packets) d.1
       delivered_on (To_logger message) d = ap (λ v. v.packets) d.1
       delivered_on (From_logger message) d = ap (λ v. v.packets) d.1
-  goes_on (Flip number bit) before w s p = changed_on p.0 (flipped bit (wire_by (grammar_of before.profile) p.0).bytes) p.2.comes
+  proceeds (Flip number bit) before w s p = changed_on p.0 (flipped bit (wire_by (grammar_of before.profile) p.0).bytes) p.2.comes
     where
       client_on : (key : Key) (r : Result Segment BadPacket) → ClientReads key r before s w → w.packets ≡ before.packets ++ s
       client_on key (Ok segment) d = ap (λ v. v.packets) d.1
@@ -145,16 +145,16 @@ module _ {State : Type 0} (service : Machine State) where
       changed_on (To_client segment) bytes d = client_on (destination_of segment) (segments.reading bytes) d
       changed_on (To_logger message) bytes d = log_on (messages.reading_by (grammar_of before.profile) bytes) d
       changed_on (From_logger message) bytes d = ap (λ v. v.packets) d.1
-  goes_on (Begin client window) before w s p = ap (λ v. v.packets) p.after_is
-  goes_on (Send client from len) before w s p = ap (λ v. v.packets) p.after_is
-  goes_on (Fin client) before w s p = ap (λ v. v.packets) p.after_is
-  goes_on (Ack client window) before w s p = ap (λ v. v.packets) p.after_is
-  goes_on (Reset client) before w s p = ap (λ v. v.packets) p.after_is
-  goes_on (Stop part) before w s p = absurd p
+  proceeds (Begin client window) before w s p = ap (λ v. v.packets) p.after_is
+  proceeds (Send client from len) before w s p = ap (λ v. v.packets) p.after_is
+  proceeds (Fin client) before w s p = ap (λ v. v.packets) p.after_is
+  proceeds (Ack client window) before w s p = ap (λ v. v.packets) p.after_is
+  proceeds (Reset client) before w s p = ap (λ v. v.packets) p.after_is
+  proceeds (Stop part) before w s p = absurd p
 
   sent_once : (event : Event) (before w x : World) (s t : List Packet) → Happens service before event s w → Happens service before event t x → w ≡ x → s ≡ t
   sent_once event before w x s t p q e =
-      let all : before.packets ++ s ≡ before.packets ++ t = sym (goes_on event before w s p) ∙ (ap (λ v. v.packets) e ∙ goes_on event before x t q) in
+      let all : before.packets ++ s ≡ before.packets ++ t = sym (proceeds event before w s p) ∙ (ap (λ v. v.packets) e ∙ proceeds event before x t q) in
       sym (drop-append_seam before.packets s) ∙ (ap (drop (length before.packets)) all ∙ drop-append_seam before.packets t)
 
   -- two moments of one event, from one world on, are the same

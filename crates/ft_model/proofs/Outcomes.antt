@@ -11,7 +11,7 @@ use Rattle.ft_model.specs.declared.event.Event.{Event}
 use Rattle.ft_model.specs.declared.schedule.Schedule.{Schedule}
 use Rattle.std.proofs.lemmas.List.{same_from_push}
 use Rattle.ft_model.proofs.Lists.{some_is}
-use Rattle.ft_model.proofs.OneTrace.{happens_once, goes_on}
+use Rattle.ft_model.proofs.OneTrace.{happens_once, proceeds}
 
 -- an allowed event is done by scripted clients
 record Goes {State : Type 0} (service : Machine State) (before : World) (event : Event) (after : World) : Type 0 where
@@ -49,7 +49,7 @@ module _ {State : Type 0} (service : Machine State) where
   runs_on : (events : List Event) (before w : World) → Runs service before events w → length before.packets ≤ length w.packets
   runs_on [] before w r = subst (λ v. length before.packets ≤ length v.packets) (sym r) (omega arith)
   runs_on (event ∷ events) before w r =
-      let first : r.0.packets ≡ before.packets ++ r.1.sent = goes_on service event before r.0 r.1.sent r.1.happens in
+      let first : r.0.packets ≡ before.packets ++ r.1.sent = proceeds service event before r.0 r.1.sent r.1.happens in
       let long : length r.0.packets ≡ length before.packets + length r.1.sent = ap length first ∙ length-append before.packets r.1.sent in
       let later : length r.0.packets ≤ length w.packets = runs_on events r.0 w r.2 in
       omega arith

@@ -13,13 +13,13 @@ use Rattle.ft_model.specs.Network.Packet.{To_client}
 use Rattle.ft_model.specs.Point.{Point}
 use Rattle.ft_model.specs.News.{News}
 use Rattle.ft_model.specs.News.News.{Comes, Logged, Ticks, Begins}
-use Rattle.ft_model.specs.Connection.{ConnectionTurn, told_by}
+use Rattle.ft_model.specs.Connection.{ConnectionTurn, reported_by}
 use Rattle.ft_model.specs.Opening.{point_opened}
 use Rattle.ft_model.specs.Refusal.{as_closed, full_rst}
 use Rattle.ft_model.specs.Node.{Node, Place, Input, key_of, is_for}
 use Rattle.ft_model.specs.Node.Place.{Opens, Lives, Ended}
 use Rattle.ft_model.specs.Node.Input.{Packet_comes, Message_comes, Tick_comes}
-use Rattle.ft_model.specs.ServingTurn.{Stays, LivesOn, Hears, Meets, PlaceTurn, concerns, names, AllGo, newcomers, refusals, is_asked, opens_at, ServingTurn}
+use Rattle.ft_model.specs.ServingTurn.{Stays, LivesOn, OnReceipt, Meets, PlaceTurn, concerns, names, AllGo, newcomers, refusals, is_asked, opens_at, ServingTurn}
 use Rattle.ft_model.proofs.Lists.{same_key, all_append}
 use Rattle.ft_io.proofs.Choices.{holds_if}
 
@@ -71,20 +71,20 @@ opens : {State : Type 0} (service : Machine State) (node : Node) (input : Input)
 opens service node input asked kept timestamping true now sent o h t = began asked kept timestamping t.0 refl h t.1 t.2
 opens service node input asked kept timestamping false now sent o h t = dropped asked timestamping refl (inl (kept, h, o)) t.0 (inl t.1)
 
-hears : {State : Type 0} (service : Machine State) (node : Node) (message : Message) (body : Body) (place : Place) (now : List Place) (sent : List Packet)
+on_receipt : {State : Type 0} (service : Machine State) (node : Node) (message : Message) (body : Body) (place : Place) (now : List Place) (sent : List Packet)
     → message.body ≡ body → message.boot ≡ node.boot → names body (key_of place) ≡ true
-    → Hears service node body place now sent → PlaceWent service node (Message_comes message) place now sent
-hears service node message (StableMsg kept) (Lives p) now sent e b n t =
+    → OnReceipt service node body place now sent → PlaceWent service node (Message_comes message) place now sent
+on_receipt service node message (StableMsg kept) (Lives p) now sent e b n t =
     went_on (Logged kept) p t.0 refl (message, refl, b, same_key kept.key p.key n, inl e) t.1 t.2
-hears service node message (ReadsMsg kept) (Lives p) now sent e b n t =
+on_receipt service node message (ReadsMsg kept) (Lives p) now sent e b n t =
     went_on (Logged kept) p t.0 refl (message, refl, b, same_key kept.key p.key n, inr e) t.1 t.2
-hears service node message (EndedMsg key) (Lives p) now sent e b n t = ended p refl (message, refl, e ∙ ap EndedMsg (same_key key p.key n)) t.0 t.1
-hears service node message (OpenedMsg kept) (Opens asked timestamping) now sent e b n t =
+on_receipt service node message (EndedMsg key) (Lives p) now sent e b n t = ended p refl (message, refl, e ∙ ap EndedMsg (same_key key p.key n)) t.0 t.1
+on_receipt service node message (OpenedMsg kept) (Opens asked timestamping) now sent e b n t =
     opens service node (Message_comes message) asked kept timestamping (kept.cisn == asked.cisn) now sent refl
     (record { message = message; comes = refl; boot = b; body = e; key = same_key kept.key asked.key n }) t
-hears service node message (FullMsg key) (Opens asked timestamping) now sent e b n t =
+on_receipt service node message (FullMsg key) (Opens asked timestamping) now sent e b n t =
     dropped asked timestamping refl (inr (message, refl, e ∙ ap FullMsg (same_key key asked.key n))) t.0 (inr t.1)
-hears service node message body place now sent e b n t = stays service node (Message_comes message) place now sent t
+on_receipt service node message body place now sent e b n t = stays service node (Message_comes message) place now sent t
 
 meets : {State : Type 0} (service : Machine State) (node : Node) (input : Input) (place : Place) (now : List Place) (sent : List Packet)
     → concerns node input (key_of place) ≡ true → Meets service node input place now sent → PlaceWent service node input place now sent
@@ -94,7 +94,7 @@ meets service node (Packet_comes segment) (Ended key) now sent c t =
     refused key segment refl refl (same_key (source_of segment) key (and_parts (is_for node.server segment) _ c).1) t.0 t.1
 meets service node (Message_comes message) place now sent c t =
     let parts = and_parts (message.boot == node.boot) (names message.body (key_of place)) c in
-    hears service node message message.body place now sent refl (eqb-true _ _ parts.0) parts.1 t
+    on_receipt service node message message.body place now sent refl (eqb-true _ _ parts.0) parts.1 t
 meets service node Tick_comes (Lives p) now sent c t = went_on Ticks p t.0 refl refl t.1 t.2
 meets service node input place now sent c t = stays service node input place now sent t
 
@@ -109,14 +109,14 @@ pub place_went : {State : Type 0} (service : Machine State) (node : Node) (input
 place_went service node input place now sent t = by_concern service node input place now sent (concerns node input (key_of place)) refl t
 
 -- what holds of the places before gives what holds of those after, and of the packets
-pub all_go_on : (Goes : Place → List Place → List Packet → Type 0) (Q R : Place → Type 0) (P : Packet → Type 0)
+pub all_proceed : (Goes : Place → List Place → List Packet → Type 0) (Q R : Place → Type 0) (P : Packet → Type 0)
     → ((place : Place) (now : List Place) (sent : List Packet) → Q place → Goes place now sent → AllByRecursion R now × AllByRecursion P sent)
     → (before after : List Place) (sent : List Packet) → AllByRecursion Q before → AllGo Goes before after sent
     → AllByRecursion R after × AllByRecursion P sent
-all_go_on Goes Q R P step [] after sent q t = (subst (AllByRecursion R) (sym t.0) tt, subst (AllByRecursion P) (sym t.1) tt)
-all_go_on Goes Q R P step (place ∷ places) after sent q (now, later, first, others, places_are, sent_is, goes, rest) =
+all_proceed Goes Q R P step [] after sent q t = (subst (AllByRecursion R) (sym t.0) tt, subst (AllByRecursion P) (sym t.1) tt)
+all_proceed Goes Q R P step (place ∷ places) after sent q (now, later, first, others, places_are, sent_is, goes, rest) =
     let here = step place now first q.0 goes in
-    let there = all_go_on Goes Q R P step places later others q.1 rest in (
+    let there = all_proceed Goes Q R P step places later others q.1 rest in (
       subst (AllByRecursion R) (sym places_are) (all_append R now later here.0 there.0),
       subst (AllByRecursion P) (sym sent_is) (all_append P first others here.1 there.1),
     )
@@ -127,22 +127,22 @@ all_flat R P f [] g a = tt
 all_flat R P f (x ∷ xs) g a = all_append P (f x) (flat_map f xs) (g x a.0) (all_flat R P f xs g a.1)
 
 pub asks_so : (node : Node) (input : Input) (R : Place → Type 0) (P : Packet → Type 0)
-    → ((numbers : Numbers) (timestamping : Timestamping) → R (Opens numbers timestamping) → P (told_by node.boot (OpenMsg numbers))) → (place : Place) → R place → AllByRecursion P (opens_at node input place)
+    → ((numbers : Numbers) (timestamping : Timestamping) → R (Opens numbers timestamping) → P (reported_by node.boot (OpenMsg numbers))) → (place : Place) → R place → AllByRecursion P (opens_at node input place)
 asks_so node input R P asks (Opens numbers timestamping) r =
-    holds_if (AllByRecursion P) (is_asked node input numbers) (told_by node.boot (OpenMsg numbers) ∷ []) [] (λ t. (asks numbers timestamping r, tt)) (λ t. tt)
+    holds_if (AllByRecursion P) (is_asked node input numbers) (reported_by node.boot (OpenMsg numbers) ∷ []) [] (λ t. (asks numbers timestamping r, tt)) (λ t. tt)
 asks_so node input R P asks (Lives p) r = tt
 asks_so node input R P asks (Ended key) r = tt
 
 -- the same of a whole turn of a server that serves
-pub serving_goes_on : {State : Type 0} (service : Machine State) (node : Node) (input : Input) (opened : ℕ) (Q R : Place → Type 0) (P : Packet → Type 0)
+pub serving_proceeds : {State : Type 0} (service : Machine State) (node : Node) (input : Input) (opened : ℕ) (Q R : Place → Type 0) (P : Packet → Type 0)
     (before after : List Place) (sent : List Packet)
     → ((place : Place) (now : List Place) (sent : List Packet) → Q place → PlaceWent service node input place now sent → AllByRecursion R now × AllByRecursion P sent)
     → AllByRecursion R (newcomers node input opened before) → AllByRecursion P (refusals node input before)
-    → ((numbers : Numbers) (timestamping : Timestamping) → R (Opens numbers timestamping) → P (told_by node.boot (OpenMsg numbers)))
+    → ((numbers : Numbers) (timestamping : Timestamping) → R (Opens numbers timestamping) → P (reported_by node.boot (OpenMsg numbers)))
     → AllByRecursion Q before → ServingTurn service node input opened before after sent
     → AllByRecursion R after × AllByRecursion P sent
-serving_goes_on service node input opened Q R P before after sent step fresh rsts asks q t =
-    let went = all_go_on (PlaceTurn service node input) Q R P
+serving_proceeds service node input opened Q R P before after sent step fresh rsts asks q t =
+    let went = all_proceed (PlaceTurn service node input) Q R P
     (λ place now some h turn. step place now some h (place_went service node input place now some turn)) before t.went t.by_places q t.all_go in
     let places : AllByRecursion R after = subst (AllByRecursion R) (sym t.places) (all_append R t.went (newcomers node input opened before) went.0 fresh) in (
       places,

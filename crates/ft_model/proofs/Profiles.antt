@@ -36,10 +36,10 @@ use Rattle.ft_model.proofs.Stamped.{stays_off}
 use Rattle.ft_model.proofs.Lists.{none_is_some, some_is, all_of, all_weaker, all_append}
 use Rattle.ft_model.proofs.StageTurns.{StageWent, stage_went, either_turn}
 use Rattle.ft_model.proofs.StageTurns.StageWent.{was_fenced, waited, held_off, asked_on, resumed, served}
-use Rattle.ft_model.proofs.PlaceTurns.{PlaceWent, all_go_on, serving_goes_on}
+use Rattle.ft_model.proofs.PlaceTurns.{PlaceWent, all_proceed, serving_proceeds}
 use Rattle.ft_model.proofs.PlaceTurns.PlaceWent.{stayed, went_on, began, dropped, ended, refused}
 use Rattle.ft_model.proofs.Happened.{Happened, holds_after}
-use Rattle.ft_model.proofs.Happened.Happened.{log_heard, client_heard, client_moved, server_turned, server_booted, server_down}
+use Rattle.ft_model.proofs.Happened.Happened.{log_received, client_received, client_moved, server_turned, server_booted, server_down}
 
 -- one turn: whether the timing measures, ..
 acknowledged_measures : (units : ℕ) (t : Timing) → (with_acknowledged units t).measures ≡ t.measures
@@ -233,11 +233,11 @@ stage_keeps service node input sent after h (held_off count fetched segment b e 
 stage_keeps service node input sent after h (asked_on count fetched p e s) = subst (StageHas node.profile) (sym e) tt
 stage_keeps service node input sent after h (resumed count fetched places p none e t) =
     subst (StageHas node.profile) (sym e)
-    (all_go_on (Revives service node) (PlaceHas node.profile) (PlaceHas node.profile) Anything (revived_keeps service node) (all_restored service node.profile fetched) places sent
+    (all_proceed (Revives service node) (PlaceHas node.profile) (PlaceHas node.profile) Anything (revived_keeps service node) (all_restored service node.profile fetched) places sent
     (restored_have service node.profile fetched) t).0
 stage_keeps service node input sent after h (served opened places later b e t) =
     subst (StageHas node.profile) (sym e)
-    (serving_goes_on service node input opened (PlaceHas node.profile) (PlaceHas node.profile) Anything places later sent (place_keeps service node input)
+    (serving_proceeds service node input opened (PlaceHas node.profile) (PlaceHas node.profile) Anything places later sent (place_keeps service node input)
     (new_have node input opened places) (any_packets (refusals node input places)) (λ numbers s r. tt) (subst (StageHas node.profile) b h) t).0
 
 -- whole traces
@@ -252,24 +252,24 @@ turned_keeps service profile node later input sent h t =
     stage_keeps service node input sent later.stage (subst (λ x. StageHas x node.stage) (sym h.0) h.1) (stage_went service node later input sent t) in
     (t.profile ∙ h.0, subst (λ x. StageHas x later.stage) h.0 stage)
 
-profile_goes_on : {State : Type 0} (service : Machine State) (profile : Profile) (before : World) (sent : List Packet) (after : World)
+profile_proceeds : {State : Type 0} (service : Machine State) (profile : Profile) (before : World) (sent : List Packet) (after : World)
     → KeepsProfile profile before → Happened service before sent after → KeepsProfile profile after
-profile_goes_on service profile before sent after k (log_heard message under s e) = subst (KeepsProfile profile) (sym e) (record { world = k.world; node = k.node })
-profile_goes_on service profile before sent after k (client_heard segment under s e) = subst (KeepsProfile profile) (sym e) (record { world = k.world; node = k.node })
-profile_goes_on service profile before sent after k (client_moved number m) = subst (KeepsProfile profile) (sym m.after_is) (record { world = k.world; node = k.node })
-profile_goes_on service profile before sent after k (server_turned input node later brought up turn e) =
+profile_proceeds service profile before sent after k (log_received message under s e) = subst (KeepsProfile profile) (sym e) (record { world = k.world; node = k.node })
+profile_proceeds service profile before sent after k (client_received segment under s e) = subst (KeepsProfile profile) (sym e) (record { world = k.world; node = k.node })
+profile_proceeds service profile before sent after k (client_moved number m) = subst (KeepsProfile profile) (sym m.after_is) (record { world = k.world; node = k.node })
+profile_proceeds service profile before sent after k (server_turned input node later brought up turn e) =
     subst (KeepsProfile profile) (sym e)
     (record {
       world = k.world;
       node = λ n g. subst (λ x. (x.profile ≡ profile) × StageHas profile x.stage) (some_is later n g) (turned_keeps service profile node later input sent (k.node node up) turn);
     })
-profile_goes_on service profile before sent after k (server_booted boot isn down larger s e) =
+profile_proceeds service profile before sent after k (server_booted boot isn down larger s e) =
     subst (KeepsProfile profile) (sym e)
     (record {
       world = k.world;
       node = λ n g. subst (λ x. (x.profile ≡ profile) × StageHas profile x.stage) (some_is (booted before.server before.profile boot isn) n g) (k.world, tt);
     })
-profile_goes_on service profile before sent after k (server_down s e) =
+profile_proceeds service profile before sent after k (server_down s e) =
     subst (KeepsProfile profile) (sym e) (record { world = k.world; node = λ n g. none_is_some n g })
 
 points_have : (profile : Profile) (places : List Place) → AllByRecursion (PlaceHas profile) places → AllByRecursion (HasProfile profile) (points_in places)
@@ -289,14 +289,14 @@ pub profile_after : {State : Type 0} (service : Machine State) (start : World) (
 profile_after service start trace node j up =
     let k = holds_after service (KeepsProfile start.profile) start
     (λ s. record { world = refl; node = λ n e. none_is_some n (sym s.node ∙ e) })
-    (λ before sent after h x. profile_goes_on service start.profile before sent after h x) trace j in
+    (λ before sent after h x. profile_proceeds service start.profile before sent after h x) trace j in
     let n = k.node node up in (n.0, stage_points start.profile node.stage n.1)
 
 -- a world's profile is the start's
 pub profile_stays : {State : Type 0} (service : Machine State) (start : World) (trace : List Moment) → Joint service start trace → (world_after start trace).profile ≡ start.profile
 profile_stays service start trace j =
     (holds_after service (KeepsProfile start.profile) start (λ s. record { world = refl; node = λ n e. none_is_some n (sym s.node ∙ e) })
-    (λ before sent after h x. profile_goes_on service start.profile before sent after h x) trace j).world
+    (λ before sent after h x. profile_proceeds service start.profile before sent after h x) trace j).world
 
 -- the timing of a plain server's connections
 pub plain_after : {State : Type 0} (service : Machine State) (start : World) (trace : List Moment) (node : Node) → Joint service start trace

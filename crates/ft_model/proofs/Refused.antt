@@ -20,7 +20,7 @@ use Rattle.ft_model.proofs.LogAnswers.{LogWent, all_answers}
 use Rattle.ft_model.proofs.LogAnswers.LogWent.{ignored, raised, changed}
 use Rattle.ft_model.proofs.Happened.{answers}
 use Rattle.ft_model.proofs.Fenced.{is_change}
-use Rattle.ft_model.proofs.Fetching.{on_some, chosen_some, told_last}
+use Rattle.ft_model.proofs.Fetching.{on_some, chosen_some, reported_last}
 use Rattle.ft_model.proofs.Resumed.{length_map}
 use Rattle.ft_model.proofs.Asked.{entry_keys, keys_stay, map_more}
 use Rattle.ft_io.proofs.Choices.{holds_if}
@@ -159,29 +159,29 @@ full_says log after n None answer c f t =
     subst (BodySays after) (some_is _ _ t) (none, shut)
 
 -- what the log tells
-told_says : (body : Body) (log after : Log) (answer : Body) → (is_change body ≡ true → after ≡ with_body body log) → answer_from body after ≡ Some answer → BodySays after answer
-told_says (OpenMsg n) log after answer c t = full_says log after n (entry_of n.key after) answer (c refl) refl t
-told_says (DoneMsg key) log after answer c t = ended_says log after key answer (c refl) t
-told_says HelloMsg log after answer c t = subst (BodySays after) (some_is _ _ t) tt
-told_says (DataMsg part) log after answer c t =
-    let o = on_some (entry_of part.key after) (λ e. Some (StableMsg (kept_of e))) answer (told_last part.more _ answer t) in subst (BodySays after) (some_is _ _ o.2) tt
-told_says (ReadMsg key index n) log after answer c t =
+reported_says : (body : Body) (log after : Log) (answer : Body) → (is_change body ≡ true → after ≡ with_body body log) → answer_from body after ≡ Some answer → BodySays after answer
+reported_says (OpenMsg n) log after answer c t = full_says log after n (entry_of n.key after) answer (c refl) refl t
+reported_says (DoneMsg key) log after answer c t = ended_says log after key answer (c refl) t
+reported_says HelloMsg log after answer c t = subst (BodySays after) (some_is _ _ t) tt
+reported_says (DataMsg part) log after answer c t =
+    let o = on_some (entry_of part.key after) (λ e. Some (StableMsg (kept_of e))) answer (reported_last part.more _ answer t) in subst (BodySays after) (some_is _ _ o.2) tt
+reported_says (ReadMsg key index n) log after answer c t =
     let o = on_some (entry_of key after) (λ e. Some (ReadsMsg (kept_of e))) answer t in subst (BodySays after) (some_is _ _ o.2) tt
-told_says (ListMsg index) log after answer c t =
+reported_says (ListMsg index) log after answer c t =
     let o = on_some (slice_get after.entries index) (λ e. Some (EntryMsg index (head_of e))) answer t in subst (BodySays after) (some_is _ _ o.2) tt
-told_says (BytesMsg key offset) log after answer c t =
+reported_says (BytesMsg key offset) log after answer c t =
     let o = on_some (entry_of key after) (λ e. part_of e offset) answer t in
     subst (BodySays after) (chosen_some (nat_lt offset (length o.0.bytes)) (PartMsg o.0.key offset (take 1024 (drop offset o.0.bytes))) answer o.2) tt
-told_says (CutsMsg key first) log after answer c t =
+reported_says (CutsMsg key first) log after answer c t =
     let o = on_some (entry_of key after) (λ e. lens_of e first) answer t in
     subst (BodySays after) (chosen_some (nat_lt first (length o.0.lengths)) (LensMsg o.0.key first (take 512 (drop first o.0.lengths))) answer o.2) tt
-told_says _ log after answer c t = none_is_some answer t
+reported_says _ log after answer c t = none_is_some answer t
 
 pub answers_say : (log : Log) (message : Message) → AllByRecursion (Says (log_after log message)) (answers log message)
 answers_say log message =
     all_answers (Says (log_after log message)) log message
     (λ body a. ⊎_elim (λ s. subst (BodySays (log_after log message)) (sym s) tt)
-    (λ o. told_says message.body log (log_after log message) body (λ c. changes log message c o.0) o.1) a)
+    (λ o. reported_says message.body log (log_after log message) body (λ c. changes log message c o.0) o.1) a)
 
 -- a RST goes to a key that is done, or that the log never takes: so it stays
 abbrev pub ResetsEnded : Log → Packet → Type 0

@@ -28,7 +28,7 @@ use Rattle.ft_model.proofs.ReportParts.{address_same}
 use Rattle.ft_model.proofs.ReportContent.{lit, word_key, word_encoded}
 use Rattle.ft_model.proofs.ReportPackets.{key_same}
 use Rattle.ft_model.proofs.ReportLines.{mark, verb, line_cut, numbered_cut, numbered_then}
-use Rattle.ft_model.proofs.ReportTurns.{NoPacket, NoEvent, Telling, lines_of, events_lead}
+use Rattle.ft_model.proofs.ReportTurns.{NoPacket, NoEvent, Reporting, lines_of, events_lead}
 
 -- services and scripts
 word_service : (k : ServiceKind) → IsWord (service_text k)
@@ -339,23 +339,23 @@ pub closing_ends : (w : World) (n : ℕ) → IsClosing (closing_lines w n)
 closing_ends w n = ends w.clients w.log.entries n
 
 -- after the header stands an event's line, or how the run ends
-pub no_client : {Turn Told : Type 0} (by : Telling Turn Told) (turns : List Turn) (r : List ℕ) → NoClient r → NoClient (lines_of by turns ++ r)
+pub no_client : {Turn Reported : Type 0} (by : Reporting Turn Reported) (turns : List Turn) (r : List ℕ) → NoClient r → NoClient (lines_of by turns ++ r)
 no_client by [] r h = h
 no_client by (m ∷ earlier) r h = let at = events_lead by m earlier r in other_mark (lines_of by (m ∷ earlier) ++ r) (λ f. omega (arith, at, f))
 
-pub no_profile : {Turn Told : Type 0} (by : Telling Turn Told) (turns : List Turn) (r : List ℕ) → NoProfile r → NoProfile (lines_of by turns ++ r)
+pub no_profile : {Turn Reported : Type 0} (by : Reporting Turn Reported) (turns : List Turn) (r : List ℕ) → NoProfile r → NoProfile (lines_of by turns ++ r)
 no_profile by [] r h = h
 no_profile by (m ∷ earlier) r h = let at = events_lead by m earlier r in λ f. omega (arith, at, f)
 
-pub no_twin : {Turn Told : Type 0} (by : Telling Turn Told) (turns : List Turn) (r : List ℕ) → NoTwin r → NoTwin (lines_of by turns ++ r)
+pub no_twin : {Turn Reported : Type 0} (by : Reporting Turn Reported) (turns : List Turn) (r : List ℕ) → NoTwin r → NoTwin (lines_of by turns ++ r)
 no_twin by [] r h = h
 no_twin by (m ∷ earlier) r h = let at = events_lead by m earlier r in λ f. omega (arith, at, f)
 
-pub no_marks : {Turn Told : Type 0} (by : Telling Turn Told) (turns : List Turn) (r : List ℕ) → NoMarks r → NoMarks (lines_of by turns ++ r)
+pub no_marks : {Turn Reported : Type 0} (by : Reporting Turn Reported) (turns : List Turn) (r : List ℕ) → NoMarks r → NoMarks (lines_of by turns ++ r)
 no_marks by [] r h = h
 no_marks by (m ∷ earlier) r h = let at = events_lead by m earlier r in λ f. omega (arith, at, f)
 
-pub no_lasting : {Turn Told : Type 0} (by : Telling Turn Told) (turns : List Turn) (r : List ℕ) → NoLasting r → NoLasting (lines_of by turns ++ r)
+pub no_lasting : {Turn Reported : Type 0} (by : Reporting Turn Reported) (turns : List Turn) (r : List ℕ) → NoLasting r → NoLasting (lines_of by turns ++ r)
 no_lasting by [] r h = h
 no_lasting by (m ∷ earlier) r h = let at = events_lead by m earlier r in λ f. omega (arith, at, f)
 

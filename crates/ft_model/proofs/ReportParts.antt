@@ -183,12 +183,12 @@ weight_of_dash : (t : List ℕ) → sum_by weight (or_dash t) ≡ sum_by weight 
 weight_of_dash [] = refl
 weight_of_dash (x ∷ t) = ap (sum_by weight) (or_dash_cons x t)
 
-flags_told : (flags : ℕ) → flags < 256 → sum_by weight (flags_text flags) ≡ flags
+flags_reported : (flags : ℕ) → flags < 256 → sum_by weight (flags_text flags) ≡ flags
 unfolding flags_text
-flags_told flags h = weight_of_dash (flag_letters flags) ∙ weight_of_letters flags h
+flags_reported flags h = weight_of_dash (flag_letters flags) ∙ weight_of_letters flags h
 
 pub flags_same : (m n : ℕ) → m < 256 → n < 256 → flags_text m ≡ flags_text n → m ≡ n
-flags_same m n p q e = sym (flags_told m p) ∙ ap (sum_by weight) e ∙ flags_told n q
+flags_same m n p q e = sym (flags_reported m p) ∙ ap (sum_by weight) e ∙ flags_reported n q
 
 first_letter : List ℕ → ℕ
 first_letter [] = 0

@@ -10,7 +10,7 @@ use Rattle.seq_arith.specs.Message.Body.{HelloMsg, SummaryMsg, ListMsg, EntryMsg
 use Rattle.seq_arith.specs.MessageGrammar.{fields_of, kind_of, numbers_of, behind_of, lens_of, is_sound_by, AllFit}
 use Rattle.server_trait.specs.Service.{AreBytes}
 use Rattle.seq_arith.specs.declared.kinds.Grammar.{Grammar}
-use Rattle.ft_model.specs.Wire.{CanBeSent, CanBeToldBy}
+use Rattle.ft_model.specs.Wire.{CanBeSent, CanBeWrittenBy}
 use Rattle.ft_model.specs.Readable.{FitsU64, FitsOption, FitsKey}
 use Rattle.ft_model.proofs.Formed.{bytes_of_all}
 
@@ -102,9 +102,9 @@ body_fits (EndedMsg key) h b l = (h.0, h.1.0)
 body_fits (StaleMsg newer) h b l = omega (arith, h.0)
 body_fits (FullMsg key) h b l = (h.0, h.1.0)
 
-lens_sound : (grammar : Grammar) (m : Message) → CanBeToldBy grammar m → list_all (λ len. nat_le len 2048) (lens_of m.body) ≡ true
+lens_sound : (grammar : Grammar) (m : Message) → CanBeWrittenBy grammar m → list_all (λ len. nat_le len 2048) (lens_of m.body) ≡ true
 unfolding is_sound_by
 lens_sound grammar m h = (and_parts _ (list_all (λ len. nat_le len 2048) (lens_of m.body)) h.0.sound).1
 
-pub message_fits : (grammar : Grammar) (m : Message) → CanBeToldBy grammar m → FitsU64 m.boot × FitsBody m.body
+pub message_fits : (grammar : Grammar) (m : Message) → CanBeWrittenBy grammar m → FitsU64 m.boot × FitsBody m.body
 message_fits grammar m h = (omega (arith, h.0.boot), body_fits m.body h.0.numbers h.1 (lens_sound grammar m h))

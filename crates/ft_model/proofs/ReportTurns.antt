@@ -20,35 +20,35 @@ no_packet : (text : List ℕ) → IsEvent text → NoPacket text
 no_packet text e f = omega (arith, e, f)
 
 -- how turns are written, and what is told of them
-pub record Telling (Turn Told : Type 0) : Type 0 where
+pub record Reporting (Turn Reported : Type 0) : Type 0 where
   pub event_in : Turn → Event
-  pub told : Turn → Told
-  pub count : Told → ℕ  -- how many packets it sent
+  pub reported : Turn → Reported
+  pub count : Reported → ℕ  -- how many packets it sent
   pub sent_lines : ℕ → Turn → List ℕ  -- the lines of its packets, numbered from a number on
 
 -- how many packets were sent
-abbrev pub sent_in : {Turn Told : Type 0} → Telling Turn Told → List Turn → ℕ
+abbrev pub sent_in : {Turn Reported : Type 0} → Reporting Turn Reported → List Turn → ℕ
 sent_in by [] = 0
-sent_in by (m ∷ earlier) = sent_in by earlier + by.count (by.told m)
+sent_in by (m ∷ earlier) = sent_in by earlier + by.count (by.reported m)
 
 -- the lines of turns, newest turn first
-abbrev pub lines_of : {Turn Told : Type 0} → Telling Turn Told → List Turn → List ℕ
+abbrev pub lines_of : {Turn Reported : Type 0} → Reporting Turn Reported → List Turn → List ℕ
 lines_of by [] = []
 lines_of by (m ∷ earlier) = lines_of by earlier ++ (event_line (length earlier + 1) (by.event_in m) ++ by.sent_lines (sent_in by earlier + 1) m)
 
-module _ {Turn Told : Type 0} (by : Telling Turn Told) where
+module _ {Turn Reported : Type 0} (by : Reporting Turn Reported) where
   -- what turns tell
-  count_in : List Told → ℕ
+  count_in : List Reported → ℕ
   count_in [] = 0
   count_in (turn ∷ turns) = count_in turns + by.count turn
 
-  count_told : (turns : List Turn) → sent_in by turns ≡ count_in (map by.told turns)
+  count_reported : (turns : List Turn) → sent_in by turns ≡ count_in (map by.reported turns)
   unfolding count_in
-  count_told [] = refl
-  count_told (m ∷ earlier) = ap (λ n. n + by.count (by.told m)) (count_told earlier)
+  count_reported [] = refl
+  count_reported (m ∷ earlier) = ap (λ n. n + by.count (by.reported m)) (count_reported earlier)
 
-  count_same : (turns also : List Turn) → map by.told turns ≡ map by.told also → sent_in by turns ≡ sent_in by also
-  count_same turns also e = count_told turns ∙ (ap count_in e ∙ sym (count_told also))
+  count_same : (turns also : List Turn) → map by.reported turns ≡ map by.reported also → sent_in by turns ≡ sent_in by also
+  count_same turns also e = count_reported turns ∙ (ap count_in e ∙ sym (count_reported also))
 
   -- the lines of the newest turn come after those of the others
   turn_lines : Turn → List Turn → List ℕ → List ℕ
@@ -74,42 +74,42 @@ module _ {Turn Told : Type 0} (by : Telling Turn Told) where
   events_lead m earlier r = ap mark (newest_last m earlier r) ∙ event_first earlier (turn_lines m earlier r) (turn_mark m earlier r)
 
   -- how the packet lines of a turn are told, of turns that have a property
-  abbrev pub TellsPackets : (List Turn → Type 0) → Type 0
-  TellsPackets P =
+  abbrev pub ReportsPackets : (List Turn → Type 0) → Type 0
+  ReportsPackets P =
       (m n : Turn) (earlier older : List Turn) (k : ℕ) (r s : List ℕ) → P (m ∷ earlier) → P (n ∷ older)
-      → map by.told earlier ≡ map by.told older → by.event_in m ≡ by.event_in n → NoPacket r → NoPacket s
-      → by.sent_lines k m ++ r ≡ by.sent_lines k n ++ s → (by.told m ≡ by.told n) × (r ≡ s)
+      → map by.reported earlier ≡ map by.reported older → by.event_in m ≡ by.event_in n → NoPacket r → NoPacket s
+      → by.sent_lines k m ++ r ≡ by.sent_lines k n ++ s → (by.reported m ≡ by.reported n) × (r ≡ s)
 
   abbrev pub HasFront : (List Turn → Type 0) → Type 0
   HasFront P = (m : Turn) (earlier : List Turn) → P (m ∷ earlier) → P earlier × FitsEvent (by.event_in m)
 
-  newest_cut : (P : List Turn → Type 0) → HasFront P → TellsPackets P
-      → (m n : Turn) (earlier older : List Turn) (r s : List ℕ) → P (m ∷ earlier) → P (n ∷ older) → length earlier ≡ length older → map by.told earlier ≡ map by.told older
-      → NoPacket r → NoPacket s → turn_lines m earlier r ≡ turn_lines n older s → (map by.told (m ∷ earlier) ≡ map by.told (n ∷ older)) × (r ≡ s)
+  newest_cut : (P : List Turn → Type 0) → HasFront P → ReportsPackets P
+      → (m n : Turn) (earlier older : List Turn) (r s : List ℕ) → P (m ∷ earlier) → P (n ∷ older) → length earlier ≡ length older → map by.reported earlier ≡ map by.reported older
+      → NoPacket r → NoPacket s → turn_lines m earlier r ≡ turn_lines n older s → (map by.reported (m ∷ earlier) ≡ map by.reported (n ∷ older)) × (r ≡ s)
   unfolding turn_lines
-  newest_cut P front tells m n earlier older r s p q size same nr ns e =
+  newest_cut P front reports m n earlier older r s p q size same nr ns e =
       let count : sent_in by earlier ≡ sent_in by older = count_same earlier older same in
       let numbered : event_line (length earlier + 1) (by.event_in m) ++ (by.sent_lines (sent_in by earlier + 1) m ++ r)
       ≡ event_line (length earlier + 1) (by.event_in n) ++ (by.sent_lines (sent_in by earlier + 1) n ++ s) =
       e ∙ ap₂ (λ j k. event_line (j + 1) (by.event_in n) ++ (by.sent_lines (k + 1) n ++ s)) (sym size) (sym count) in
       let event : (by.event_in m ≡ by.event_in n) × (by.sent_lines (sent_in by earlier + 1) m ++ r ≡ by.sent_lines (sent_in by earlier + 1) n ++ s) =
       event_cut (length earlier + 1) (by.event_in m) (by.event_in n) _ _ (front m earlier p).1 (front n older q).1 numbered in
-      let packets : (by.told m ≡ by.told n) × (r ≡ s) = tells m n earlier older (sent_in by earlier + 1) r s p q same event.0 nr ns event.1 in
+      let packets : (by.reported m ≡ by.reported n) × (r ≡ s) = reports m n earlier older (sent_in by earlier + 1) r s p q same event.0 nr ns event.1 in
       (ap₂ (λ x l. x ∷ l) packets.0 same, packets.1)
 
   -- as many turns
-  same_length : (P : List Turn → Type 0) → HasFront P → TellsPackets P → (turns also : List Turn) (r s : List ℕ) → P turns → P also → length turns ≡ length also → NoPacket r → NoPacket s
-      → lines_of by turns ++ r ≡ lines_of by also ++ s → (map by.told turns ≡ map by.told also) × (r ≡ s)
-  same_length P front tells [] [] r s p q size nr ns e = (refl, e)
-  same_length P front tells [] (n ∷ older) r s p q size nr ns e = absurd (omega (arith, size))
-  same_length P front tells (m ∷ earlier) [] r s p q size nr ns e = absurd (omega (arith, size))
-  same_length P front tells (m ∷ earlier) (n ∷ older) r s p q size nr ns e =
+  same_length : (P : List Turn → Type 0) → HasFront P → ReportsPackets P → (turns also : List Turn) (r s : List ℕ) → P turns → P also → length turns ≡ length also → NoPacket r → NoPacket s
+      → lines_of by turns ++ r ≡ lines_of by also ++ s → (map by.reported turns ≡ map by.reported also) × (r ≡ s)
+  same_length P front reports [] [] r s p q size nr ns e = (refl, e)
+  same_length P front reports [] (n ∷ older) r s p q size nr ns e = absurd (omega (arith, size))
+  same_length P front reports (m ∷ earlier) [] r s p q size nr ns e = absurd (omega (arith, size))
+  same_length P front reports (m ∷ earlier) (n ∷ older) r s p q size nr ns e =
       let less : length earlier ≡ length older = omega (arith, size) in
       let behind = sym (newest_last m earlier r) ∙ (e ∙ newest_last n older s) in
-      let before : (map by.told earlier ≡ map by.told older) × (turn_lines m earlier r ≡ turn_lines n older s) =
-      same_length P front tells earlier older (turn_lines m earlier r) (turn_lines n older s) (front m earlier p).0 (front n older q).0 less
+      let before : (map by.reported earlier ≡ map by.reported older) × (turn_lines m earlier r ≡ turn_lines n older s) =
+      same_length P front reports earlier older (turn_lines m earlier r) (turn_lines n older s) (front m earlier p).0 (front n older q).0 less
       (no_packet (turn_lines m earlier r) (turn_mark m earlier r)) (no_packet (turn_lines n older s) (turn_mark n older s)) behind in
-      newest_cut P front tells m n earlier older r s p q less before.0 nr ns before.1
+      newest_cut P front reports m n earlier older r s p q less before.0 nr ns before.1
 
   -- where there are more turns, an event's line comes after the others
   abbrev Further : List Turn → List Turn → List ℕ → Type 0
@@ -131,10 +131,10 @@ module _ {Turn Told : Type 0} (by : Telling Turn Told) where
   older_has P front [] older p = p
   older_has P front (m ∷ later) older p = older_has P front later older (front m (later ++ older) p).0
 
-  not_longer : (P : List Turn → Type 0) → HasFront P → TellsPackets P
+  not_longer : (P : List Turn → Type 0) → HasFront P → ReportsPackets P
       → (turns also : List Turn) (r s : List ℕ) → P turns → P also → NoPacket r → NoEvent r
       → lines_of by turns ++ r ≡ lines_of by also ++ s → length turns < length also → ⊥
-  not_longer P front tells turns also r s p q nr none e longer =
+  not_longer P front reports turns also r s p q nr none e longer =
       let more : ℕ = length also - length turns in
       let later : List Turn = take more also in
       let older : List Turn = drop more also in
@@ -144,15 +144,15 @@ module _ {Turn Told : Type 0} (by : Telling Turn Told) where
       let some : 0 < length later = omega (arith, longer, taken) in
       let past = one_further later older s some in
       let both : lines_of by turns ++ r ≡ lines_of by older ++ past.0 = e ∙ (ap (λ l. lines_of by l ++ s) (sym whole) ∙ past.1) in
-      let same = same_length P front tells turns older r past.0 p (older_has P front later older (subst P (sym whole) q)) size nr (no_packet past.0 past.2) both in
+      let same = same_length P front reports turns older r past.0 p (older_has P front later older (subst P (sym whole) q)) size nr (no_packet past.0 past.2) both in
       none (ap mark same.1 ∙ past.2)
 
   -- lines of turns, up to one that is neither an event's nor a packet's, tell the turns
-  pub turns_same : (P : List Turn → Type 0) → HasFront P → TellsPackets P
+  pub turns_same : (P : List Turn → Type 0) → HasFront P → ReportsPackets P
       → (turns also : List Turn) (r s : List ℕ) → P turns → P also → NoPacket r → NoEvent r → NoPacket s → NoEvent s
-      → lines_of by turns ++ r ≡ lines_of by also ++ s → (map by.told turns ≡ map by.told also) × (r ≡ s)
-  turns_same P front tells turns also r s p q nr er ns es e =
-      ⊎_elim (λ size. same_length P front tells turns also r s p q size nr ns e)
-      (λ other. absurd (⊎_elim (λ less. not_longer P front tells turns also r s p q nr er e less)
-      (λ more. not_longer P front tells also turns s r q p ns es (sym e) more) other))
+      → lines_of by turns ++ r ≡ lines_of by also ++ s → (map by.reported turns ≡ map by.reported also) × (r ≡ s)
+  turns_same P front reports turns also r s p q nr er ns es e =
+      ⊎_elim (λ size. same_length P front reports turns also r s p q size nr ns e)
+      (λ other. absurd (⊎_elim (λ less. not_longer P front reports turns also r s p q nr er e less)
+      (λ more. not_longer P front reports also turns s r q p ns es (sym e) more) other))
       (cases_order (length turns) (length also))

@@ -30,8 +30,8 @@ use Rattle.ft_model.proofs.Grows.{log_grows}
 use Rattle.ft_model.proofs.Keys.{found_has_key}
 use Rattle.ft_model.proofs.LogAnswers.{log_went, all_answers}
 use Rattle.ft_model.proofs.Happened.{Happened, IsBrought, IsUnderWay, holds_after, answers}
-use Rattle.ft_model.proofs.Happened.Happened.{log_heard, client_heard, client_moved, server_turned, server_booted, server_down}
-use Rattle.ft_model.proofs.PlaceTurns.{all_go_on}
+use Rattle.ft_model.proofs.Happened.Happened.{log_received, client_received, client_moved, server_turned, server_booted, server_down}
+use Rattle.ft_model.proofs.PlaceTurns.{all_proceed}
 use Rattle.ft_model.proofs.StageTurns.{StageWent, stage_went}
 use Rattle.ft_model.proofs.StageTurns.StageWent.{was_fenced, waited, held_off, asked_on, resumed, served}
 use Rattle.ft_model.proofs.Fenced.{IsFenced, IsOurs, IsSegment, IsNoChange, is_change, turn_ours, was_restarting, all_opt}
@@ -45,9 +45,9 @@ use Rattle.ft_model.proofs.FaithfulOver.{IsHeadOf, heads_of, script_of, isn_of, 
 use Rattle.ft_model.proofs.Seen.{IsSeen}
 use Rattle.ft_model.proofs.Acknowledged.{start_is}
 use Rattle.ft_model.proofs.Running.{HasSmallOutputs}
-use Rattle.ft_model.proofs.JointMasked.{JointInvariant, start_sound, sound_goes_on}
+use Rattle.ft_model.proofs.JointMasked.{JointInvariant, start_sound, sound_proceeds}
 use Rattle.ft_model.proofs.Refused.{ResetsEnded, HasCaller, resets_later, caller_later, Says, KeysGo, keys_go, says_later, answers_say}
-use Rattle.ft_model.proofs.KnownKeys.{AsksFor, Asks, PlaceEnds, StageKnows, KnowsLog, stage_hears, IsPlain, connection_plain, input_says, input_calls, IsFair, plain_fair, Goes, knows_after, serving_knows}
+use Rattle.ft_model.proofs.KnownKeys.{AsksFor, Asks, PlaceEnds, StageKnows, KnowsLog, stage_receives, IsPlain, connection_plain, input_says, input_calls, IsFair, plain_fair, Goes, knows_after, serving_knows}
 use Rattle.ft_io.proofs.Choices.{holds_if}
 
 -- the turn that ends a restart
@@ -89,7 +89,7 @@ resuming_knows service log packets node count fetched places sent heads c a none
     let all : map key_of (all_restored service node.profile fetched) ≡ entry_keys log =
     full_front (map key_of (all_restored service node.profile fetched)) (entry_keys log) (restored_keys service node.profile log.entries fetched a) (omega (arith, one, two, three, whole.1, c)) in
     let same : map key_of places ≡ entry_keys log = revived_keys service node (all_restored service node.profile fetched) places sent t ∙ all in
-    let went = all_go_on (Revives service node) (PlaceEnds log) (PlaceEnds log) (IsPlain log) (revives_plain service log node) (all_restored service node.profile fetched) places sent
+    let went = all_proceed (Revives service node) (PlaceEnds log) (PlaceEnds log) (IsPlain log) (revives_plain service log node) (all_restored service node.profile fetched) places sent
     (restored_ends service node.profile log fetched heads) t in
     knows_after log packets node.boot places sent (all_weaker (IsNoChange node.boot) _ packets (quiet_asks node.boot (entry_keys log) places) quiet)
     (λ key h. ap (has_key key) same ∙ h) went.0 (all_weaker (IsPlain log) (IsFair log node.boot places) sent (plain_fair log node.boot places) went.1)
@@ -188,9 +188,9 @@ knowing_still w clients sent k s calls resets = record {
   stage = λ node e. stage_still w.log w.packets sent node.boot node.stage s (k.stage node e);
 }
 
-heard_knowing : (w : World) (message : Message) → IsFenced w → KnowsLog w → IsUnderWay w (To_logger message)
+received_knowing : (w : World) (message : Message) → IsFenced w → KnowsLog w → IsUnderWay w (To_logger message)
     → KnowsLog (record w { log = log_after w.log message; packets = w.packets ++ answers w.log message })
-heard_knowing w message f k under =
+received_knowing w message f k under =
     let after : Log = log_after w.log message in
     let g : LogGrows w.log after = log_grows w.log message in
     let go : KeysGo w.log message after = keys_go w.log message after (log_went w.log message) in
@@ -201,7 +201,7 @@ heard_knowing w message f k under =
           (all_answers (HasCaller (entry_keys after)) w.log message (λ body a. tt));
       resets = all_append (ResetsEnded after) w.packets (answers w.log message)
           (all_weaker (ResetsEnded w.log) _ w.packets (resets_later w.log message after g go) k.resets) (all_answers (ResetsEnded after) w.log message (λ body a. tt));
-      stage = λ node e. stage_hears w message node node.stage under (f.node node e).logged (k.stage node e);
+      stage = λ node e. stage_receives w message node node.stage under (f.node node e).logged (k.stage node e);
     }
 
 turned_knowing : {State : Type 0} (service : Machine State) (script : Key → List ℕ) (isn : Key → ℕ) (w : World) (node later : Node) (input : Input) (sent : List Packet)
@@ -235,25 +235,25 @@ moved_knowing service start w number sent after o k m =
     (knowing_still w _ sent k (subst (AllByRecursion IsSegment) (sym m.sent_is) (tt, tt)) (subst (AllByRecursion (HasCaller (entry_keys w.log))) (sym m.sent_is) (calls, tt))
     (subst (AllByRecursion (ResetsEnded w.log)) (sym m.sent_is) (tt, tt)))
 
-pub knowing_goes_on : {State : Type 0} (service : Machine State) (start before : World) (sent : List Packet) (after : World)
+pub knowing_proceeds : {State : Type 0} (service : Machine State) (start before : World) (sent : List Packet) (after : World)
     → JointInvariant service start before → KnowsLog before → Happened service before sent after → KnowsLog after
-knowing_goes_on service start before sent after o k (log_heard message under s e) =
-    subst KnowsLog (sym (e ∙ ap (λ x. record before { log = log_after before.log message; packets = before.packets ++ x }) s)) (heard_knowing before message o.fenced k under)
-knowing_goes_on service start before sent after o k (client_heard segment under s e) =
+knowing_proceeds service start before sent after o k (log_received message under s e) =
+    subst KnowsLog (sym (e ∙ ap (λ x. record before { log = log_after before.log message; packets = before.packets ++ x }) s)) (received_knowing before message o.fenced k under)
+knowing_proceeds service start before sent after o k (client_received segment under s e) =
     subst KnowsLog (sym e)
     (knowing_still before _ sent k (subst (AllByRecursion IsSegment) (sym s) tt) (subst (AllByRecursion (HasCaller (entry_keys before.log))) (sym s) tt)
     (subst (AllByRecursion (ResetsEnded before.log)) (sym s) tt))
-knowing_goes_on service start before sent after o k (client_moved number m) = moved_knowing service start before number sent after o k m
-knowing_goes_on service start before sent after o k (server_turned input node later brought is turn e) =
+knowing_proceeds service start before sent after o k (client_moved number m) = moved_knowing service start before number sent after o k m
+knowing_proceeds service start before sent after o k (server_turned input node later brought is turn e) =
     subst KnowsLog (sym e) (turned_knowing service (script_of start) (isn_of start) before node later input sent o.fenced o.asked o.faithful k is brought turn)
-knowing_goes_on service start before sent after o k (server_booted boot isn down larger s e) =
+knowing_proceeds service start before sent after o k (server_booted boot isn down larger s e) =
     subst KnowsLog (sym e) (record {
       says = all_append (Says before.log) before.packets sent k.says (subst (AllByRecursion (Says before.log)) (sym s) (tt, tt));
       calls = all_append (HasCaller (entry_keys before.log)) before.packets sent k.calls (subst (AllByRecursion (HasCaller (entry_keys before.log))) (sym s) (tt, tt));
       resets = all_append (ResetsEnded before.log) before.packets sent k.resets (subst (AllByRecursion (ResetsEnded before.log)) (sym s) (tt, tt));
       stage = λ n g. subst (λ x. StageKnows before.log (before.packets ++ sent) x.boot x.stage) (some_is (booted before.server before.profile boot isn) n g) tt;
     })
-knowing_goes_on service start before sent after o k (server_down s e) =
+knowing_proceeds service start before sent after o k (server_down s e) =
     subst KnowsLog (sym e) (record {
       says = all_append (Says before.log) before.packets sent k.says (subst (AllByRecursion (Says before.log)) (sym s) tt);
       calls = all_append (HasCaller (entry_keys before.log)) before.packets sent k.calls (subst (AllByRecursion (HasCaller (entry_keys before.log))) (sym s) tt);
@@ -274,7 +274,7 @@ knowing_after : {State : Type 0} (service : Machine State) → HasSmallOutputs s
 knowing_after service small start trace j =
     let s : IsStart start = start_is service start trace j in
     holds_after service (λ w. JointInvariant service start w × KnowsLog w) start (λ x. (start_sound service small start x, start_knowing start x))
-    (λ before sent after o h. (sound_goes_on service small start before sent after s o.0 h, knowing_goes_on service start before sent after o.0 o.1 h)) trace j
+    (λ before sent after o h. (sound_proceeds service small start before sent after s o.0 h, knowing_proceeds service start before sent after o.0 o.1 h)) trace j
 
 none_logged : (log : Log) (key : Key) (o : Option Entry) → entry_of key log ≡ o → has_key key (entry_keys log) ≡ false → IfSome o (λ e. e.done ≡ true)
 none_logged log key (Some e) f h = absurd (true≢false (sym (found_has_key (λ x. x.key) key log.entries e f) ∙ h))

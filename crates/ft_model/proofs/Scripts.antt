@@ -25,7 +25,7 @@ use Rattle.ft_model.specs.Growth.{IsPrefix}
 use Rattle.ft_model.specs.Network.{Packet}
 use Rattle.ft_model.specs.Connection.{LiveTurn}
 use Rattle.ft_model.proofs.Lists.{take_first, prefix_trans}
-use Rattle.ft_model.proofs.Stands.{nothing_first, drop_prefix, part_stands, goes_on_all, take_nothing}
+use Rattle.ft_model.proofs.Stands.{nothing_first, drop_prefix, part_stands, proceeds_all, take_nothing}
 use Rattle.ft_model.proofs.Copied.{Grows, IsFurther, IsOf, HasForm, all_copies}
 use Rattle.ft_model.proofs.StreamAgreement.{Fronts, Says, int_same, comes_fits}
 use Rattle.ft_model.proofs.Running.{edge_grows}
@@ -224,7 +224,7 @@ entry_fits script isn part e p f =
     holds_if (EntryFits script isn) (e.fin || nat_lt (length e.bytes) part.offset) e _ (λ t. f)
     (λ t. let parts = or_parts e.fin (nat_lt (length e.bytes) part.offset) t in
     record {
-      front = goes_on_all part.offset e.bytes part.bytes script f.front p.stands (ltb-false _ _ parts.1);
+      front = proceeds_all part.offset e.bytes part.bytes script f.front p.stands (ltb-false _ _ parts.1);
       fin = λ k. absurd (true≢false (sym k ∙ parts.0));
       cisn = f.cisn;
     }) in

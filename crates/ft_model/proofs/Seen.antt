@@ -21,7 +21,7 @@ use Rattle.ft_model.proofs.Fetching.{full_front}
 use Rattle.ft_model.proofs.StreamAgreement.{Agrees, Fronts, Says, agrees_later, comes_fits}
 use Rattle.ft_model.proofs.Stands.{drop_prefix}
 use Rattle.tcp_rules.proofs.Coming.{fin_stays}
-use Rattle.ft_model.proofs.Services.{RunExtends, reads_go_on}
+use Rattle.ft_model.proofs.Services.{RunExtends, reads_proceed}
 use Rattle.ft_model.proofs.Authored.{CarriesOutput, logged_run}
 use Rattle.ft_io.proofs.Choices.{holds_if}
 
@@ -73,7 +73,7 @@ unknown_before key before after (Some x) g none found = let later = found_later 
 
 pub seen_later : {State : Type 0} (service : Machine State) (script : Key → List ℕ) (before after : Log) (c : Client) → LogGrows before after → IsSeen service script before c → IsSeen service script after c
 seen_later service script before after c g s =
-    let goes = reads_go_on service (script c.key) (logged_lengths c.key before) (logged_lengths c.key after) (logged_lengths_grow c.key before after g) in
+    let goes = reads_proceed service (script c.key) (logged_lengths c.key before) (logged_lengths c.key after) (logged_lengths_grow c.key before after g) in
     record {
       front = prefix_trans c.accepted (logged_run service script before c.key).output (logged_run service script after c.key).output s.front goes.output;
       ended = λ e. let x = s.ended e in let y = goes.closed x.0 in (y.1, x.1 ∙ sym y.0);

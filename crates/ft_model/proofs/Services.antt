@@ -51,8 +51,8 @@ pub more_reads : {State : Type 0} (service : Machine State) (bytes xs ys : List 
 unfolding reference
 more_reads service bytes xs ys = ap (fold_from service (begun service)) (cut_append bytes xs ys) ∙ fold_append service (begun service) (cut bytes xs) (cut (rest_of bytes xs) ys)
 
-pub reads_go_on : {State : Type 0} (service : Machine State) (bytes xs zs : List ℕ) → IsPrefix xs zs → RunExtends (reference service bytes xs) (reference service bytes zs)
-reads_go_on service bytes xs zs p =
+pub reads_proceed : {State : Type 0} (service : Machine State) (bytes xs zs : List ℕ) → IsPrefix xs zs → RunExtends (reference service bytes xs) (reference service bytes zs)
+reads_proceed service bytes xs zs p =
     subst (λ l. RunExtends (reference service bytes xs) (reference service bytes l)) p.1
     (subst (RunExtends (reference service bytes xs)) (sym (more_reads service bytes xs p.0)) (fold_goes service (reference service bytes xs) (cut (rest_of bytes xs) p.0)))
 
@@ -94,8 +94,8 @@ by_closed a b true e g =
     omega (arith, size, one)
 by_closed a b false e g = let low = prefix_length a.output b.output g.output in omega (arith, low)
 
-pub units_go_on : {State : Type 0} (a b : Run State) → RunExtends a b → length a.output + one_if a.closed ≤ length b.output + one_if b.closed
-units_go_on a b g = by_closed a b a.closed refl g
+pub units_proceed : {State : Type 0} (a b : Run State) → RunExtends a b → length a.output + one_if a.closed ≤ length b.output + one_if b.closed
+units_proceed a b g = by_closed a b a.closed refl g
 
 fed_small : {State : Type 0} (service : Machine State) (run : Run State) (chunk : List ℕ)
     → ((s : State) (chunk : List ℕ) → length chunk ≤ 2048 → length (service.after s chunk).output ≤ 2 ^ 20) → length chunk ≤ 2048

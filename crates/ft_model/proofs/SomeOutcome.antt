@@ -276,16 +276,16 @@ module _ {State : Type 0} (service : ℕ → Machine State) (small : (kind : ℕ
       let legal = more schedule played event trace c.0 c.1 l c.2 e c.3 in
       by_count schedule played event others trace c.0 c.1 is low legal (next c.0 c.1 legal) (nat_le (length c.1.packets) 200000) refl
 
-  goes_on_from : (schedule : Schedule) (events played : List Event) (trace : List Moment) → AllByRecursion FitsEvent events → schedule.events ≡ played ++ events
+  proceeds_from : (schedule : Schedule) (events played : List Event) (trace : List Moment) → AllByRecursion FitsEvent events → schedule.events ≡ played ++ events
       → IsLegalFor service schedule played trace → length (world_after (start_of schedule) trace).packets ≤ 200000 → HasOutcome service schedule
-  goes_on_from schedule [] played trace h is l low =
+  proceeds_from schedule [] played trace h is l low =
       inl (record { trace = trace; legal = subst (λ es. IsLegalFor service schedule es trace) (sym (is ∙ append-nil played)) l; within = low })
-  goes_on_from schedule (event ∷ others) played trace h is l low =
+  proceeds_from schedule (event ∷ others) played trace h is l low =
       by_refusal schedule played event others trace is low l h.0
       (λ sent after legal few.
-      goes_on_from schedule others (played ++ event ∷ []) (record { event = event; sent = sent; world = after } ∷ trace) h.1
+      proceeds_from schedule others (played ++ event ∷ []) (record { event = event; sent = sent; world = after } ∷ trace) h.1
       (is ∙ sym (append_assoc played (event ∷ []) others)) legal few)
       (refusal (world_after (start_of schedule) trace) event) refl
 
   pub has_outcome : (schedule : Schedule) → IsStart (start_of schedule) → AllByRecursion FitsEvent schedule.events → HasOutcome service schedule
-  has_outcome schedule s h = goes_on_from schedule schedule.events [] [] h refl (record { joint = s; events_are = refl; allowed = tt }) (omega arith)
+  has_outcome schedule s h = proceeds_from schedule schedule.events [] [] h refl (record { joint = s; events_are = refl; allowed = tt }) (omega arith)

@@ -15,7 +15,7 @@ use Rattle.ft_model.specs.Node.{Node, Place, Stage, Input}
 use Rattle.ft_model.specs.Node.Stage.{Asking, Fetching, Serving, Fenced}
 use Rattle.ft_model.specs.Node.Input.{Packet_comes, Message_comes, Noise_comes, Tick_comes}
 use Rattle.ft_model.specs.ServingTurn.{AllGo, newcomers, ServingTurn}
-use Rattle.ft_model.specs.Lawful.{Rests, Revives, Continues, Fetches, StageTurn, NodeTurn, LawfulTurn, all_restored, restored_count, hello, asked, held, fence, count_told, summary_count, fetched_then}
+use Rattle.ft_model.specs.Lawful.{Rests, Revives, Continues, Fetches, StageTurn, NodeTurn, LawfulTurn, all_restored, restored_count, hello, asked, held, fence, count_reported, summary_count, fetched_then}
 use Rattle.ft_model.specs.Masked.{is_restarting}
 use Rattle.ft_model.proofs.Lists.{none_is_some, some_is}
 use Rattle.ft_io.proofs.Choices.{some_if}
@@ -63,7 +63,7 @@ summary (SummaryMsg n) count e = ap SummaryMsg (some_is n count e)
 summary _ count e = none_is_some count e
 
 asks_so : {State : Type 0} (service : Machine State) (node : Node) (message : Message) (after : Stage) (sent : List Packet) (o : Option ℕ)
-    → node.stage ≡ Asking → (count_told node message) ≡ o → Asks service node o after sent
+    → node.stage ≡ Asking → (count_reported node message) ≡ o → Asks service node o after sent
     → StageWent service node (Message_comes message) sent after
 asks_so service node message after sent (Some count) s e t =
     let parts = some_if (message.boot == node.boot) (summary_count message.body) count e in
@@ -88,7 +88,7 @@ by_stage : {State : Type 0} (service : Machine State) (node : Node) (input : Inp
     → StageTurn service node stage input after sent → StageWent service node input sent after
 by_stage service node Tick_comes sent after Asking s t = waited (ap is_restarting s) (t.0 ∙ sym s) (inl t.1)
 by_stage service node (Message_comes message) sent after Asking s t =
-    asks_so service node message after sent (count_told node message) s refl t
+    asks_so service node message after sent (count_reported node message) s refl t
 by_stage service node input sent after Asking s t = waited (ap is_restarting s) (t.0 ∙ sym s) (inr (None, t.1, tt))
 by_stage service node Tick_comes sent after (Fetching count fetched) s t = waited (ap is_restarting s) (t.0 ∙ sym s) (inr (wanted count fetched, t.1, missing node count fetched (wanted count fetched) s refl))
 by_stage service node (Message_comes message) sent after (Fetching count fetched) s t =

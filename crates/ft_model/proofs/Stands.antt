@@ -22,9 +22,9 @@ part_stands n k offset part whole p =
     prefix_trans (take n (drop k part)) (drop k part) (drop (offset + k) whole) (take_first n (drop k part)) there
 
 -- a front, and what goes on from inside it, is a longer front
-pub goes_on_all : {A : Type 0} (offset : ℕ) (front part whole : List A) → IsPrefix front whole → IsPrefix part (drop offset whole) → offset ≤ length front
+pub proceeds_all : {A : Type 0} (offset : ℕ) (front part whole : List A) → IsPrefix front whole → IsPrefix part (drop offset whole) → offset ≤ length front
     → IsPrefix (front ++ drop (length front - offset) part) whole
-goes_on_all offset front part whole p q within =
+proceeds_all offset front part whole p q within =
     let at : offset + (length front - offset) ≡ length front = omega (arith, within) in
     join_front front (drop (length front - offset) part) whole p
     (subst (λ k. IsPrefix (drop (length front - offset) part) (drop k whole)) at

@@ -15,14 +15,14 @@ use Rattle.ft_model.specs.Answered.{answered_after, reads_answered_after}
 use Rattle.ft_model.specs.ResetAndEnd.{reset_after, dones}
 use Rattle.ft_model.specs.Opening.{is_syn, numbers_for, point_opened, timestamping_for}
 use Rattle.ft_model.specs.Refusal.{as_closed, full_rst}
-use Rattle.ft_model.specs.Connection.{ResetTurn, LiveTurn, told_by, sent_by}
+use Rattle.ft_model.specs.Connection.{ResetTurn, LiveTurn, reported_by, sent_by}
 use Rattle.ft_model.specs.Restart.{Fetched, Wanted, wanted, entry_in, point_of}
 use Rattle.ft_model.specs.Node.{Node, Place, Stage, Input, key_of, pending_count, CountsReads, AllCount}
 use Rattle.ft_model.specs.Node.Place.{Opens, Lives, Ended}
 use Rattle.ft_model.specs.Node.Stage.{Asking, Fetching, Serving, Fenced}
 use Rattle.ft_model.specs.Node.Input.{Packet_comes, Message_comes, Noise_comes, Tick_comes}
-use Rattle.ft_model.specs.ServingTurn.{Stays, LivesOn, Hears, Meets, PlaceTurn, concerns, AllGo, is_strange, newcomers, refusals, opens_at}
-use Rattle.ft_model.specs.Lawful.{hello, asked, held, restored, all_restored, restored_count, Revives, Continues, fetched_then, count_told, StageTurn, NodeTurn, LawfulTurn, fence, is_fenced}
+use Rattle.ft_model.specs.ServingTurn.{Stays, LivesOn, OnReceipt, Meets, PlaceTurn, concerns, AllGo, is_strange, newcomers, refusals, opens_at}
+use Rattle.ft_model.specs.Lawful.{hello, asked, held, restored, all_restored, restored_count, Revives, Continues, fetched_then, count_reported, StageTurn, NodeTurn, LawfulTurn, fence, is_fenced}
 use Rattle.ft_model.proofs.StageTurns.{Asks, Gets}
 use Rattle.ft_model.proofs.LiveTurns.{turned, live_turn, counts_within, reads_from}
 use Rattle.ft_model.proofs.Settled.{noted}
@@ -53,7 +53,7 @@ reaches : {State : Type 0} (service : Machine State) (node : Node) (news : News)
     → (b : Bool) → ReachesBy service node news p b
 reaches service node news p counts true =
     let q : Point = record p { answered = answered_after news p; reads_answered = reads_answered_after news p; reset = true } in
-    (q, map (told_by node.boot) (dones news p q), record { point = refl; packets = refl }, counts_within news p counts)
+    (q, map (reported_by node.boot) (dones news p q), record { point = refl; packets = refl }, counts_within news p counts)
 reaches service node news p counts false =
     (turned service news p, sent_by service node.server node.boot news p (turned service news p), live_turn service node.server node.boot news p counts, counts_after service news p counts)
 
@@ -68,18 +68,18 @@ opens : {State : Type 0} (service : Machine State) (node : Node) (timestamping :
 opens service node timestamping kept true = lives service node Begins (point_opened node.profile timestamping kept) (le_refl 0)
 opens service node timestamping kept false = ([], [], (refl, refl), tt)
 
-hears : {State : Type 0} (service : Machine State) (node : Node) (body : Body) (place : Place) → CountsReads place → Outcome (Hears service node body) place
-hears service node (StableMsg kept) (Lives p) counts = lives service node (Logged kept) p counts
-hears service node (ReadsMsg kept) (Lives p) counts = lives service node (Logged kept) p counts
-hears service node (EndedMsg key) (Lives p) counts = (Ended p.key ∷ [], [], (refl, refl), (tt, tt))
-hears service node (OpenedMsg kept) (Opens asked timestamping) counts = opens service node timestamping kept (kept.cisn == asked.cisn)
-hears service node (FullMsg key) (Opens asked timestamping) counts = ([], To_client (full_rst node.server asked) ∷ [], (refl, refl), tt)
-hears service node _ place counts = (place ∷ [], [], (refl, refl), (counts, tt))
+on_receipt : {State : Type 0} (service : Machine State) (node : Node) (body : Body) (place : Place) → CountsReads place → Outcome (OnReceipt service node body) place
+on_receipt service node (StableMsg kept) (Lives p) counts = lives service node (Logged kept) p counts
+on_receipt service node (ReadsMsg kept) (Lives p) counts = lives service node (Logged kept) p counts
+on_receipt service node (EndedMsg key) (Lives p) counts = (Ended p.key ∷ [], [], (refl, refl), (tt, tt))
+on_receipt service node (OpenedMsg kept) (Opens asked timestamping) counts = opens service node timestamping kept (kept.cisn == asked.cisn)
+on_receipt service node (FullMsg key) (Opens asked timestamping) counts = ([], To_client (full_rst node.server asked) ∷ [], (refl, refl), tt)
+on_receipt service node _ place counts = (place ∷ [], [], (refl, refl), (counts, tt))
 
 meets : {State : Type 0} (service : Machine State) (node : Node) (input : Input) (place : Place) → CountsReads place → Outcome (Meets service node input) place
 meets service node (Packet_comes segment) (Lives p) counts = lives service node (Comes segment) p counts
 meets service node (Packet_comes segment) (Ended key) counts = (Ended key ∷ [], map To_client (as_closed node.server segment), (refl, refl), (tt, tt))
-meets service node (Message_comes message) place counts = hears service node message.body place counts
+meets service node (Message_comes message) place counts = on_receipt service node message.body place counts
 meets service node Tick_comes (Lives p) counts = lives service node Ticks p counts
 meets service node _ place counts = (place ∷ [], [], (refl, refl), (counts, tt))
 
@@ -143,7 +143,7 @@ fetches_on service node count fetched None = (Fetching count fetched, [], (refl,
 stage_turn : {State : Type 0} (service : Machine State) (node : Node) (before : Stage) (input : Input) → is_fenced before ≡ false → AllCount before
     → Reached (StageTurn service node before input)
 stage_turn service node Asking Tick_comes live counts = (Asking, hello node, (refl, refl), tt)
-stage_turn service node Asking (Message_comes message) live counts = asks_on service node (count_told node message)
+stage_turn service node Asking (Message_comes message) live counts = asks_on service node (count_reported node message)
 stage_turn service node Asking _ live counts = (Asking, [], (refl, refl), tt)
 stage_turn service node (Fetching count fetched) Tick_comes live counts = (Fetching count fetched, asked node (wanted count fetched), (refl, refl), tt)
 stage_turn service node (Fetching count fetched) (Message_comes message) live counts = fetches_on service node count fetched (fetched_then node message count fetched)

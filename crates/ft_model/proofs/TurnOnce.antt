@@ -11,14 +11,14 @@ use Rattle.ft_model.specs.News.News.{Comes, Logged, Ticks, Begins}
 use Rattle.ft_model.specs.Point.{Point}
 use Rattle.ft_model.specs.ResetAndEnd.{reset_after, dones}
 use Rattle.ft_model.specs.Opening.{point_opened}
-use Rattle.ft_model.specs.Connection.{ResetTurn, LiveTurn, told_by}
+use Rattle.ft_model.specs.Connection.{ResetTurn, LiveTurn, reported_by}
 use Rattle.ft_model.specs.Restart.{Fetched, Wanted, wanted}
 use Rattle.ft_model.specs.Node.{Node, Place, Stage, Input, key_of}
 use Rattle.ft_model.specs.Node.Place.{Opens, Lives}
 use Rattle.ft_model.specs.Node.Stage.{Asking, Fetching, Serving, Fenced}
 use Rattle.ft_model.specs.Node.Input.{Packet_comes, Message_comes, Tick_comes}
-use Rattle.ft_model.specs.ServingTurn.{Stays, LivesOn, Hears, Meets, PlaceTurn, concerns, AllGo, newcomers, refusals, opens_at, ServingTurn}
-use Rattle.ft_model.specs.Lawful.{Revives, Continues, StageTurn, NodeTurn, LawfulTurn, all_restored, restored_count, fence, count_told, fetched_then}
+use Rattle.ft_model.specs.ServingTurn.{Stays, LivesOn, OnReceipt, Meets, PlaceTurn, concerns, AllGo, newcomers, refusals, opens_at, ServingTurn}
+use Rattle.ft_model.specs.Lawful.{Revives, Continues, StageTurn, NodeTurn, LawfulTurn, all_restored, restored_count, fence, count_reported, fetched_then}
 use Rattle.ft_model.proofs.StageTurns.{Asks, Gets}
 use Rattle.ft_model.proofs.LiveOnce.{live_once}
 
@@ -29,7 +29,7 @@ both a c x b d y s t = (s.0 ∙ sym t.0, s.1 ∙ sym t.1)
 reset_once : (boot : ℕ) (news : News) (p q r : Point) (sent other : List Packet) → ResetTurn boot news p q sent → ResetTurn boot news p r other → (q ≡ r) × (sent ≡ other)
 reset_once boot news p q r sent other t u =
     let same : q ≡ r = t.point ∙ sym u.point in
-    (same, t.packets ∙ (ap (λ x. map (told_by boot) (dones news p x)) same ∙ sym u.packets))
+    (same, t.packets ∙ (ap (λ x. map (reported_by boot) (dones news p x)) same ∙ sym u.packets))
 
 by_reset : {State : Type 0} (service : Machine State) (server : Addr) (boot : ℕ) (news : News) (b : Bool) (p q r : Point) (sent other : List Packet)
     → MatchBool b (ResetTurn boot news p q sent) (LiveTurn service server boot news p q sent)
@@ -51,20 +51,20 @@ opened_once : {State : Type 0} (service : Machine State) (node : Node) (b : Bool
 opened_once service node true timestamping kept now later sent other s t = lives_once service node Begins (point_opened node.profile timestamping kept) now later sent other s t
 opened_once service node false timestamping kept now later sent other s t = both now later [] sent other [] s t
 
-hears_once : {State : Type 0} (service : Machine State) (node : Node) (body : Body) (place : Place) (now later : List Place) (sent other : List Packet)
-    → Hears service node body place now sent → Hears service node body place later other → (now ≡ later) × (sent ≡ other)
-hears_once service node (StableMsg kept) (Lives p) now later sent other s t = lives_once service node (Logged kept) p now later sent other s t
-hears_once service node (ReadsMsg kept) (Lives p) now later sent other s t = lives_once service node (Logged kept) p now later sent other s t
-hears_once service node (OpenedMsg kept) (Opens asked timestamping) now later sent other s t =
+receives_once : {State : Type 0} (service : Machine State) (node : Node) (body : Body) (place : Place) (now later : List Place) (sent other : List Packet)
+    → OnReceipt service node body place now sent → OnReceipt service node body place later other → (now ≡ later) × (sent ≡ other)
+receives_once service node (StableMsg kept) (Lives p) now later sent other s t = lives_once service node (Logged kept) p now later sent other s t
+receives_once service node (ReadsMsg kept) (Lives p) now later sent other s t = lives_once service node (Logged kept) p now later sent other s t
+receives_once service node (OpenedMsg kept) (Opens asked timestamping) now later sent other s t =
     opened_once service node (kept.cisn == asked.cisn) timestamping kept now later sent other s t
-hears_once service node (EndedMsg key) (Lives p) now later sent other s t = (s.0 ∙ sym t.0, s.1 ∙ sym t.1)
-hears_once service node (FullMsg key) (Opens asked timestamping) now later sent other s t = (s.0 ∙ sym t.0, s.1 ∙ sym t.1)
-hears_once service node _ place now later sent other s t = (s.0 ∙ sym t.0, s.1 ∙ sym t.1)
+receives_once service node (EndedMsg key) (Lives p) now later sent other s t = (s.0 ∙ sym t.0, s.1 ∙ sym t.1)
+receives_once service node (FullMsg key) (Opens asked timestamping) now later sent other s t = (s.0 ∙ sym t.0, s.1 ∙ sym t.1)
+receives_once service node _ place now later sent other s t = (s.0 ∙ sym t.0, s.1 ∙ sym t.1)
 
 meets_once : {State : Type 0} (service : Machine State) (node : Node) (input : Input) (place : Place) (now later : List Place) (sent other : List Packet)
     → Meets service node input place now sent → Meets service node input place later other → (now ≡ later) × (sent ≡ other)
 meets_once service node (Packet_comes segment) (Lives p) now later sent other s t = lives_once service node (Comes segment) p now later sent other s t
-meets_once service node (Message_comes message) place now later sent other s t = hears_once service node message.body place now later sent other s t
+meets_once service node (Message_comes message) place now later sent other s t = receives_once service node message.body place now later sent other s t
 meets_once service node Tick_comes (Lives p) now later sent other s t = lives_once service node Ticks p now later sent other s t
 meets_once service node _ place now later sent other s t = (s.0 ∙ sym t.0, s.1 ∙ sym t.1)
 
@@ -127,7 +127,7 @@ fetching_once service node count fetched None after also sent other s t = (s.0 �
 stage_once : {State : Type 0} (service : Machine State) (node : Node) (before : Stage) (input : Input) (after also : Stage) (sent other : List Packet)
     → StageTurn service node before input after sent → StageTurn service node before input also other → (after ≡ also) × (sent ≡ other)
 stage_once service node Asking (Message_comes message) after also sent other s t =
-    asking_once service node (count_told node message) after also sent other s t
+    asking_once service node (count_reported node message) after also sent other s t
 stage_once service node Asking _ after also sent other s t = (s.0 ∙ sym t.0, s.1 ∙ sym t.1)
 stage_once service node (Fetching count fetched) (Message_comes message) after also sent other s t =
     fetching_once service node count fetched (fetched_then node message count fetched) after also sent other s t

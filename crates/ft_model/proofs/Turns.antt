@@ -10,7 +10,7 @@ use Rattle.server_trait.specs.Service.{Machine, reference}
 use Rattle.ft_model.specs.Log.{log_after, answer_to}
 use Rattle.ft_model.specs.Taken.{accepts, uses, acknowledges_unsent, counts, came, taken_after, early_after, fin_after}
 use Rattle.ft_model.specs.Answered.{answered_after, reads_answered_after}
-use Rattle.ft_model.specs.Reads.{next_length, may_read, reads_told}
+use Rattle.ft_model.specs.Reads.{next_length, may_read, reads_reported}
 use Rattle.tcp_rules.specs.Profile.{Profile, plain}
 use Rattle.tcp_rules.specs.Timing.{with_sample, with_acknowledged, with_tick, without_trip, with_backoff, with_sent}
 use Rattle.ft_model.specs.Timer.{must_run, timing_noted, interval_after, rest_after}
@@ -37,7 +37,7 @@ use Rattle.ft_model.proofs.LiveTurns.{turned, live_turn}
 
 -- names all laws that a run computes: `unfolding laws` opens them
 unfoldable pub laws : Type 0
-unfolding turned reference offset_of log_after answer_to accepts uses is_at_right_edge is_allowed_at_zero acknowledges_unsent counts came comes new_text with_text holds_fin with_fin continued with_fin_taken laid runs_behind held_with front_run behind_front_run holds_some taken_after early_after fin_after answered_after reads_answered_after next_length may_read reads_told must_run with_sample with_acknowledged with_tick without_trip with_backoff with_sent timing_noted timing_after interval_after rest_after syn_acked_after acknowledged_after edge_after wl1_after wl2_after is_duplicate is_third_duplicate is_partial_ack with_new_data is_third with_duplicate with_expiry congestion_after sent_at_once sent_after copies batch own_data further_data datas reset_after end_ticks_after dones needs_ack is_delayed is_ack_due is_ack_pending resent new_texts new_fin full_segments segments_of
+unfolding turned reference offset_of log_after answer_to accepts uses is_at_right_edge is_allowed_at_zero acknowledges_unsent counts came comes new_text with_text holds_fin with_fin continued with_fin_taken laid runs_behind held_with front_run behind_front_run holds_some taken_after early_after fin_after answered_after reads_answered_after next_length may_read reads_reported must_run with_sample with_acknowledged with_tick without_trip with_backoff with_sent timing_noted timing_after interval_after rest_after syn_acked_after acknowledged_after edge_after wl1_after wl2_after is_duplicate is_third_duplicate is_partial_ack with_new_data is_third with_duplicate with_expiry congestion_after sent_at_once sent_after copies batch own_data further_data datas reset_after end_ticks_after dones needs_ack is_delayed is_ack_due is_ack_pending resent new_texts new_fin full_segments segments_of
 laws = Unit {0}
 
 -- a server with one place: what it does there is the whole turn
@@ -56,13 +56,13 @@ message_in (To_logger message) = message
 message_in (From_logger message) = message
 message_in _ = record { boot = 0; body = HelloMsg }
 
-abbrev pub kept_told : Body → Kept
-kept_told (StableMsg kept) = kept
-kept_told (ReadsMsg kept) = kept
-kept_told _ = record { key = record { ip = 0; port = 0 }; length = 0; fin = false; reads = 0 }
+abbrev pub kept_reported : Body → Kept
+kept_reported (StableMsg kept) = kept
+kept_reported (ReadsMsg kept) = kept
+kept_reported _ = record { key = record { ip = 0; port = 0 }; length = 0; fin = false; reads = 0 }
 
 abbrev pub kept_in : Packet → Kept
-kept_in packet = kept_told (message_in packet).body
+kept_in packet = kept_reported (message_in packet).body
 
 live_goes : {State : Type 0} (service : Machine State) (server : Addr) (boot : ℕ) (news : News) (p q : Point) (sent : List Packet) (reset : Bool)
     → reset ≡ false → LiveTurn service server boot news p q sent

@@ -12,15 +12,15 @@ use Rattle.ft_model.specs.Restart.{Fetched, Wanted, wanted}
 use Rattle.ft_model.specs.Node.{Node, Stage, Input, booted}
 use Rattle.ft_model.specs.Node.Stage.{Asking, Fetching, Serving, Fenced}
 use Rattle.ft_model.specs.Node.Input.{Packet_comes, Message_comes, Noise_comes, Tick_comes}
-use Rattle.ft_model.specs.Lawful.{Continues, StageTurn, NodeTurn, LawfulTurn, fence, newer_than, count_told, fetched_then, is_fenced}
+use Rattle.ft_model.specs.Lawful.{Continues, StageTurn, NodeTurn, LawfulTurn, fence, newer_than, count_reported, fetched_then, is_fenced}
 use Rattle.ft_model.specs.World.{World, Moment, MayCome, Joint, IsStart, world_after}
 use Rattle.ft_model.proofs.Lists.{all_weaker, all_append, none_is_some, some_is}
 use Rattle.ft_model.proofs.LogAnswers.{all_answers}
-use Rattle.ft_model.proofs.Fetching.{on_some, chosen_some, told_last}
+use Rattle.ft_model.proofs.Fetching.{on_some, chosen_some, reported_last}
 use Rattle.ft_model.proofs.Happened.{Happened, IsBrought, all_sent, answers, holds_after}
-use Rattle.ft_model.proofs.Happened.Happened.{log_heard, client_heard, client_moved, server_turned, server_booted, server_down}
+use Rattle.ft_model.proofs.Happened.Happened.{log_received, client_received, client_moved, server_turned, server_booted, server_down}
 use Rattle.ft_model.proofs.StageTurns.{Asks, Gets, stage_went}
-use Rattle.ft_model.proofs.Fenced.{IsFenced, IsOurs, turn_ours, start_fenced, fenced_goes_on}
+use Rattle.ft_model.proofs.Fenced.{IsFenced, IsOurs, turn_ours, start_fenced, fenced_proceeds}
 use Rattle.ft_io.proofs.Choices.{holds_if}
 
 -- a Stale names at most this boot
@@ -41,29 +41,29 @@ opened_names boot key (Some e) answer t = subst (NamesAtMost boot) (some_is _ _ 
 opened_names boot key None answer t = subst (NamesAtMost boot) (some_is _ _ t) tt
 
 -- what the log tells of itself is no Stale
-told_names : (boot : ℕ) (body : Body) (log : Log) (answer : Body) → answer_from body log ≡ Some answer → NamesAtMost boot answer
-told_names boot HelloMsg log answer t = subst (NamesAtMost boot) (some_is _ _ t) tt
-told_names boot (ListMsg index) log answer t =
+reported_names : (boot : ℕ) (body : Body) (log : Log) (answer : Body) → answer_from body log ≡ Some answer → NamesAtMost boot answer
+reported_names boot HelloMsg log answer t = subst (NamesAtMost boot) (some_is _ _ t) tt
+reported_names boot (ListMsg index) log answer t =
     let o = on_some (slice_get log.entries index) (λ e. Some (EntryMsg index (head_of e))) answer t in subst (NamesAtMost boot) (some_is _ _ o.2) tt
-told_names boot (BytesMsg key offset) log answer t =
+reported_names boot (BytesMsg key offset) log answer t =
     let o = on_some (entry_of key log) (λ e. part_of e offset) answer t in
     subst (NamesAtMost boot) (chosen_some (nat_lt offset (length o.0.bytes)) (PartMsg o.0.key offset (take 1024 (drop offset o.0.bytes))) answer o.2) tt
-told_names boot (CutsMsg key first) log answer t =
+reported_names boot (CutsMsg key first) log answer t =
     let o = on_some (entry_of key log) (λ e. lens_of e first) answer t in
     subst (NamesAtMost boot) (chosen_some (nat_lt first (length o.0.lengths)) (LensMsg o.0.key first (take 512 (drop first o.0.lengths))) answer o.2) tt
-told_names boot (OpenMsg n) log answer t = opened_names boot n.key (entry_of n.key log) answer t
-told_names boot (DataMsg part) log answer t =
-    let o = on_some (entry_of part.key log) (λ e. Some (StableMsg (kept_of e))) answer (told_last part.more _ answer t) in subst (NamesAtMost boot) (some_is _ _ o.2) tt
-told_names boot (ReadMsg key index n) log answer t =
+reported_names boot (OpenMsg n) log answer t = opened_names boot n.key (entry_of n.key log) answer t
+reported_names boot (DataMsg part) log answer t =
+    let o = on_some (entry_of part.key log) (λ e. Some (StableMsg (kept_of e))) answer (reported_last part.more _ answer t) in subst (NamesAtMost boot) (some_is _ _ o.2) tt
+reported_names boot (ReadMsg key index n) log answer t =
     let o = on_some (entry_of key log) (λ e. Some (ReadsMsg (kept_of e))) answer t in subst (NamesAtMost boot) (some_is _ _ o.2) tt
-told_names boot (DoneMsg key) log answer t =
+reported_names boot (DoneMsg key) log answer t =
     let o = on_some (entry_of key log) (λ e. Some (EndedMsg key)) answer t in subst (NamesAtMost boot) (some_is _ _ o.2) tt
-told_names boot _ log answer t = none_is_some answer t
+reported_names boot _ log answer t = none_is_some answer t
 
 answers_names : (boot : ℕ) (log : Log) (message : Message) → log.boot ≤ boot → AllByRecursion (StaleWithin boot) (answers log message)
 answers_names boot log message low =
     all_answers (StaleWithin boot) log message
-    (λ body a. ⊎_elim (λ s. subst (NamesAtMost boot) (sym s) low) (λ o. told_names boot message.body (log_after log message) body o.1) a)
+    (λ body a. ⊎_elim (λ s. subst (NamesAtMost boot) (sym s) low) (λ o. reported_names boot message.body (log_after log message) body o.1) a)
 
 names_later : (low high : ℕ) → low ≤ high → (body : Body) → NamesAtMost low body → NamesAtMost high body
 names_later low high l (StaleMsg newer) n = le_trans n l
@@ -112,7 +112,7 @@ stage_live : {State : Type 0} (service : Machine State) (node : Node) (stage : S
     → StageTurn service node stage input after sent → is_fenced after ≡ false
 stage_live service node Asking Tick_comes after sent t = ap is_fenced t.0
 stage_live service node Asking (Message_comes message) after sent t =
-    asks_live service node (count_told node message) after sent t
+    asks_live service node (count_reported node message) after sent t
 stage_live service node Asking input after sent t = ap is_fenced t.0
 stage_live service node (Fetching count fetched) Tick_comes after sent t = ap is_fenced t.0
 stage_live service node (Fetching count fetched) (Message_comes message) after sent t =
@@ -134,32 +134,32 @@ turned_live service w node later input sent f u e brought t =
     stage_live service node node.stage input later.stage sent
     (subst (λ o. NodeTurn service node input o later.stage sent) (never w node input f u e (may_come w input brought)) t.stage)
 
-pub unfenced_goes_on : {State : Type 0} (service : Machine State) (before : World) (sent : List Packet) (after : World)
+pub unfenced_proceeds : {State : Type 0} (service : Machine State) (before : World) (sent : List Packet) (after : World)
     → IsFenced before → Unfenced before → Happened service before sent after → Unfenced after
-unfenced_goes_on service before sent after f u (log_heard message under s e) =
+unfenced_proceeds service before sent after f u (log_received message under s e) =
     subst Unfenced (sym (e ∙ ap (λ x. record before { log = log_after before.log message; packets = before.packets ++ x }) s))
     (record { packets = all_append (StaleWithin before.boot) before.packets _ u.packets (answers_names before.boot before.log message f.log); node = u.node })
-unfenced_goes_on service before sent after f u (client_heard segment under s e) =
+unfenced_proceeds service before sent after f u (client_received segment under s e) =
     subst Unfenced (sym e)
     (record { packets = all_append (StaleWithin before.boot) before.packets sent u.packets (subst (AllByRecursion (StaleWithin before.boot)) (sym s) tt); node = u.node })
-unfenced_goes_on service before sent after f u (client_moved number m) =
+unfenced_proceeds service before sent after f u (client_moved number m) =
     subst Unfenced (sym m.after_is)
     (record { packets = all_append (StaleWithin before.boot) before.packets sent u.packets (subst (AllByRecursion (StaleWithin before.boot)) (sym m.sent_is) (tt, tt)); node = u.node })
-unfenced_goes_on service before sent after f u (server_turned input node later brought is turn e) =
+unfenced_proceeds service before sent after f u (server_turned input node later brought is turn e) =
     subst Unfenced (sym e)
     (record {
       packets = all_append (StaleWithin before.boot) before.packets sent u.packets
           (all_weaker (IsOurs node.boot) _ sent (ours_stale node.boot before.boot) (turn_ours service node input sent later.stage (stage_went service node later input sent turn)));
       node = λ x g. subst (λ n. is_fenced n.stage ≡ false) (some_is later x g) (turned_live service before node later input sent f u is brought turn);
     })
-unfenced_goes_on service before sent after f u (server_booted boot isn down larger s e) =
+unfenced_proceeds service before sent after f u (server_booted boot isn down larger s e) =
     subst Unfenced (sym e)
     (record {
       packets = all_append (StaleWithin boot) before.packets sent (all_weaker (StaleWithin before.boot) _ before.packets (stale_later before.boot boot (omega (arith, larger))) u.packets)
           (subst (AllByRecursion (StaleWithin boot)) (sym s) (tt, tt));
       node = λ x g. subst (λ n. is_fenced n.stage ≡ false) (some_is (booted before.server before.profile boot isn) x g) refl;
     })
-unfenced_goes_on service before sent after f u (server_down s e) =
+unfenced_proceeds service before sent after f u (server_down s e) =
     subst Unfenced (sym e)
     (record {
       packets = all_append (StaleWithin before.boot) before.packets sent u.packets (subst (AllByRecursion (StaleWithin before.boot)) (sym s) tt);
@@ -172,7 +172,7 @@ start_unfenced w s = record { packets = subst (AllByRecursion (StaleWithin w.boo
 both_after : {State : Type 0} (service : Machine State) (start : World) (trace : List Moment) → Joint service start trace → IsFenced (world_after start trace) × Unfenced (world_after start trace)
 both_after service start trace j =
     holds_after service (λ w. IsFenced w × Unfenced w) start (λ s. (start_fenced start s, start_unfenced start s))
-    (λ before sent after h x. (fenced_goes_on service before sent after h.0 x, unfenced_goes_on service before sent after h.0 h.1 x)) trace j
+    (λ before sent after h x. (fenced_proceeds service before sent after h.0 x, unfenced_proceeds service before sent after h.0 h.1 x)) trace j
 
 pub if_some : {A : Type 0} (P : A → Type 0) (o : Option A) → ((x : A) → o ≡ Some x → P x) → IfSome o P
 if_some P (Some x) f = f x refl

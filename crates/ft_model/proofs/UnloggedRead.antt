@@ -41,28 +41,28 @@ turn_12 = serves meter 1 5000 (Packet_comes (client_segment 16 1001 5001 65535 r
 happens_12 : Happens meter run.moment_11.world (run.moment_12 run.bare).event (run.moment_12 run.bare).sent (run.moment_12 run.bare).world
 happens_12 = (from_client 16 1001 5001 65535 run.first_text, refl, ((path.node_live run.first_point, refl, turn_12), refl))
 
-happens_13 : (told : Packet) → Happens meter (run.moment_12 told).world (run.moment_13 told).event (run.moment_13 told).sent (run.moment_13 told).world
-happens_13 told = (refl, refl, refl)
+happens_13 : (reported : Packet) → Happens meter (run.moment_12 reported).world (run.moment_13 reported).event (run.moment_13 reported).sent (run.moment_13 reported).world
+happens_13 reported = (refl, refl, refl)
 
-happens_14 : (told : Packet) → Happens meter (run.moment_13 told).world (run.moment_14 told).event (run.moment_14 told).sent (run.moment_14 told).world
+happens_14 : (reported : Packet) → Happens meter (run.moment_13 reported).world (run.moment_14 reported).event (run.moment_14 reported).sent (run.moment_14 reported).world
 unfolding IsLe
-happens_14 told = (refl, (le_by_compare 2 2 tt, le_by_compare 3 (2 ^ 64) tt), refl, refl)
+happens_14 reported = (refl, (le_by_compare 2 2 tt, le_by_compare 3 (2 ^ 64) tt), refl, refl)
 
-happens_15 : (told : Packet) → Happens meter (run.moment_14 told).world (run.moment_15 told).event (run.moment_15 told).sent (run.moment_15 told).world
+happens_15 : (reported : Packet) → Happens meter (run.moment_14 reported).world (run.moment_15 reported).event (run.moment_15 reported).sent (run.moment_15 reported).world
 unfolding laws
-happens_15 told = (to_log 2 HelloMsg, refl, (refl, refl))
+happens_15 reported = (to_log 2 HelloMsg, refl, (refl, refl))
 
 turn_16 : LawfulTurn meter (booted server plain 2 900000) (Message_comes (message_in (from_log 2 (SummaryMsg 1)))) (to_log 2 (ListMsg 0) ∷ []) (fetching 2 900000 [])
 unfolding laws
 turn_16 = record { server = refl; profile = refl; boot = refl; isn = refl; live = refl; stage = (refl, refl) }
 
-happens_16 : (told : Packet) → Happens meter (run.moment_15 told).world (run.moment_16 told).event (run.moment_16 told).sent (run.moment_16 told).world
+happens_16 : (reported : Packet) → Happens meter (run.moment_15 reported).world (run.moment_16 reported).event (run.moment_16 reported).sent (run.moment_16 reported).world
 unfolding laws
-happens_16 told = (from_log 2 (SummaryMsg 1), refl, ((fetching 2 900000 [], refl, turn_16), refl))
+happens_16 reported = (from_log 2 (SummaryMsg 1), refl, ((fetching 2 900000 [], refl, turn_16), refl))
 
-happens_17 : (told : Packet) → Happens meter (run.moment_16 told).world (run.moment_17 told).event (run.moment_17 told).sent (run.moment_17 told).world
+happens_17 : (reported : Packet) → Happens meter (run.moment_16 reported).world (run.moment_17 reported).event (run.moment_17 reported).sent (run.moment_17 reported).world
 unfolding laws
-happens_17 told = (to_log 2 (ListMsg 0), refl, (refl, refl))
+happens_17 reported = (to_log 2 (ListMsg 0), refl, (refl, refl))
 
 turn_18 : LawfulTurn meter (fetching 2 900000 []) (Message_comes (message_in (from_log 2 (EntryMsg 0 (head_with 0 false 0 0))))) (run.bare ∷ []) (serving_at 2 900000 run.restarted)
 unfolding laws
@@ -80,30 +80,30 @@ turn_18 = record {
   );
 }
 
-happens_18 : (told : Packet) → Happens meter (run.moment_17 told).world (run.moment_18 told).event (run.moment_18 told).sent (run.moment_18 told).world
+happens_18 : (reported : Packet) → Happens meter (run.moment_17 reported).world (run.moment_18 reported).event (run.moment_18 reported).sent (run.moment_18 reported).world
 unfolding laws
-happens_18 told = (from_log 2 (EntryMsg 0 (head_with 0 false 0 0)), refl, ((serving_at 2 900000 run.restarted, refl, turn_18), refl))
+happens_18 reported = (from_log 2 (EntryMsg 0 (head_with 0 false 0 0)), refl, ((serving_at 2 900000 run.restarted, refl, turn_18), refl))
 
-happens_19 : (told : Packet) → Happens meter (run.moment_18 told).world (run.moment_19 told).event (run.moment_19 told).sent (run.moment_19 told).world
+happens_19 : (reported : Packet) → Happens meter (run.moment_18 reported).world (run.moment_19 reported).event (run.moment_19 reported).sent (run.moment_19 reported).world
 unfolding laws IsLe
-happens_19 told = record { client = run.begun_client; segment = client_segment 16 1001 5001 65535 hello_text; later = run.whole_client; is_there = refl; move = record { move = Text 0 5; window = 65535; may = refl; fits = refl; timestamps = None; carries = refl; segment_is = refl; after_is = refl }; sent_is = refl; after_is = refl }
+happens_19 reported = record { client = run.begun_client; segment = client_segment 16 1001 5001 65535 hello_text; later = run.whole_client; is_there = refl; move = record { move = Text 0 5; window = 65535; may = refl; fits = refl; timestamps = None; carries = refl; segment_is = refl; after_is = refl }; sent_is = refl; after_is = refl }
 
 turn_20 : LawfulTurn meter (serving_at 2 900000 run.restarted) (Packet_comes (client_segment 16 1001 5001 65535 hello_text)) (run.bare ∷ run.second_data ∷ run.second_read ∷ []) (serving_at 2 900000 run.second_point)
 unfolding laws
 turn_20 = serves meter 2 900000 (Packet_comes (client_segment 16 1001 5001 65535 hello_text)) run.restarted run.second_point (run.bare ∷ run.second_data ∷ run.second_read ∷ []) refl refl refl
     (run.second_point, refl, goes meter server 2 (Comes (client_segment 16 1001 5001 65535 hello_text)) run.restarted run.second_point (run.bare ∷ run.second_data ∷ run.second_read ∷ []) refl refl refl refl)
 
-happens_20 : (told : Packet) → Happens meter (run.moment_19 told).world (run.moment_20 told).event (run.moment_20 told).sent (run.moment_20 told).world
+happens_20 : (reported : Packet) → Happens meter (run.moment_19 reported).world (run.moment_20 reported).event (run.moment_20 reported).sent (run.moment_20 reported).world
 unfolding laws
-happens_20 told = (from_client 16 1001 5001 65535 hello_text, refl, ((serving_at 2 900000 run.second_point, refl, turn_20), refl))
+happens_20 reported = (from_client 16 1001 5001 65535 hello_text, refl, ((serving_at 2 900000 run.second_point, refl, turn_20), refl))
 
-happens_21 : (told : Packet) → Happens meter (run.moment_20 told).world (run.moment_21 told).event (run.moment_21 told).sent (run.moment_21 told).world
+happens_21 : (reported : Packet) → Happens meter (run.moment_20 reported).world (run.moment_21 reported).event (run.moment_21 reported).sent (run.moment_21 reported).world
 unfolding laws
-happens_21 told = (run.second_data, refl, (refl, refl))
+happens_21 reported = (run.second_data, refl, (refl, refl))
 
-restart_goes_on : (told : Packet) → EachHappens meter (run.moment_12 told).world (run.restart_trace told)
-restart_goes_on told =
-    (((((((((tt, happens_13 told), happens_14 told), happens_15 told), happens_16 told), happens_17 told), happens_18 told), happens_19 told), happens_20 told), happens_21 told)
+restart_proceeds : (reported : Packet) → EachHappens meter (run.moment_12 reported).world (run.restart_trace reported)
+restart_proceeds reported =
+    (((((((((tt, happens_13 reported), happens_14 reported), happens_15 reported), happens_16 reported), happens_17 reported), happens_18 reported), happens_19 reported), happens_20 reported), happens_21 reported)
 
 -- the output leaves before its read is logged
 released_early : (later : Node) → LawfulTurn meter (path.node_live path.open_point) (Packet_comes (client_segment 16 1001 5001 65535 run.first_text)) (run.moment_12 run.early).sent later → ⊥
@@ -124,7 +124,7 @@ early_once = record {
   before = sent_is_joint;
   refused = never_happens meter run.moment_11.world (run.moment_12 run.early).world 8 (client_segment 16 1001 5001 65535 run.first_text) (path.node_live path.open_point) (run.moment_12 run.early).sent refl refl released_early;
   otherwise = ((run.moment_12 run.bare).sent, (run.moment_12 run.bare).world, happens_12);
-  after = ((restart_goes_on run.early, early_22), early_23);
+  after = ((restart_proceeds run.early, early_22), early_23);
 }
 
 abbrev begins_with : ℕ → List ℕ → Bool

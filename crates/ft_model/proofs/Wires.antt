@@ -13,7 +13,7 @@ use Rattle.seq_arith.specs.MessageGrammar.{flag, ending, most_ending, is_sound_b
 use Rattle.server_trait.specs.Service.{AreBytes}
 use Rattle.ft_model.specs.Network.{Packet}
 use Rattle.ft_model.specs.Network.Packet.{To_server, To_client, To_logger, From_logger}
-use Rattle.ft_model.specs.Wire.{CanBeToldBy, HasWireBy}
+use Rattle.ft_model.specs.Wire.{CanBeWrittenBy, HasWireBy}
 use Rattle.ft_model.specs.Readable.{FitsAddr}
 use Rattle.ft_model.specs.World.{World}
 use Rattle.ft_model.proofs.Formed.{AreLengths, AckWithin, BodyFormed, MessageFormed, PacketFormed}
@@ -158,7 +158,7 @@ bytes_behind start boot (LensMsg key first lens) h = bytes_of_lens lens
 bytes_behind start boot (DataMsg part) h = h.2
 bytes_behind start boot _ h = tt
 
-message_wire : (start : World) (m : Message) → MessageFormed start m → AckWithin m.body → CanBeToldBy (grammar_of start.profile) m
+message_wire : (start : World) (m : Message) → MessageFormed start m → AckWithin m.body → CanBeWrittenBy (grammar_of start.profile) m
 message_wire start m h k = (
   record {
     boot = h.0.1;

@@ -63,7 +63,7 @@ happens_10 = ((nth 0 run.moment_9.sent), refl, ((serving_at 1 5000 turn.opened, 
 
 happens_11 : Happens echo run.moment_10.world run.moment_11.event run.moment_11.sent run.moment_11.world
 unfolding laws IsLe
-happens_11 = record { client = run.open_client; segment = turn.text; later = run.told_client; is_there = refl; move = record { move = Text 0 5; window = 0; may = refl; fits = refl; timestamps = None; carries = refl; segment_is = refl; after_is = refl }; sent_is = refl; after_is = refl }
+happens_11 = record { client = run.open_client; segment = turn.text; later = run.reported_client; is_there = refl; move = record { move = Text 0 5; window = 0; may = refl; fits = refl; timestamps = None; carries = refl; segment_is = refl; after_is = refl }; sent_is = refl; after_is = refl }
 
 happens_12 : Happens echo run.moment_11.world run.moment_12.event run.moment_12.sent run.moment_12.world
 unfolding laws IsLe
@@ -99,7 +99,7 @@ happens_19 = (refl, ((serving_at 1 5000 (turn.probed 4 4), refl, probe_10), refl
 
 happens_20 : Happens echo run.moment_19.world run.moment_20.event run.moment_20.sent run.moment_20.world
 unfolding laws IsLe
-happens_20 = record { client = run.told_client; segment = turn.room; later = run.roomy_client; is_there = refl; move = record { move = Acknowledge; window = 5; may = refl; fits = refl; timestamps = None; carries = refl; segment_is = refl; after_is = refl }; sent_is = refl; after_is = refl }
+happens_20 = record { client = run.reported_client; segment = turn.room; later = run.roomy_client; is_there = refl; move = record { move = Acknowledge; window = 5; may = refl; fits = refl; timestamps = None; carries = refl; segment_is = refl; after_is = refl }; sent_is = refl; after_is = refl }
 
 happens_21 : Happens echo run.moment_20.world run.moment_21.event run.moment_21.sent run.moment_21.world
 unfolding laws IsLe
@@ -135,7 +135,7 @@ allowed_11 : IsAllowed run.moment_10.world run.moment_11
 allowed_11 = record { allowed = refl; scripted = scripted run.moment_10.world run.moment_11.event run.open_client (Text 0 5) 1 run.moment_11.world refl refl refl }
 
 allowed_20 : IsAllowed run.moment_19.world run.moment_20
-allowed_20 = record { allowed = refl; scripted = scripted run.moment_19.world run.moment_20.event run.told_client Acknowledge 1 run.moment_20.world refl refl refl }
+allowed_20 = record { allowed = refl; scripted = scripted run.moment_19.world run.moment_20.event run.reported_client Acknowledge 1 run.moment_20.world refl refl refl }
 
 pub is_legal : Legal (λ kind. echo) run.schedule run.trace
 is_legal = record {

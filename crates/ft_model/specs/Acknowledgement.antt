@@ -14,12 +14,12 @@ is_segment (To_logger message) = false
 is_segment (From_logger message) = false
 
 -- a segment to the client has the acknowledgement and the window of the point
-abbrev pub Tells : Point → Packet → Type 0
-Tells p (To_client segment) = (segment.head.ack ≡ number_at p.cisn (acknowledgement p)) × (segment.head.window ≡ window p)
-Tells p (To_server segment) = Unit {0}
-Tells p (To_logger message) = Unit {0}
-Tells p (From_logger message) = Unit {0}
+abbrev pub Reports : Point → Packet → Type 0
+Reports p (To_client segment) = (segment.head.ack ≡ number_at p.cisn (acknowledgement p)) × (segment.head.window ≡ window p)
+Reports p (To_server segment) = Unit {0}
+Reports p (To_logger message) = Unit {0}
+Reports p (From_logger message) = Unit {0}
 
-pub record IsTold (before after : Point) (sent : List Packet) : Type 0 where
-  pub all : AllByRecursion (Tells after) sent
+pub record IsReported (before after : Point) (sent : List Packet) : Type 0 where
+  pub all : AllByRecursion (Reports after) sent
   pub silent : list_any is_segment sent ≡ false → (acknowledgement after ≡ acknowledgement before) × (window after ≡ window before)

@@ -10,7 +10,7 @@ use Rattle.ft_model.specs.Point.{Point}
 use Rattle.ft_model.specs.News.{News}
 use Rattle.ft_model.specs.Taken.{taken_after, early_after, fin_after}
 use Rattle.ft_model.specs.Answered.{answered_after, reads_answered_after}
-use Rattle.ft_model.specs.Reads.{MakesReads, reads_told}
+use Rattle.ft_model.specs.Reads.{MakesReads, reads_reported}
 use Rattle.ft_model.specs.Sending.{syn_acked_after, acknowledged_after, edge_after, wl1_after, wl2_after, congestion_after, sent_after, timing_after}
 use Rattle.ft_model.specs.Timer.{interval_after, rest_after}
 use Rattle.ft_model.specs.Timestamps.{timestamping_after}
@@ -19,14 +19,14 @@ use Rattle.ft_model.specs.Copy.{copies}
 use Rattle.ft_model.specs.ResetAndEnd.{reset_after, end_ticks_after, dones}
 
 -- a message to the logger, in this boot
-abbrev pub told_by : ℕ → Body → Packet
-told_by boot body = To_logger (record { boot = boot; body = body })
+abbrev pub reported_by : ℕ → Body → Packet
+reported_by boot body = To_logger (record { boot = boot; body = body })
 
 -- what a connection sends in one turn: its segments, then Data, then Reads by index, then Done
 abbrev pub sent_by : {State : Type 0} → Machine State → Addr → (boot : ℕ) → News → Point → Point → List Packet
 sent_by service server boot news before after =
     map To_client (segments_of service server news before after)
-    ++ map (told_by boot) (copies news before after ++ (reads_told news before after ++ dones news before after))
+    ++ map (reported_by boot) (copies news before after ++ (reads_reported news before after ++ dones news before after))
 
 -- the numbers of a connection never change
 pub record IsSameConnection (before after : Point) : Type 0 where
@@ -67,7 +67,7 @@ pub record LiveTurn {State : Type 0} (service : Machine State) (server : Addr) (
 -- a turn of a connection that its client resets or has reset: it only learns what is logged, and reports that it is done
 pub record ResetTurn (boot : ℕ) (news : News) (before after : Point) (sent : List Packet) : Type 0 where
   pub point : after ≡ record before { answered = answered_after news before; reads_answered = reads_answered_after news before; reset = true }
-  pub packets : sent ≡ map (told_by boot) (dones news before after)
+  pub packets : sent ≡ map (reported_by boot) (dones news before after)
 
 -- a turn of a live connection
 abbrev pub ConnectionTurn : {State : Type 0} → Machine State → Addr → (boot : ℕ) → News → Point → Point → List Packet → Type 0

@@ -14,7 +14,7 @@ use Rattle.ft_model.specs.Offset.{IsNear}
 use Rattle.ft_model.specs.Network.{Packet, source_of}
 use Rattle.ft_model.specs.Network.Packet.{To_client}
 use Rattle.ft_model.specs.News.News.{Begins}
-use Rattle.ft_model.specs.Connection.{told_by}
+use Rattle.ft_model.specs.Connection.{reported_by}
 use Rattle.ft_model.specs.Restart.{Fetched, Wanted, wanted, question, fetched_after, holding_segment, live_entry, entry_in, is_whole, point_of, IsSoundEntry}
 use Rattle.ft_model.specs.Node.{Node, Place, Stage, Input, booted, is_for}
 use Rattle.ft_model.specs.Node.Place.{Opens, Lives, Ended}
@@ -28,11 +28,11 @@ Rests before after sent = (after ≡ before) × (sent ≡ [])
 
 -- the boot's own turn sends Hello, and so does each tick until Hello is answered
 abbrev pub hello : Node → List Packet
-hello node = told_by node.boot HelloMsg ∷ []
+hello node = reported_by node.boot HelloMsg ∷ []
 
 -- a question to the log
 abbrev pub asked : Node → Option Wanted → List Packet
-asked node w = map (λ x. told_by node.boot (question x)) (option_to_list w)
+asked node w = map (λ x. reported_by node.boot (question x)) (option_to_list w)
 
 -- the place of a fetched entry: its connection at the entry's point, unless it is done
 abbrev pub restored : {State : Type 0} → Machine State → Profile → Fetched → Place
@@ -69,8 +69,8 @@ abbrev pub summary_count : Body → Option ℕ
 summary_count (SummaryMsg count) = Some count
 summary_count _ = None
 
-abbrev pub count_told : Node → Message → Option ℕ
-count_told node message = if message.boot == node.boot then summary_count message.body else None
+abbrev pub count_reported : Node → Message → Option ℕ
+count_reported node message = if message.boot == node.boot then summary_count message.body else None
 
 -- what is fetched after a message, if the message is an answer of this boot that fits
 abbrev pub fetched_then : Node → Message → (count : ℕ) → List Fetched → Option (List Fetched)
@@ -87,7 +87,7 @@ held node fetched segment =
 abbrev pub StageTurn : {State : Type 0} → Machine State → Node → Stage → Input → Stage → List Packet → Type 0
 StageTurn service node Asking Tick_comes after sent = (after ≡ Asking) × (sent ≡ hello node)
 StageTurn service node Asking (Message_comes message) after sent =
-    MatchOption (count_told node message) (Rests Asking after sent) (λ count. Fetches service node count [] after sent)
+    MatchOption (count_reported node message) (Rests Asking after sent) (λ count. Fetches service node count [] after sent)
 StageTurn service node Asking (Packet_comes segment) after sent = Rests Asking after sent
 StageTurn service node Asking Noise_comes after sent = Rests Asking after sent
 StageTurn service node (Fetching count fetched) Tick_comes after sent = (after ≡ Fetching count fetched) × (sent ≡ asked node (wanted count fetched))

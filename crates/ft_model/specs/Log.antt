@@ -120,8 +120,8 @@ opened_answer key (Some e) = Some (OpenedMsg (numbers_of_entry e))
 opened_answer key None = Some (FullMsg key)
 
 abbrev pub on_entry : (Entry → Option Body) → Option Entry → Option Body
-on_entry tell (Some e) = tell e
-on_entry tell None = None
+on_entry shown (Some e) = shown e
+on_entry shown None = None
 
 -- a Data that a later one of its turn follows has no answer: the later one's says how much is logged
 abbrev pub unless_more : Part → Option Body → Option Body

@@ -63,34 +63,34 @@ RestartIsExact service log (Some before) (Some after) = is_restarting before.sta
 RestartIsExact service log _ _ = Unit {0}
 
 -- what a packet reports to a client: its acknowledgement, if it is a segment to that client with ACK and without RST
-abbrev pub told_to : Key → Packet → Option ℕ
-told_to key (To_client segment) = if key_eq (destination_of segment) key && has_ack segment && not (has_rst segment) then Some segment.head.ack else None
-told_to key (To_server segment) = None
-told_to key (To_logger message) = None
-told_to key (From_logger message) = None
+abbrev pub reported_to : Key → Packet → Option ℕ
+reported_to key (To_client segment) = if key_eq (destination_of segment) key && has_ack segment && not (has_rst segment) then Some segment.head.ack else None
+reported_to key (To_server segment) = None
+reported_to key (To_logger message) = None
+reported_to key (From_logger message) = None
 
 abbrev pub or_before : Option ℕ → Option ℕ → Option ℕ
 or_before (Some later) before = Some later
 or_before None before = before
 
 -- the last acknowledgement that was sent to a client
-abbrev pub last_told : Key → List Packet → Option ℕ
-last_told key [] = None
-last_told key (packet ∷ packets) = or_before (last_told key packets) (told_to key packet)
+abbrev pub last_reported : Key → List Packet → Option ℕ
+last_reported key [] = None
+last_reported key (packet ∷ packets) = or_before (last_reported key packets) (reported_to key packet)
 
 -- the acknowledgement last sent to the client is of what is both taken and known to be logged, unless the client reset the connection
-abbrev pub IsToldLast : List Packet → Point → Type 0
-IsToldLast packets p = p.reset ≡ false → last_told p.key packets ≡ Some (number_at p.cisn (acknowledgement p))
+abbrev pub IsReportedLast : List Packet → Point → Type 0
+IsReportedLast packets p = p.reset ≡ false → last_reported p.key packets ≡ Some (number_at p.cisn (acknowledgement p))
 
-abbrev pub AllAreTold : List Packet → Option Node → Type 0
-AllAreTold packets (Some node) = AllByRecursion (IsToldLast packets) (points_at node.stage)
-AllAreTold packets None = Unit {0}
+abbrev pub AllAreReported : List Packet → Option Node → Type 0
+AllAreReported packets (Some node) = AllByRecursion (IsReportedLast packets) (points_at node.stage)
+AllAreReported packets None = Unit {0}
 
 pub record IsMasked {State : Type 0} (service : Machine State) (before : World) (moment : Moment) : Type 0 where
   pub clients : AllByRecursion (SeesFront service moment.world.log) moment.world.clients
   pub acknowledged : AllByRecursion (AcknowledgesLogged moment.world.log moment.world.clients) moment.sent
   pub restart : RestartIsExact service moment.world.log before.node moment.world.node
-  pub told : AllAreTold moment.world.packets moment.world.node
+  pub reported : AllAreReported moment.world.packets moment.world.node
 
 -- Masked: this holds after every moment of a trace
 abbrev pub Masked : {State : Type 0} → Machine State → World → List Moment → Type 0

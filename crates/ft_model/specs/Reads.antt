@@ -51,12 +51,12 @@ read_messages key index [] = []
 read_messages key index (n ∷ lengths) = ReadMsg key index n ∷ read_messages key (index + 1) lengths
 
 -- the index of the first read that is reported in this turn: a new one, or at a tick the first unanswered one
-abbrev pub first_told : News → Point → Point → ℕ
-first_told Ticks before after = after.reads_answered
-first_told (Comes segment) before after = length before.lengths
-first_told (Logged kept) before after = length before.lengths
-first_told Begins before after = length before.lengths
+abbrev pub first_reported : News → Point → Point → ℕ
+first_reported Ticks before after = after.reads_answered
+first_reported (Comes segment) before after = length before.lengths
+first_reported (Logged kept) before after = length before.lengths
+first_reported Begins before after = length before.lengths
 
 -- Reads: a Read is sent in the turn in which the read is made, and all unanswered ones are sent again at each tick, by index
-unfoldable pub reads_told : News → Point → Point → List Body
-reads_told news before after = read_messages after.key (first_told news before after) (drop (first_told news before after) after.lengths)
+unfoldable pub reads_reported : News → Point → Point → List Body
+reads_reported news before after = read_messages after.key (first_reported news before after) (drop (first_reported news before after) after.lengths)

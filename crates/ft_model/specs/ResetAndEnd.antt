@@ -27,8 +27,8 @@ unfoldable pub end_ticks_after : {State : Type 0} → Machine State → News →
 end_ticks_after service news before after = if is_end_tick service news after then min 4 (before.end_ticks + 1) else before.end_ticks
 
 -- Done is sent in the turn of the reset, or at the fourth end tick, and in either case at each tick from then on
-abbrev pub tells_done : News → Point → Point → Bool
-tells_done news before after = (after.reset && not before.reset) || (is_tick news && (after.reset || after.end_ticks == 4))
+abbrev pub reports_done : News → Point → Point → Bool
+reports_done news before after = (after.reset && not before.reset) || (is_tick news && (after.reset || after.end_ticks == 4))
 
 unfoldable pub dones : News → Point → Point → List Body
-dones news before after = if tells_done news before after then DoneMsg after.key ∷ [] else []
+dones news before after = if reports_done news before after then DoneMsg after.key ∷ [] else []

@@ -14,7 +14,7 @@ use Rattle.ft_model.specs.Network.Packet.{To_client}
 use Rattle.ft_model.specs.Point.{Point}
 use Rattle.ft_model.specs.News.{News}
 use Rattle.ft_model.specs.News.News.{Comes, Logged, Ticks, Begins}
-use Rattle.ft_model.specs.Connection.{ConnectionTurn, told_by}
+use Rattle.ft_model.specs.Connection.{ConnectionTurn, reported_by}
 use Rattle.ft_model.specs.Opening.{is_syn, numbers_for, timestamping_for, point_opened}
 use Rattle.ft_model.specs.Refusal.{as_listen, as_closed, full_rst}
 use Rattle.ft_model.specs.Node.{Node, Place, Input, key_of, is_for, is_known, pending_count}
@@ -31,20 +31,20 @@ LivesOn service node news p now sent = (after : Point) × (now ≡ Lives after �
 
 -- what a message of this boot does at the place of its key. Ended ends a live connection, whether or not Done was sent. Opened with the client's number makes
 -- the connection, with the numbers that the log has; with another number it drops the opening. Full drops an opening and refuses its SYN
-abbrev pub Hears : {State : Type 0} → Machine State → Node → Body → Place → List Place → List Packet → Type 0
-Hears service node (StableMsg kept) (Lives p) now sent = LivesOn service node (Logged kept) p now sent
-Hears service node (ReadsMsg kept) (Lives p) now sent = LivesOn service node (Logged kept) p now sent
-Hears service node (EndedMsg key) (Lives p) now sent = (now ≡ Ended p.key ∷ []) × (sent ≡ [])
-Hears service node (OpenedMsg kept) (Opens asked timestamping) now sent =
+abbrev pub OnReceipt : {State : Type 0} → Machine State → Node → Body → Place → List Place → List Packet → Type 0
+OnReceipt service node (StableMsg kept) (Lives p) now sent = LivesOn service node (Logged kept) p now sent
+OnReceipt service node (ReadsMsg kept) (Lives p) now sent = LivesOn service node (Logged kept) p now sent
+OnReceipt service node (EndedMsg key) (Lives p) now sent = (now ≡ Ended p.key ∷ []) × (sent ≡ [])
+OnReceipt service node (OpenedMsg kept) (Opens asked timestamping) now sent =
     MatchBool (kept.cisn == asked.cisn) (LivesOn service node Begins (point_opened node.profile timestamping kept) now sent) ((now ≡ []) × (sent ≡ []))
-Hears service node (FullMsg key) (Opens asked timestamping) now sent = (now ≡ []) × (sent ≡ To_client (full_rst node.server asked) ∷ [])
-Hears service node _ place now sent = Stays place now sent
+OnReceipt service node (FullMsg key) (Opens asked timestamping) now sent = (now ≡ []) × (sent ≡ To_client (full_rst node.server asked) ∷ [])
+OnReceipt service node _ place now sent = Stays place now sent
 
 -- what an input that concerns a place does there. A segment of a pending key is dropped here: its Open, if it repeats the SYN, comes last
 abbrev pub Meets : {State : Type 0} → Machine State → Node → Input → Place → List Place → List Packet → Type 0
 Meets service node (Packet_comes segment) (Lives p) now sent = LivesOn service node (Comes segment) p now sent
 Meets service node (Packet_comes segment) (Ended key) now sent = (now ≡ Ended key ∷ []) × (sent ≡ map To_client (as_closed node.server segment))
-Meets service node (Message_comes message) place now sent = Hears service node message.body place now sent
+Meets service node (Message_comes message) place now sent = OnReceipt service node message.body place now sent
 Meets service node Tick_comes (Lives p) now sent = LivesOn service node Ticks p now sent
 Meets service node (Packet_comes segment) (Opens numbers timestamping) now sent = Stays (Opens numbers timestamping) now sent
 Meets service node Tick_comes (Opens numbers timestamping) now sent = Stays (Opens numbers timestamping) now sent
@@ -108,7 +108,7 @@ is_asked node (Message_comes message) numbers = false
 is_asked node Noise_comes numbers = false
 
 abbrev pub opens_at : Node → Input → Place → List Packet
-opens_at node input (Opens numbers timestamping) = if is_asked node input numbers then told_by node.boot (OpenMsg numbers) ∷ [] else []
+opens_at node input (Opens numbers timestamping) = if is_asked node input numbers then reported_by node.boot (OpenMsg numbers) ∷ [] else []
 opens_at node input _ = []
 
 -- A turn of a server that serves. The packets of the known connections come first, in order, then the pending Opens in the same order. A packet of an unknown

@@ -34,22 +34,22 @@ abbrev pub CanBeSent : Segment → Type 0
 CanBeSent segment = segments.IsSpellable segment × AreBytes segment.payload
 
 -- a message can be written: each number fits its place and is in its field's range, and what follows the fields is bytes
-abbrev pub CanBeToldBy : Grammar → Message → Type 0
-CanBeToldBy grammar message = messages.IsSpellableBy grammar message × AreBytes (messages.behind_of message.body)
+abbrev pub CanBeWrittenBy : Grammar → Message → Type 0
+CanBeWrittenBy grammar message = messages.IsSpellableBy grammar message × AreBytes (messages.behind_of message.body)
 
 -- the packet can be written, so its wire determines it
 abbrev pub HasWireBy : Grammar → Packet → Type 0
 HasWireBy grammar (To_server segment) = CanBeSent segment
 HasWireBy grammar (To_client segment) = CanBeSent segment
-HasWireBy grammar (To_logger message) = CanBeToldBy grammar message
-HasWireBy grammar (From_logger message) = CanBeToldBy grammar message
+HasWireBy grammar (To_logger message) = CanBeWrittenBy grammar message
+HasWireBy grammar (From_logger message) = CanBeWrittenBy grammar message
 
 -- the same in the plain grammar
 abbrev pub wire_of : Packet → Wire
 wire_of packet = wire_by Plain packet
 
-abbrev pub CanBeTold : Message → Type 0
-CanBeTold message = CanBeToldBy Plain message
+abbrev pub CanBeWritten : Message → Type 0
+CanBeWritten message = CanBeWrittenBy Plain message
 
 abbrev pub HasWire : Packet → Type 0
 HasWire packet = HasWireBy Plain packet

@@ -56,21 +56,21 @@ ServerMoves service input before sent after =
     ServerTurn service input before.node sent after.node × (after ≡ record before { node = after.node; packets = before.packets ++ sent })
 
 -- a segment arrives at the client of a key. A client that receives sends nothing
-abbrev pub ClientHears : Key → Segment → World → List Packet → World → Type 0
-ClientHears key segment before sent after =
+abbrev pub ClientReceives : Key → Segment → World → List Packet → World → Type 0
+ClientReceives key segment before sent after =
     (sent ≡ []) × (after ≡ record before { clients = with_client key (λ c. received c segment) before.clients; packets = before.packets ++ sent })
 
 -- a message arrives at the log, which sends its answer and nothing else
-abbrev pub LogHears : Message → World → List Packet → World → Type 0
-LogHears message before sent after =
+abbrev pub LogReceives : Message → World → List Packet → World → Type 0
+LogReceives message before sent after =
     (sent ≡ option_to_list (option_map From_logger (answer_to before.log message)))
     × (after ≡ record before { log = log_after before.log message; packets = before.packets ++ sent })
 
 -- one packet reaches its addressee
 abbrev pub Delivered : {State : Type 0} → Machine State → World → Packet → List Packet → World → Type 0
 Delivered service before (To_server segment) sent after = ServerMoves service (Packet_comes segment) before sent after
-Delivered service before (To_client segment) sent after = ClientHears (destination_of segment) segment before sent after
-Delivered service before (To_logger message) sent after = LogHears message before sent after
+Delivered service before (To_client segment) sent after = ClientReceives (destination_of segment) segment before sent after
+Delivered service before (To_logger message) sent after = LogReceives message before sent after
 Delivered service before (From_logger message) sent after = ServerMoves service (Message_comes message) before sent after
 
 -- what can't be read is noise: the server takes a turn on it, and at a client or the log nothing happens
@@ -86,11 +86,11 @@ message_or_noise (Ok message) = Message_comes message
 message_or_noise (Err why) = Noise_comes
 
 abbrev pub ClientReads : Key → Result Segment BadPacket → World → List Packet → World → Type 0
-ClientReads key (Ok segment) before sent after = ClientHears key segment before sent after
+ClientReads key (Ok segment) before sent after = ClientReceives key segment before sent after
 ClientReads key (Err why) before sent after = NothingHappens before sent after
 
 abbrev pub LogReads : Result Message BadMsg → World → List Packet → World → Type 0
-LogReads (Ok message) before sent after = LogHears message before sent after
+LogReads (Ok message) before sent after = LogReceives message before sent after
 LogReads (Err why) before sent after = NothingHappens before sent after
 
 -- these bytes reach the addressee of a packet in place of its own, and are read by the grammar of its direction. That of messages is the profile's

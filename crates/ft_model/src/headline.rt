@@ -7,7 +7,7 @@ ghost use Rattle.ft_model.specs.Offset.{one_if};
 ghost use Rattle.ft_model.specs.Restart.{run_of, point_of};
 ghost use Rattle.ft_model.specs.Log.{Log, is_hello, log_after};
 ghost use Rattle.ft_model.specs.Growth.{IsPrefix, LogGrows};
-ghost use Rattle.ft_model.specs.Masked.{SeesFront, AcknowledgesLogged, RestartIsExact, AllAreTold, Masked};
+ghost use Rattle.ft_model.specs.Masked.{SeesFront, AcknowledgesLogged, RestartIsExact, AllAreReported, Masked};
 ghost use Rattle.ft_model.specs.Made.{AcknowledgesMade, AcknowledgesSent};
 ghost use Rattle.ft_model.specs.Resets.{ResetsNoLogged};
 ghost use Rattle.std.specs.List.{AllByRecursion};
@@ -78,9 +78,9 @@ pub fn restarts_are_exact<S: Service>()
 
 /// After each moment, the last acknowledgement sent to the client of each live connection that it hasn't reset is the smaller of what is taken
 /// and what is known to be logged.
-pub fn clients_are_told_what_is_logged<S: Service>()
+pub fn what_is_acknowledged_is_logged<S: Service>()
     ensures { (kind : ℕ) (start : World) (trace : List Moment) → Joint (machine (S.started kind) S.after S.greeting) start trace
-        → AllAreTold (world_after start trace).packets (world_after start trace).node }
+        → AllAreReported (world_after start trace).packets (world_after start trace).node }
 {}
 
 /// The output that a client has acknowledged, as an entry of the log records it, is at most the uncrashed server's output over the logged reads, plus one unit

@@ -9,7 +9,7 @@ ghost use Rattle.ft_model.specs.News.{News};
 ghost use Rattle.ft_model.specs.News.News.{Comes, Begins};
 ghost use Rattle.ft_model.specs.Reads.{next_read};
 ghost use Rattle.ft_model.specs.Segments.{fin_segment, sends_fin, new_fin};
-ghost use Rattle.ft_model.specs.Acknowledgement.{is_segment, IsTold};
+ghost use Rattle.ft_model.specs.Acknowledgement.{is_segment, IsReported};
 ghost use Rattle.ft_model.specs.Point.{Point, taken_units, acknowledgement, most, HoldsBehind, room};
 ghost use Rattle.ft_model.specs.Offset.{first_of, ack_of, length_of};
 ghost use Rattle.ft_model.specs.Taken.{accepts, uses, acknowledges_unsent, counts, taken_after, early_after, fin_after};
@@ -56,9 +56,9 @@ pub fn turns_exist<S: Service>()
 
 /// After each turn the last report to the client is of what is taken and answered: every segment acknowledges that and advertises the window, and a turn
 /// without a segment changes neither.
-pub fn turns_tell_the_client<S: Service>()
+pub fn turns_report_to_the_client<S: Service>()
     ensures { (kind boot : ℕ) (server : Addr) (news : News) (before after : Point) (sent : List Packet)
-        → LiveTurn (machine (S.started kind) S.after S.greeting) server boot news before after sent → IsTold before after sent }
+        → LiveTurn (machine (S.started kind) S.after S.greeting) server boot news before after sent → IsReported before after sent }
 {}
 
 /// The turn in which a connection becomes live sends a segment to its client.

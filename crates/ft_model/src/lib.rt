@@ -6,7 +6,7 @@ pub use event::{Event, EventWhy};
 pub use line::{Draft, Keyword, Line, Verb};
 pub use phase::Phase;
 pub use report::{
-    legal_turns_are_readable, packets_of_lines, reports_tell_their_traces, turns_of_reports,
+    legal_turns_are_readable, packets_of_lines, reports_determine_their_traces, turns_of_reports,
     values_of_spellings, words_of_a_line, worked_lines,
 };
 pub use schedule::{

@@ -113,7 +113,7 @@ pub fn turns_of_reports()
 {}
 
 /// A report determines its schedule and its trace: two legal traces have the same report only where their schedules are the same, and the traces too.
-pub fn reports_tell_their_traces<S: Service>()
+pub fn reports_determine_their_traces<S: Service>()
     ensures { (schedule other : Schedule) (trace also : List Moment) → FitsSchedule schedule → FitsSchedule other
         → Legal (machines S.started S.after S.greeting) schedule trace → Legal (machines S.started S.after S.greeting) other also
         → report schedule trace ≡ report other also → (schedule ≡ other) × (trace ≡ also) }

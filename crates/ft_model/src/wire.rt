@@ -16,7 +16,7 @@ ghost use Rattle.ft_model.specs.declared.schedule.Schedule.{Schedule};
 use server_trait::Service;
 
 /// A wire determines its packet: no two packets have the same one. So events and wires determine the turns of a trace. The premise: all packets have wires.
-pub fn wires_tell_packets()
+pub fn wires_determine_packets()
     ensures packet { (grammar : Grammar) (p q : Packet) → HasWireBy grammar p → HasWireBy grammar q → wire_by grammar p ≡ wire_by grammar q → p ≡ q }
     ensures turns { (grammar : Grammar) (trace also : List Moment) → AllByRecursion (HasWires grammar) trace → AllByRecursion (HasWires grammar) also
         → wires_of grammar trace ≡ wires_of grammar also → turns_of trace ≡ turns_of also }
@@ -31,7 +31,7 @@ pub fn packets_have_wires<S: Service>()
 {}
 
 /// The events and the wires of a legal trace determine it: two legal traces of a schedule, or of two with the same service and start, are equal if these are.
-pub fn wires_tell_traces<S: Service>()
+pub fn wires_determine_traces<S: Service>()
     ensures { (grammar : Grammar) (schedule other : Schedule) (trace also : List Moment) → schedule.service ≡ other.service → start_of schedule ≡ start_of other
         → Legal (machines S.started S.after S.greeting) schedule trace → Legal (machines S.started S.after S.greeting) other also
         → wires_of grammar trace ≡ wires_of grammar also → trace ≡ also }

@@ -67,7 +67,7 @@ pub fn acknowledgements_beyond_next_are_not_answered()
 /// report has these lines.
 pub fn held_segments_are_legal()
     ensures legal { Legal (λ kind. echo) HeldSegments.schedule HeldSegments.trace }
-    ensures told { report HeldSegments.schedule HeldSegments.trace ≡ concat HeldSegments.report_lines }
+    ensures reported { report HeldSegments.schedule HeldSegments.trace ≡ concat HeldSegments.report_lines }
 {}
 
 /// In the turn in which the gap is filled, the text that was held may not be left out of what is sent to the log, be sent before the segment's own part, or
@@ -83,7 +83,7 @@ pub fn wrong_copies_of_held_text_are_refused()
 /// report has these lines.
 pub fn congestion_window_is_legal()
     ensures legal { Legal (λ kind. CongestionWindow.transfer) CongestionWindow.schedule CongestionWindow.trace }
-    ensures told { report CongestionWindow.schedule CongestionWindow.trace ≡ concat CongestionWindow.report_lines }
+    ensures reported { report CongestionWindow.schedule CongestionWindow.trace ≡ concat CongestionWindow.report_lines }
 {}
 
 /// No fifth segment may be sent at once. The missing one may not be retransmitted at the second duplicate, and must be at the third.
@@ -100,14 +100,14 @@ pub fn wrong_windows_are_refused()
 /// and its report has these lines.
 pub fn delayed_acks_are_legal()
     ensures legal { Legal (λ kind. echo) DelayedAck.schedule DelayedAck.trace }
-    ensures told { report DelayedAck.schedule DelayedAck.trace ≡ concat DelayedAck.report_lines }
+    ensures reported { report DelayedAck.schedule DelayedAck.trace ≡ concat DelayedAck.report_lines }
 {}
 
 /// With that profile the Data of a turn are a batch: each but the last says that another follows, and the log answers only the last. The complete run, in which
 /// two texts are copied in one turn, is a legal trace of its schedule, and its report has these lines.
 pub fn batches_are_legal()
     ensures legal { Legal (λ kind. echo) Batch.schedule Batch.trace }
-    ensures told { report Batch.schedule Batch.trace ≡ concat Batch.report_lines }
+    ensures reported { report Batch.schedule Batch.trace ≡ concat Batch.report_lines }
 {}
 
 /// With that profile, neither may all Data of a turn leave it out that another follows, nor may the last or only one say so.
@@ -121,7 +121,7 @@ pub fn wrong_batches_are_refused()
 /// complete run, with a restart that measures anew, is a legal trace of its schedule, and its report has these lines.
 pub fn measured_recoveries_are_legal()
     ensures legal { Legal (λ kind. CongestionWindow.transfer) MeasuredRecovery.schedule MeasuredRecovery.trace }
-    ensures told { report MeasuredRecovery.schedule MeasuredRecovery.trace ≡ concat MeasuredRecovery.report_lines }
+    ensures reported { report MeasuredRecovery.schedule MeasuredRecovery.trace ≡ concat MeasuredRecovery.report_lines }
 {}
 
 /// With that profile, text that isn't logged yet may not get an ACK of its own, the timer may not expire one tick early, and a partial acknowledgement may not
@@ -216,5 +216,5 @@ pub fn wrong_restarts_are_refused()
 /// The complete run with a client without room is a legal trace of its schedule, and its report has these lines.
 pub fn zero_window_is_legal()
     ensures legal { Legal (λ kind. echo) ZeroWindowTrace.schedule ZeroWindowTrace.trace }
-    ensures told { report ZeroWindowTrace.schedule ZeroWindowTrace.trace ≡ concat ZeroWindowTrace.report_lines }
+    ensures reported { report ZeroWindowTrace.schedule ZeroWindowTrace.trace ≡ concat ZeroWindowTrace.report_lines }
 {}

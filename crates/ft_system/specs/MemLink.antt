@@ -51,8 +51,8 @@ abbrev pub BindFails : LinkState → Type 0
 BindFails link = IsTrue link.bind_fails ⊎ IsNextListed link.binds
 
 -- the record of its calls; there is none once an allocation has failed in a call
-abbrev pub told_of : LinkState → Option (List LinkCall)
-told_of link = cond (link.starved == 0) (Some link.calls) None
+abbrev pub reported_of : LinkState → Option (List LinkCall)
+reported_of link = cond (link.starved == 0) (Some link.calls) None
 
 -- a call was recorded
 abbrev pub noted : LinkState → LinkCall → LinkState

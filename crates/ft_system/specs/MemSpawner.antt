@@ -26,8 +26,8 @@ fresh_spawner listed fails =
     record { statuses = listed; attempts = no_call fails; started = 0; calls = []; faults = 0; starved = 0 }
 
 -- the record of its calls; there is none once `starved` has risen
-abbrev pub told_of : SpawnerState → Option (List SpawnCall)
-told_of spawner = cond (spawner.starved == 0) (Some spawner.calls) None
+abbrev pub reported_of : SpawnerState → Option (List SpawnCall)
+reported_of spawner = cond (spawner.starved == 0) (Some spawner.calls) None
 
 -- a status, or 0 where there is none
 abbrev pub or_zero : Option ℤ → ℤ

@@ -3,17 +3,17 @@
 
 ghost use Rattle.std.specs.Prelude.{◌≡◌, ◌≤◌, ◌∷◌, [], length, true};
 ghost use Rattle.ft_io.specs.declared.link_call.LinkCall.TheVariants.{Handed};
-ghost use Rattle.ft_io.specs.Told.{Tells};
-ghost use Rattle.ft_system.specs.MemLink.{told_of};
+ghost use Rattle.ft_io.specs.Reported.{Reports};
+ghost use Rattle.ft_system.specs.MemLink.{reported_of};
 
 use crate::{MemLink, UdpLink};
 use ft_io::{Addr, Link};
 use std::net::Net;
 use std::time::Clock;
 
-/// A send that fails is recorded as failed: the clauses `failed` and `told` of `MemLink::send`.
-fn failed_send_is_told_as_done(link: &mut MemLink, to: Addr, bytes: &[u8]) -> bool
-    ensures { result ≡ true → Tells (told_of link.old) (told_of link.new) (Handed to bytes.now true ∷ []) }
+/// A send that fails is recorded as failed: the clauses `failed` and `reported` of `MemLink::send`.
+fn failed_send_is_reported_as_done(link: &mut MemLink, to: Addr, bytes: &[u8]) -> bool
+    ensures { result ≡ true → Reports (reported_of link.old) (reported_of link.new) (Handed to bytes.now true ∷ []) }
 {
     link.send(to, bytes).is_err()
 }

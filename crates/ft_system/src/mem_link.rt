@@ -1,19 +1,19 @@
 //! A link in memory, for tests. It gives the datagrams that it was made with and records its calls. It fails where it was made to fail, and where an allocation
-//! fails; from then on `told` returns `None`.
+//! fails; from then on `reported` returns `None`.
 
 ghost use Rattle.std.specs.Prelude.{◌≡◌, ◌≤◌, ◌<◌, ◌⊎◌, length, false, true, Some, None, IfSome, IfOk, OnOk, OnErr};
 ghost use Rattle.ft_io.specs.declared.link_call.LinkCall.TheVariants.{Bound, Missed, Handed};
 ghost use Rattle.ft_io.specs.Faults.{Rose};
 ghost use Rattle.ft_system.specs.NumberedCalls.{IsNextListed};
-ghost use Rattle.ft_io.specs.Told.{Tells};
-ghost use Rattle.ft_io.specs.Link.{bind_told, send_told, recv_told, heard_as, HasAtMost};
+ghost use Rattle.ft_io.specs.Reported.{Reports};
+ghost use Rattle.ft_io.specs.Link.{bind_reported, send_reported, recv_reported, received_as, HasAtMost};
 ghost use Rattle.ft_system.specs.Arrival.{arriving};
-ghost use Rattle.ft_system.specs.MemLink.{fresh_link, failing_binds, BindFails, told_of, noted, failed, starved, at_bind, binding, sending};
+ghost use Rattle.ft_system.specs.MemLink.{fresh_link, failing_binds, BindFails, reported_of, noted, failed, starved, at_bind, binding, sending};
 ghost use Rattle.ft_system.specs.MemLink.{receiving, without_arrival};
 
 use crate::mem_source::copy_front;
 use crate::numbered::NumberedCalls;
-use ft_io::{Addr, Failed, Heard, Link, LinkCall, Octets};
+use ft_io::{Addr, Failed, Receipt, Link, LinkCall, Octets};
 use std::alloc::Global;
 use std::marker::Model;
 
@@ -115,9 +115,9 @@ impl MemLink {
     }
 
     /// Returns the calls so far, the oldest first, or `None` once an allocation has failed in a call.
-    pub fn told(&self) -> Option<&[LinkCall]>
-        ensures some { IfSome result (λ calls. told_of self.now ≡ Some calls.now) }
-        ensures none { result ≡ None → told_of self.now ≡ None }
+    pub fn reported(&self) -> Option<&[LinkCall]>
+        ensures some { IfSome result (λ calls. reported_of self.now ≡ Some calls.now) }
+        ensures none { result ≡ None → reported_of self.now ≡ None }
     {
         if self.starved == 0 {
             Some(self.calls.as_slice())
@@ -162,10 +162,10 @@ impl MemLink {
     }
 
     /// Moves the next arrival to `buf`, and records it. Only that uses it up.
-    fn receive(&mut self, buf: &mut [u8]) -> Result<Heard, Failed>
-        ensures within { IfOk result (λ heard. HasAtMost heard (length buf.new)) }
-        ensures heard { IfOk result (λ heard.
-            heard_as heard buf.new ≡ arriving (length buf.new) self.old.arrivals) }
+    fn receive(&mut self, buf: &mut [u8]) -> Result<Receipt, Failed>
+        ensures within { IfOk result (λ receipt. HasAtMost receipt (length buf.new)) }
+        ensures receipt { IfOk result (λ receipt.
+            received_as receipt buf.new ≡ arriving (length buf.new) self.old.arrivals) }
         ensures ok { OnOk result
             (self.new ≡ noted (without_arrival self.old) (arriving (length buf.new) self.old.arrivals)) }
         ensures err { OnErr result (self.new ≡ starved self.old) }
@@ -173,12 +173,12 @@ impl MemLink {
         match self.arrivals.get(self.at) {
             None => {
                 self.note(LinkCall::Silent)?;
-                Ok(Heard::Nothing)
+                Ok(Receipt::Nothing)
             }
             Some(Arrival::Nothing) => {
                 self.note(LinkCall::Silent)?;
                 self.use_up();
-                Ok(Heard::Nothing)
+                Ok(Receipt::Nothing)
             }
             Some(Arrival::Datagram { from, bytes }) => {
                 let from = *from;
@@ -188,14 +188,14 @@ impl MemLink {
                 };
                 self.note(LinkCall::Came(from, Octets::new(moved)))?;
                 self.use_up();
-                Ok(Heard::Got { len, from })
+                Ok(Receipt::Got { len, from })
             }
         }
     }
 }
 
 impl Link for MemLink {
-    ghost told = { told_of };
+    ghost reported = { reported_of };
 
     ghost fault_count = { λ link. link.faults };
 
@@ -218,7 +218,7 @@ impl Link for MemLink {
             ⊎ (self.new ≡ at_bind (starved (binding self.old)))) }
 
         // What every link promises.
-        ensures told { Tells (told_of self.old) (told_of self.new) (bind_told at result) }
+        ensures reported { Reports (reported_of self.old) (reported_of self.new) (bind_reported at result) }
         ensures cause { OnErr result (Rose self.old.faults self.new.faults) }
         ensures bind_cause { OnErr result (Rose self.old.bind_faults self.new.bind_faults) }
         ensures no_fault { OnOk result (self.new.faults ≡ self.old.faults) }
@@ -247,7 +247,7 @@ impl Link for MemLink {
             ⊎ (self.new ≡ starved (sending self.old))) }
 
         // What every link promises.
-        ensures told { Tells (told_of self.old) (told_of self.new) (send_told to bytes.now result) }
+        ensures reported { Reports (reported_of self.old) (reported_of self.new) (send_reported to bytes.now result) }
         ensures cause { OnErr result (Rose self.old.faults self.new.faults) }
         ensures no_fault { OnOk result (self.new.faults ≡ self.old.faults) }
         ensures never_falls { self.old.faults ≤ self.new.faults }
@@ -264,12 +264,12 @@ impl Link for MemLink {
         Ok(())
     }
 
-    fn recv(&mut self, buf: &mut [u8]) -> Result<Heard, Failed>
+    fn recv(&mut self, buf: &mut [u8]) -> Result<Receipt, Failed>
         requires { 2048 ≤ length buf.old }
 
         // It fails exactly where its call is listed so, or where an allocation fails, and gives the next arrival.
-        ensures heard { IfOk result (λ heard.
-            heard_as heard buf.new ≡ arriving (length buf.new) self.old.arrivals) }
+        ensures receipt { IfOk result (λ receipt.
+            received_as receipt buf.new ≡ arriving (length buf.new) self.old.arrivals) }
         ensures received { OnOk result ((IsNextListed self.old.recvs → ⊥)
             × (self.new ≡ noted (without_arrival (receiving self.old)) (arriving (length buf.new) self.old.arrivals))) }
         ensures failed { OnErr result ((IsNextListed self.old.recvs
@@ -277,8 +277,8 @@ impl Link for MemLink {
             ⊎ (self.new ≡ starved (receiving self.old))) }
 
         // What every link promises.
-        ensures within { IfOk result (λ heard. HasAtMost heard (length buf.new)) }
-        ensures told { Tells (told_of self.old) (told_of self.new) (recv_told result buf.new) }
+        ensures within { IfOk result (λ receipt. HasAtMost receipt (length buf.new)) }
+        ensures reported { Reports (reported_of self.old) (reported_of self.new) (recv_reported result buf.new) }
         ensures cause { OnErr result (Rose self.old.faults self.new.faults) }
         ensures no_fault { OnOk result (self.new.faults ≡ self.old.faults) }
         ensures never_falls { self.old.faults ≤ self.new.faults }

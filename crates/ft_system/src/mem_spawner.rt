@@ -1,13 +1,13 @@
 //! A spawner in memory, for tests. Its children end at once with the statuses that it was made with. It records its calls. It fails where it was made to fail,
-//! and where an allocation fails or the numbers for children run out; from then on `told` returns `None`.
+//! and where an allocation fails or the numbers for children run out; from then on `reported` returns `None`.
 
 ghost use Rattle.std.specs.Prelude.{◌≡◌, ◌≤◌, ◌⊎◌, map, string_bytes, slice_get, Some, None, IfSome, IfOk, OnOk, OnErr};
 ghost use Rattle.ft_io.specs.declared.spawn_call.SpawnCall.TheVariants.{Started, Ended};
 ghost use Rattle.ft_io.specs.Faults.{Rose};
 ghost use Rattle.ft_system.specs.NumberedCalls.{IsNextListed};
-ghost use Rattle.ft_io.specs.Told.{Tells};
-ghost use Rattle.ft_io.specs.Spawner.{start_told, wait_told, NumbersNext};
-ghost use Rattle.ft_system.specs.MemSpawner.{fresh_spawner, told_of, status_of, or_zero, attempted, noted, with_child, failed, starved};
+ghost use Rattle.ft_io.specs.Reported.{Reports};
+ghost use Rattle.ft_io.specs.Spawner.{start_reported, wait_reported, NumbersNext};
+ghost use Rattle.ft_system.specs.MemSpawner.{fresh_spawner, reported_of, status_of, or_zero, attempted, noted, with_child, failed, starved};
 
 use crate::numbered::NumberedCalls;
 use ft_io::{Failed, SpawnCall, Spawner, Words};
@@ -71,9 +71,9 @@ impl MemSpawner {
     }
 
     /// Returns the calls so far, the oldest first, or `None` once `starved` has risen.
-    pub fn told(&self) -> Option<&[SpawnCall]>
-        ensures some { IfSome result (λ calls. told_of self.now ≡ Some calls.now) }
-        ensures none { result ≡ None → told_of self.now ≡ None }
+    pub fn reported(&self) -> Option<&[SpawnCall]>
+        ensures some { IfSome result (λ calls. reported_of self.now ≡ Some calls.now) }
+        ensures none { result ≡ None → reported_of self.now ≡ None }
     {
         if self.starved == 0 {
             Some(self.calls.as_slice())
@@ -110,7 +110,7 @@ impl MemSpawner {
 }
 
 impl Spawner for MemSpawner {
-    ghost told = { told_of };
+    ghost reported = { reported_of };
 
     ghost started = { λ s. s.started };
 
@@ -129,7 +129,7 @@ impl Spawner for MemSpawner {
 
         // What every spawner promises.
         ensures number { NumbersNext self.old.started self.new.started result }
-        ensures told { Tells (told_of self.old) (told_of self.new) (start_told (map string_bytes words.now) result) }
+        ensures reported { Reports (reported_of self.old) (reported_of self.new) (start_reported (map string_bytes words.now) result) }
         ensures cause { OnErr result (Rose self.old.faults self.new.faults) }
         ensures no_fault { OnOk result (self.new.faults ≡ self.old.faults) }
         ensures never_falls { self.old.faults ≤ self.new.faults }
@@ -161,7 +161,7 @@ impl Spawner for MemSpawner {
 
         // What every spawner promises.
         ensures same_children { self.new.started ≡ self.old.started }
-        ensures told { Tells (told_of self.old) (told_of self.new) (wait_told child result) }
+        ensures reported { Reports (reported_of self.old) (reported_of self.new) (wait_reported child result) }
         ensures cause { OnErr result (Rose self.old.faults self.new.faults) }
         ensures no_fault { OnOk result (self.new.faults ≡ self.old.faults) }
         ensures never_falls { self.old.faults ≤ self.new.faults }

@@ -42,7 +42,7 @@ impl<'a, R: Processes> ProcessSpawner<'a, R> {
 }
 
 impl<'a, R: Processes> Spawner for ProcessSpawner<'a, R> {
-    ghost told = { λ _. None };
+    ghost reported = { λ _. None };
 
     ghost started = { λ counts. counts.started };
 

@@ -4,17 +4,17 @@ ghost use Rattle.std.specs.Prelude.{◌≡◌, ◌≤◌, IfSome, None, length};
 ghost use Rattle.ft_io.specs.Link.{HasAtMost};
 ghost use Rattle.ft_system.specs.UdpLink.{fresh_link};
 
-use ft_io::{Addr, Failed, Heard, Link};
+use ft_io::{Addr, Failed, Receipt, Link};
 use std::io;
 use std::marker::Model;
 use std::net::{IpAddr, Ipv4Addr, Net, SocketAddr, UdpSocket};
 use std::time::{Clock, Duration, Instant};
 
-/// The receive timeout, in milliseconds: `Heard::Nothing` is due this long after the last send and after the last `Heard::Nothing`, whatever arrives. A timer
+/// The receive timeout, in milliseconds: `Receipt::Nothing` is due this long after the last send and after the last `Receipt::Nothing`, whatever arrives. A timer
 /// that advanced only in silence would stop while datagrams arrive.
 const PATIENCE: u64 = 20;
 
-/// The longest time from one `Heard::Nothing` to the next, in milliseconds, however much is sent in the meantime. It is the minimum retransmission timeout of
+/// The longest time from one `Receipt::Nothing` to the next, in milliseconds, however much is sent in the meantime. It is the minimum retransmission timeout of
 /// RFC 6298 (2.4).
 const LONGEST: u64 = 1_000;
 
@@ -26,8 +26,8 @@ const LEEWAY: u64 = 4;
 const SHORTEST: u64 = 1;
 
 /// A UDP socket. A call before the first successful bind is a fault. So are a datagram from an address that isn't IPv4, and a monotonic clock that can't be
-/// read. A receive returns the next datagram, or `Heard::Nothing` once 20 milliseconds have passed since the bind, the last send and the last `Heard::Nothing`,
-/// whatever arrives. A datagram that waits in the socket then stays there for the next receive. Sends put `Heard::Nothing` off for at most a second: a process
+/// read. A receive returns the next datagram, or `Receipt::Nothing` once 20 milliseconds have passed since the bind, the last send and the last `Receipt::Nothing`,
+/// whatever arrives. A datagram that waits in the socket then stays there for the next receive. Sends put `Receipt::Nothing` off for at most a second: a process
 /// that answers what arrives doesn't wait for its peer, so its retransmission timer needn't advance. After a receive that timed out both times begin with the
 /// next receive.
 #[derive(Drop)]
@@ -61,7 +61,7 @@ impl<'a, R: Net + Clock> UdpLink<'a, R> {
 }
 
 impl<'a, R: Net + Clock> Link for UdpLink<'a, R> {
-    ghost told = { λ _. None };
+    ghost reported = { λ _. None };
 
     ghost fault_count = { λ counts. counts.faults };
 
@@ -97,9 +97,9 @@ impl<'a, R: Net + Clock> Link for UdpLink<'a, R> {
         Err(Failed)
     }
 
-    fn recv(&mut self, buf: &mut [u8]) -> Result<Heard, Failed> {
+    fn recv(&mut self, buf: &mut [u8]) -> Result<Receipt, Failed> {
         match recv_by(self.system, &mut self.bound, buf) {
-            Some(heard) => Ok(heard),
+            Some(receipt) => Ok(receipt),
             None => {
                 self.faults = self.faults.saturating_add(1);
                 Err(Failed)
@@ -114,7 +114,7 @@ struct Bound {
     socket: UdpSocket,
     /// The socket's timeout.
     timeout: Duration,
-    /// When the last `Heard::Nothing` was given. After a timeout it counts from the next receive.
+    /// When the last `Receipt::Nothing` was given. After a timeout it counts from the next receive.
     since: Option<Instant>,
     /// When the timeout began: then, or with a later send.
     patient_since: Option<Instant>,
@@ -138,23 +138,23 @@ impl Bound {
     }
 
     /// Receives a datagram, or times out. `None` where the socket fails.
-    fn receive(&mut self, now: Instant, buf: &mut [u8]) -> Option<Heard>
-        ensures { IfSome result (λ heard. HasAtMost heard (length buf.new)) }
+    fn receive(&mut self, now: Instant, buf: &mut [u8]) -> Option<Receipt>
+        ensures { IfSome result (λ receipt. HasAtMost receipt (length buf.new)) }
     {
         let left = self.patience_left(now);
         if left.is_zero() {
             self.begin(Some(now));
-            return Some(Heard::Nothing);
+            return Some(Receipt::Nothing);
         }
         self.wait_for(left).ok()?;
         match self.socket.recv_from(buf) {
-            Ok((len, from)) => Some(Heard::Got {
+            Ok((len, from)) => Some(Receipt::Got {
                 len,
                 from: addr_of(from)?,
             }),
             Err(error) if is_silence(error.kind()) => {
                 self.begin(None);
-                Some(Heard::Nothing)
+                Some(Receipt::Nothing)
             }
             Err(_) => None,
         }
@@ -167,7 +167,7 @@ impl Bound {
         self.has_sent = false;
     }
 
-    /// What is left at this time until `Heard::Nothing` is due; 0 once it is.
+    /// What is left at this time until `Receipt::Nothing` is due; 0 once it is.
     fn patience_left(&mut self, now: Instant) -> Duration {
         let since = self.since.unwrap_or(now);
         let patient_since = match self.patient_since {
@@ -208,8 +208,8 @@ fn send_by(bound: &mut Option<Bound>, to: Addr, bytes: &[u8]) -> bool {
 }
 
 /// What the socket received, or `None` where there is no socket, or it or the clock failed.
-fn recv_by<R: Clock>(clock: &R, bound: &mut Option<Bound>, buf: &mut [u8]) -> Option<Heard>
-    ensures { IfSome result (λ heard. HasAtMost heard (length buf.new)) }
+fn recv_by<R: Clock>(clock: &R, bound: &mut Option<Bound>, buf: &mut [u8]) -> Option<Receipt>
+    ensures { IfSome result (λ receipt. HasAtMost receipt (length buf.new)) }
 {
     let Some(bound) = bound else {
         return None;

@@ -2,7 +2,7 @@
 
 use crate::numbers;
 use disk::{Desk, Disk, FileDisk, HostDesk, MemFile, ShelfEnd, StdFile};
-use ft_io::{Addr, Failed, Heard, NoMemory};
+use ft_io::{Addr, Failed, Receipt, NoMemory};
 use std::alloc::Global;
 use std::fs;
 use std::fs::{File, Files};
@@ -212,14 +212,14 @@ fn bind_desk<K: Desk>(desk: &mut K) -> Option<Addr> {
 /// Says what a receive gave.
 fn write_receive<K: Desk>(desk: &mut K, waits: bool, said: &mut Said) {
     let mut buf = [0u8; 2048];
-    let heard = if waits {
+    let receipt = if waits {
         desk.recv(&mut buf)
     } else {
         desk.recv_waiting(&mut buf)
     };
-    match heard {
-        Ok(Heard::Got { len, .. }) => said.word(&buf[..len.min(2048)]),
-        Ok(Heard::Nothing) => said.word(b"silent"),
+    match receipt {
+        Ok(Receipt::Got { len, .. }) => said.word(&buf[..len.min(2048)]),
+        Ok(Receipt::Nothing) => said.word(b"silent"),
         Err(Failed) => said.word(b"failed"),
     }
 }

@@ -1,7 +1,7 @@
 //! A link in memory.
 
 use crate::numbers;
-use ft_io::{Addr, Failed, Heard, Link, NoMemory, Octets};
+use ft_io::{Addr, Failed, Receipt, Link, NoMemory, Octets};
 use ft_system::{Arrival, MemLink};
 use std::alloc::Global;
 use test_data::Said;
@@ -33,14 +33,14 @@ fn come(bytes: Vec<u8>) -> Arrival {
 
 /// Says what a receive returned: the length of a datagram and its first five bytes, `silent` or `failed`; `elsewhere` where the
 /// datagram isn't from the peer.
-fn write_received(heard: Result<Heard, Failed>, buf: &[u8], said: &mut Said) {
-    match heard {
-        Ok(Heard::Got { len, from }) if from == PEER => {
+fn write_received(receipt: Result<Receipt, Failed>, buf: &[u8], said: &mut Said) {
+    match receipt {
+        Ok(Receipt::Got { len, from }) if from == PEER => {
             said.value(len);
             said.word(&buf[..len.min(5).min(buf.len())]);
         }
-        Ok(Heard::Got { .. }) => said.word(b"elsewhere"),
-        Ok(Heard::Nothing) => said.word(b"silent"),
+        Ok(Receipt::Got { .. }) => said.word(b"elsewhere"),
+        Ok(Receipt::Nothing) => said.word(b"silent"),
         Err(Failed) => said.word(b"failed"),
     }
 }
@@ -52,8 +52,8 @@ pub fn receive_five(alloc: Global, fails: &str, said: &mut Said) -> Result<(), N
     let mut link = MemLink::new(alloc, arrivals, Vec::new(alloc), fails, false);
     for _ in 0..5 {
         let mut buf = [1u8; 2048];
-        let heard = link.recv(&mut buf);
-        write_received(heard, &buf, said);
+        let receipt = link.recv(&mut buf);
+        write_received(receipt, &buf, said);
     }
     write_counts(&link, said);
     Ok(())
@@ -92,5 +92,5 @@ pub fn bind_three(alloc: Global, fails: &str, said: &mut Said) -> Result<(), NoM
 fn write_counts(link: &MemLink, said: &mut Said) {
     said.value(link.faults());
     said.value(link.bind_faults());
-    said.value(link.told().map_or(0, |calls| calls.len() as u64));
+    said.value(link.reported().map_or(0, |calls| calls.len() as u64));
 }

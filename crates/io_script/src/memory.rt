@@ -62,6 +62,6 @@ pub fn start_two(alloc: Global, fails: &str, said: &mut Said) -> Result<(), NoMe
         said.given(spawner.wait(child));
     }
     said.value(spawner.faults());
-    said.value(spawner.told().map_or(0, |calls| calls.len() as u64));
+    said.value(spawner.reported().map_or(0, |calls| calls.len() as u64));
     Ok(())
 }

@@ -1,6 +1,6 @@
 //! Std's UDP socket as a link.
 
-use ft_io::{Addr, Failed, Heard, Link};
+use ft_io::{Addr, Failed, Receipt, Link};
 use ft_system::UdpLink;
 use std::net::Net;
 use std::time::Clock;
@@ -10,14 +10,14 @@ use test_data::{Said, bind_somewhere};
 pub const PORT: u16 = 7431;
 
 /// Receives, at most eight times, until there is anything but silence: a slow machine may be 20 ms late.
-fn await_datagram<L: Link>(link: &mut L, buf: &mut [u8; 2048]) -> Result<Heard, Failed> {
+fn await_datagram<L: Link>(link: &mut L, buf: &mut [u8; 2048]) -> Result<Receipt, Failed> {
     for _ in 0..8 {
-        let heard = link.recv(buf);
-        if !matches!(heard, Ok(Heard::Nothing)) {
-            return heard;
+        let receipt = link.recv(buf);
+        if !matches!(receipt, Ok(Receipt::Nothing)) {
+            return receipt;
         }
     }
-    Ok(Heard::Nothing)
+    Ok(Receipt::Nothing)
 }
 
 /// Sends itself a datagram of this many bytes, and says its length and first bytes when it arrives.
@@ -25,13 +25,13 @@ fn send_round<L: Link>(link: &mut L, here: Addr, text: &[u8], said: &mut Said) {
     said.done(link.send(here, text).is_ok());
     let mut buf = [b'.'; 2048];
     match await_datagram(link, &mut buf) {
-        Ok(Heard::Got { len, from }) if from == here => {
+        Ok(Receipt::Got { len, from }) if from == here => {
             said.value(len);
             let same = buf[..len.min(2048)] == text[..len.min(text.len())];
             said.word(if same { b"the same" } else { b"other bytes" });
         }
-        Ok(Heard::Got { .. }) => said.word(b"elsewhere"),
-        Ok(Heard::Nothing) => said.word(b"silent"),
+        Ok(Receipt::Got { .. }) => said.word(b"elsewhere"),
+        Ok(Receipt::Nothing) => said.word(b"silent"),
         Err(Failed) => said.word(b"failed"),
     }
 }
@@ -44,7 +44,7 @@ fn write_rounds<L: Link>(link: &mut L, second: &mut L, here: Addr, said: &mut Sa
         send_round(link, here, text, said);
     }
     let mut buf = [0u8; 2048];
-    let silent = matches!(link.recv(&mut buf), Ok(Heard::Nothing));
+    let silent = matches!(link.recv(&mut buf), Ok(Receipt::Nothing));
     said.word(if silent { b"silent" } else { b"not silent" });
     said.value(link.faults().saturating_sub(others));
     said.done(second.bind(here).is_ok());
@@ -93,11 +93,11 @@ fn bind_apart<L: Link>(near: &mut L, far: &mut L) -> Option<Addr> {
 fn write_sender<L: Link>(link: &mut L, said: &mut Said) {
     let mut buf = [b'.'; 2048];
     match await_datagram(link, &mut buf) {
-        Ok(Heard::Got { len, from }) => {
+        Ok(Receipt::Got { len, from }) => {
             said.word(&buf[..len.min(2048)]);
             said.value(from.ip);
         }
-        Ok(Heard::Nothing) => said.word(b"silent"),
+        Ok(Receipt::Nothing) => said.word(b"silent"),
         Err(Failed) => said.word(b"failed"),
     }
 }

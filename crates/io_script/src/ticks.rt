@@ -2,7 +2,7 @@
 
 use crate::sockets::PORT;
 use crate::watch::Watch;
-use ft_io::{Addr, Heard, Link, NoMemory};
+use ft_io::{Addr, Receipt, Link, NoMemory};
 use ft_system::UdpLink;
 use std::alloc::Global;
 use std::net::Net;
@@ -57,8 +57,8 @@ pub fn by_the_list<R: Net + Clock>(
 fn write_receive<L: Link>(link: &mut L, said: &mut Said) {
     let mut buf = [0u8; 2048];
     said.word(match link.recv(&mut buf) {
-        Ok(Heard::Got { .. }) => b"got",
-        Ok(Heard::Nothing) => b"nothing",
+        Ok(Receipt::Got { .. }) => b"got",
+        Ok(Receipt::Nothing) => b"nothing",
         Err(_) => b"failed",
     });
 }
@@ -87,9 +87,9 @@ pub fn in_silence<C: Clock, L: Link>(clock: &C, link: &mut L, said: &mut Said) {
 fn silent_millis<C: Clock, L: Link>(clock: &C, link: &mut L) -> io::Result<Option<u128>> {
     let mut buf = [0u8; 2048];
     let begun = Instant::now(clock)?;
-    let heard = link.recv(&mut buf);
+    let receipt = link.recv(&mut buf);
     let millis = begun.elapsed(clock)?.as_millis();
-    Ok(if matches!(heard, Ok(Heard::Nothing)) {
+    Ok(if matches!(receipt, Ok(Receipt::Nothing)) {
         Some(millis)
     } else {
         None
@@ -169,8 +169,8 @@ fn receive_past_ticks<L: Link>(link: &mut L, came: &mut Came) {
     let mut buf = [0u8; 2048];
     for _ in 0..8 {
         match link.recv(&mut buf) {
-            Ok(Heard::Nothing) => came.ticks = came.ticks.wrapping_add(1),
-            Ok(Heard::Got { .. }) => {
+            Ok(Receipt::Nothing) => came.ticks = came.ticks.wrapping_add(1),
+            Ok(Receipt::Got { .. }) => {
                 came.datagrams = came.datagrams.wrapping_add(1);
                 return;
             }

@@ -15,7 +15,7 @@ use Rattle.disk.specs.CallRecord.{on_link, on_disk, disk_calls}
 use Rattle.disk.specs.declared.calls.DiskCall.{DiskCall}
 use Rattle.disk.specs.declared.calls.DeskCall.{DeskCall}
 use Rattle.disk.specs.declared.calls.DeskCall.TheVariants.{OnLink}
-use Rattle.disk.proofs.Telling.{disk_calls_of_disk}
+use Rattle.disk.proofs.Reporting.{disk_calls_of_disk}
 use Rattle.kept_log.specs.Format.{front, tip_of, HasBlocks, BringsNone, BringsNoneBy, is_unsettled, seen_by}
 use Rattle.kept_log.specs.declared.tip.Tip.{Tip}
 use Rattle.kept_log.proofs.Deaths.{rest_has, is_has, left_append}
@@ -239,7 +239,7 @@ module _ (file : List ℕ) (Held : List ℕ → Type 0) (at : Place) (round : Ro
       ]
 
 -- what whole rounds received, and what they handed on
-record Tells (grammar : Grammar) (before after : Log) (calls : List DeskCall) : Type 0 where
+record Reports (grammar : Grammar) (before after : Log) (calls : List DeskCall) : Type 0 where
   log_is : after ≡ log_after_all before (messages_in grammar calls)
   handed : handed_in calls ≡ map (spelling_by grammar) (answers_to before (messages_in grammar calls))
 
@@ -267,10 +267,10 @@ same_grammar start (Turned last ∷ earlier) = same_grammar start earlier
 same_grammar start (Compacted made bodies ∷ earlier) = same_grammar start earlier
 same_grammar start (Stayed ∷ earlier) = same_grammar start earlier
 
-rounds_tell : (start : Place) (rounds : List Step) → Tells start.grammar start.log (place_after start rounds).log (calls_of start rounds)
-rounds_tell start [] = record { log_is = refl; handed = refl }
-rounds_tell start (Compacted made bodies ∷ earlier) =
-    let before = rounds_tell start earlier in
+rounds_report : (start : Place) (rounds : List Step) → Reports start.grammar start.log (place_after start rounds).log (calls_of start rounds)
+rounds_report start [] = record { log_is = refl; handed = refl }
+rounds_report start (Compacted made bodies ∷ earlier) =
+    let before = rounds_report start earlier in
     let calls = calls_of start earlier in
     let more : List DeskCall = on_disk (replacing made bodies) in
     let same : messages_in start.grammar (calls ++ more) ≡ messages_in start.grammar calls = messages-append start.grammar calls more ∙ append-nil (messages_in start.grammar calls) in
@@ -278,10 +278,10 @@ rounds_tell start (Compacted made bodies ∷ earlier) =
       log_is = before.log_is ∙ ap (log_after_all start.log) (sym same);
       handed = handed-append calls more ∙ (append-nil (handed_in calls) ∙ (before.handed ∙ ap (λ l. map (spelling_by start.grammar) (answers_to start.log l)) (sym same)));
     }
-rounds_tell start (Stayed ∷ earlier) = rounds_tell start earlier
-rounds_tell start (Turned last ∷ earlier) =
+rounds_report start (Stayed ∷ earlier) = rounds_report start earlier
+rounds_report start (Turned last ∷ earlier) =
     let at = place_after start earlier in
-    let before = rounds_tell start earlier in
+    let before = rounds_report start earlier in
     let said : messages_in start.grammar (round_calls at last) ≡ said_by at.grammar (received_in last) =
     subst (λ g. messages_in g (round_calls at last) ≡ said_by at.grammar (received_in last)) (same_grammar start earlier) (round_said at last) in
     let handed : handed_in (round_calls at last) ≡ map (spelling_by start.grammar) (answers_to at.log (said_by at.grammar (received_in last))) =
@@ -299,7 +299,7 @@ rounds_tell start (Turned last ∷ earlier) =
     }
 
 -- after calls that were told whole
-comes_behind : (grammar : Grammar) (start at next : Log) (calls rest : List DeskCall) → Tells grammar start at calls → ComesBack grammar at next rest → ComesBack grammar start next (calls ++ rest)
+comes_behind : (grammar : Grammar) (start at next : Log) (calls rest : List DeskCall) → Reports grammar start at calls → ComesBack grammar at next rest → ComesBack grammar start next (calls ++ rest)
 comes_behind grammar start at next calls rest t back =
     let first = messages_in grammar calls in
     record {
@@ -313,7 +313,7 @@ comes_behind grammar start at next calls rest t back =
           ∙ (sym (log-append start first (back.answered ++ back.kept)) ∙ ap (log_after_all start) (sym (append_assoc first back.answered back.kept))));
     }
 
-behind : (grammar : Grammar) (start at : Log) (calls rest done : List DeskCall) (left : List ℕ) → done ≡ calls ++ rest → Tells grammar start at calls → Outlives grammar at rest left → Outlives grammar start done left
+behind : (grammar : Grammar) (start at : Log) (calls rest done : List DeskCall) (left : List ℕ) → done ≡ calls ++ rest → Reports grammar start at calls → Outlives grammar at rest left → Outlives grammar start done left
 behind grammar start at calls rest done left is t o =
     subst (λ d. Outlives grammar start d left) (sym is)
     (outlives grammar start o.log (calls ++ rest) left o.made o.bodies o.tip o.stands o.has_log (comes_behind grammar start at o.log calls rest t o.comes_back))
@@ -389,7 +389,7 @@ in_rounds file Held start (Compacted made bodies ∷ earlier) done left r all f 
           let parts : disk_calls done ≡ disk_calls calls ++ one.0 =
           ap disk_calls some.1 ∙ (disk_calls-append calls some.0 ∙ ap (λ x. disk_calls calls ++ x) (ap disk_calls one.1 ∙ disk_calls_of_disk one.0)) in
           let now = left_append file Held (disk_calls calls) one.0 left (subst (λ c. LeftBy file Held c left) parts l) in
-          behind start.grammar start.log at.log calls (on_disk one.0) done left (some.1 ∙ ap (λ x. calls ++ x) one.1) (rounds_tell start earlier)
+          behind start.grammar start.log at.log calls (on_disk one.0) done left (some.1 ∙ ap (λ x. calls ++ x) one.1) (rounds_report start earlier)
           (subst (λ g. Outlives g at.log (on_disk one.0) left) (same_grammar start earlier) (in_replacing (seen_by file (disk_calls calls)) (LeftBy file Held (disk_calls calls)) at made bodies one.0 left (rests_on file Held start earlier all.1 r) all.0 one.2 now))
     ]
 in_rounds file Held start (Stayed ∷ earlier) done left r all f l brings = in_rounds file Held start earlier done left r all f l brings
@@ -402,7 +402,7 @@ in_rounds file Held start (Turned last ∷ earlier) done left r all f l brings =
           let parts : disk_calls done ≡ disk_calls calls ++ disk_calls some.0 = ap disk_calls some.1 ∙ disk_calls-append calls some.0 in
           let now = left_append file Held (disk_calls calls) (disk_calls some.0) left (subst (λ c. LeftBy file Held c left) parts l) in
           let none_now = brings_on file (disk_calls calls) (disk_calls some.0) left (settled_steps start earlier) (subst (λ c. BringsNoneBy file c left) parts brings) in
-          behind start.grammar start.log at.log calls some.0 done left some.1 (rounds_tell start earlier)
+          behind start.grammar start.log at.log calls some.0 done left some.1 (rounds_report start earlier)
           (subst (λ g. Outlives g at.log some.0 left) (same_grammar start earlier) (in_round (seen_by file (disk_calls calls)) (LeftBy file Held (disk_calls calls)) at last left (rests_on file Held start earlier all.1 r) all.0 some.0 some.2 now none_now))
     ]
 

@@ -12,7 +12,7 @@ use Rattle.logger_store.specs.Changes.{changes}
 use Rattle.disk.specs.Remains.{LeftBy}
 use Rattle.disk.specs.CallRecord.{on_link, on_disk, disk_calls}
 use Rattle.disk.specs.declared.calls.DiskCall.{DiskCall}
-use Rattle.disk.proofs.Telling.{disk_calls_of_disk}
+use Rattle.disk.proofs.Reporting.{disk_calls_of_disk}
 use Rattle.kept_log.specs.Compaction.{replacing}
 use Rattle.kept_log.specs.Format.{tip_of, IsAtRest, keeping, making, seen_by}
 use Rattle.kept_log.specs.declared.tip.Tip.{Tip}

@@ -3,8 +3,8 @@ use Rattle.std.proofs.Common.{◌≡◌, ◌∙◌, ℕ, Bool, ◌+◌, ◌<◌,
 use Rattle.std.proofs.lemmas.List.{length-take, map-append}
 use Rattle.ft_io.specs.declared.Addr.{Addr}
 use Rattle.ft_io.specs.declared.link_call.LinkCall.{LinkCall}
-use Rattle.ft_io.specs.Told.{Tells}
-use Rattle.ft_io.proofs.Tellings.{tells_on, none_told}
+use Rattle.ft_io.specs.Reported.{Reports}
+use Rattle.ft_io.proofs.Recordings.{reports_on, none_reported}
 use Rattle.disk.specs.CallRecord.{on_link}
 use Rattle.disk.specs.declared.calls.DeskCall.{DeskCall}
 use Rattle.disk.specs.declared.calls.DeskCall.TheVariants.{OnLink}
@@ -19,8 +19,8 @@ pub on_link-append : (xs ys : List LinkCall) → on_link (xs ++ ys) ≡ on_link 
 on_link-append xs ys = map-append OnLink xs ys
 
 -- link calls are told after one another on a desk
-pub tells_more : (old mid new : Option (List DeskCall)) (xs ys : List LinkCall) → Tells old mid (on_link xs) → Tells mid new (on_link ys) → Tells old new (on_link (xs ++ ys))
-tells_more old mid new xs ys a b = subst (Tells old new) (sym (on_link-append xs ys)) (tells_on old mid new (on_link xs) (on_link ys) a b)
+pub reports_more : (old mid new : Option (List DeskCall)) (xs ys : List LinkCall) → Reports old mid (on_link xs) → Reports mid new (on_link ys) → Reports old new (on_link (xs ++ ys))
+reports_more old mid new xs ys a b = subst (Reports old new) (sym (on_link-append xs ys)) (reports_on old mid new (on_link xs) (on_link ys) a b)
 
 handed_on : (answers : List Answer) (calls : List LinkCall) (answer : Answer) (is_lost : Bool) → AreHanded answers calls
     → AreHanded (answers ++ answer ∷ []) (calls ++ handing_bytes answer.to is_lost answer.out)
@@ -42,8 +42,8 @@ few_handed (a ∷ answers) calls (lost, rest, is, h) =
     let all : length calls ≡ length (handing_bytes a.to lost a.out ++ rest) = ap length is in
     omega (arith, one, few, sum, all)
 
-pub answered_none : (told : Option (List DeskCall)) (counts : Counts) → HasAnswered [] told told counts counts
-answered_none told counts = record { calls = []; handed = refl; tells = none_told told; counts_are = sym (with_none counts) }
+pub answered_none : (reported : Option (List DeskCall)) (counts : Counts) → HasAnswered [] reported reported counts counts
+answered_none reported counts = record { calls = []; handed = refl; reports = none_reported reported; counts_are = sym (with_none counts) }
 
 pub room_for_one : (answers : List Answer) (i : ℕ) (old new : Option (List DeskCall)) (counted counts : Counts) → i < length answers → HasRoom (length answers) counted
     → HasAnswered (take i answers) old new counted counts → HasRoom 1 counts
@@ -67,6 +67,6 @@ answered_on answers i answer old mid new c between counts more done hands =
     record {
       calls = done.calls ++ next;
       handed = subst (λ l. AreHanded l (done.calls ++ next)) (sym more) (handed_on (take i answers) done.calls answer hands.is_lost done.handed);
-      tells = tells_more old mid new done.calls next done.tells hands.tells;
+      reports = reports_more old mid new done.calls next done.reports hands.reports;
       counts_are = hands.counts_are ∙ (ap (λ x. with_calls x next) done.counts_are ∙ with_both c done.calls next);
     }

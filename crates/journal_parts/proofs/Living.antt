@@ -3,9 +3,9 @@ use Rattle.std.proofs.Common.{◌≡◌, ◌∙◌, inl, inr, ℕ, true, false, 
 use Rattle.std.specs.Result.{IsErrAnd}
 use Rattle.std.specs.Io.KnownBytes.{Appends}
 use Rattle.ft_io.specs.Sink.{AppendsFront}
-use Rattle.ft_io.specs.Told.{Tells}
+use Rattle.ft_io.specs.Reported.{Reports}
 use Rattle.ft_io.specs.declared.link_call.LinkCall.TheVariants.{Bound}
-use Rattle.ft_io.proofs.Tellings.{tells_on}
+use Rattle.ft_io.proofs.Recordings.{reports_on}
 use Rattle.seq_arith.specs.declared.kinds.Grammar.{Grammar}
 use Rattle.ft_model.specs.Log.{empty_log}
 use Rattle.trace_laws.specs.NeededMessages.{log_after_all}
@@ -22,7 +22,7 @@ use Rattle.kept_log.specs.declared.opening.OpenEnd.{OpenEnd}
 use Rattle.kept_log.specs.declared.opening.OpenEnd.TheVariants as open_end
 use Rattle.link_parts.specs.Counts.{count_line}
 use Rattle.link_parts.specs.declared.counts.Counts.{Counts}
-use Rattle.link_parts.specs.LineOutput.{TellStops}
+use Rattle.link_parts.specs.LineOutput.{ReportStops}
 use Rattle.link_parts.specs.LoggerParts.{grammar_for}
 use Rattle.link_parts.specs.declared.status.NodeEnd.{NodeEnd}
 use Rattle.link_parts.specs.declared.status.NodeEnd.TheVariants as ends
@@ -35,15 +35,15 @@ use Rattle.journal_parts.specs.declared.status.ProcessEnd.{ProcessEnd}
 use Rattle.journal_parts.specs.declared.status.ProcessEnd.TheVariants.{Node, JournalFault, BadJournal, NoJournal, InUse}
 
 -- a file was opened by its name, and the journal in it wasn't
-pub opening_stops : (grammar : Grammar) (file left : Option (List ℕ)) (old mid new : Option (List DeskCall)) (end : OpenEnd) → left ≡ file → Tells old mid [] → HasStopped left mid new end
+pub opening_stops : (grammar : Grammar) (file left : Option (List ℕ)) (old mid new : Option (List DeskCall)) (end : OpenEnd) → left ≡ file → Reports old mid [] → HasStopped left mid new end
     → (end ≡ open_end.OtherGrammar → HasOtherGrammar grammar left) → OpeningStops grammar false file old new (from_open end)
-opening_stops grammar file left old mid new open_end.NoMemory is t s other = tells_on old mid new [] [] t s
-opening_stops grammar file left old mid new open_end.Empty is t (s, none) other = (tells_on old mid new [] [] t s, λ bytes e. none bytes (is ∙ e))
-opening_stops grammar file left old mid new open_end.Unfinished is t (s, part) other = (tells_on old mid new [] [] t s, λ bytes e. part bytes (is ∙ e))
-opening_stops grammar file left old mid new open_end.Older is t (s, older) other = (tells_on old mid new [] [] t s, λ bytes e. older bytes (is ∙ e))
-opening_stops grammar file left old mid new open_end.OtherGrammar is t s other = (tells_on old mid new [] [] t s, λ bytes e. other refl bytes (is ∙ e))
-opening_stops grammar file left old mid new (open_end.Wrong at) is t (s, damaged) other = (tells_on old mid new [] [] t s, (λ bytes e. damaged bytes (is ∙ e)), refl)
-opening_stops grammar file left old mid new open_end.Failed is t (inl s) other = inl (tells_on old mid new [] [] t s)
+opening_stops grammar file left old mid new open_end.NoMemory is t s other = reports_on old mid new [] [] t s
+opening_stops grammar file left old mid new open_end.Empty is t (s, none) other = (reports_on old mid new [] [] t s, λ bytes e. none bytes (is ∙ e))
+opening_stops grammar file left old mid new open_end.Unfinished is t (s, part) other = (reports_on old mid new [] [] t s, λ bytes e. part bytes (is ∙ e))
+opening_stops grammar file left old mid new open_end.Older is t (s, older) other = (reports_on old mid new [] [] t s, λ bytes e. older bytes (is ∙ e))
+opening_stops grammar file left old mid new open_end.OtherGrammar is t s other = (reports_on old mid new [] [] t s, λ bytes e. other refl bytes (is ∙ e))
+opening_stops grammar file left old mid new (open_end.Wrong at) is t (s, damaged) other = (reports_on old mid new [] [] t s, (λ bytes e. damaged bytes (is ∙ e)), refl)
+opening_stops grammar file left old mid new open_end.Failed is t (inl s) other = inl (reports_on old mid new [] [] t s)
 opening_stops grammar file left old mid new open_end.Failed is t (inr s) other = inr (record {
   opening = s.calls;
   torn = s.cut;
@@ -57,13 +57,13 @@ opening_stops grammar file left old mid new open_end.Failed is t (inr s) other =
     grammar_is = refl;
   };
   front = s.is_front;
-  tells = tells_on old mid new [] (on_disk s.done) t s.tells;
+  reports = reports_on old mid new [] (on_disk s.done) t s.reports;
 })
 
 -- a file was made, and the journal in it wasn't
-pub making_stops : (grammar : Grammar) (file : Option (List ℕ)) (made : List ℕ) (old mid new : Option (List DeskCall)) (end : KeepEnd) → length made ≡ 8 → Tells old mid [] → HasNotBegun made mid new end
+pub making_stops : (grammar : Grammar) (file : Option (List ℕ)) (made : List ℕ) (old mid new : Option (List DeskCall)) (end : KeepEnd) → length made ≡ 8 → Reports old mid [] → HasNotBegun made mid new end
     → OpeningStops grammar true file old new (from_keep end)
-making_stops grammar file made old mid new keep_end.NoMemory time t s = tells_on old mid new [] [] t s
+making_stops grammar file made old mid new keep_end.NoMemory time t s = reports_on old mid new [] [] t s
 making_stops grammar file made old mid new keep_end.Failed time t (done, front, s) = inr (record {
   opening = making made;
   torn = 0;
@@ -71,22 +71,22 @@ making_stops grammar file made old mid new keep_end.Failed time t (done, front, 
   done = done;
   starts = record { made = made; grammar_is = refl; has_log = no_blocks made time; opening_is = refl; none = refl };
   front = front;
-  tells = tells_on old mid new [] (on_disk done) t s;
+  reports = reports_on old mid new [] (on_disk done) t s;
 })
 
 -- .. and one that was made
-pub made_opens : (grammar : Grammar) (file : Option (List ℕ)) (made : List ℕ) (old mid new : Option (List DeskCall)) (start : Place) → Tells old mid [] → HasLog made [] start.tip start.log
-    → start.grammar ≡ grammar → Tells mid new (on_disk (making made)) → IsOpen grammar true file 0 start old new
+pub made_opens : (grammar : Grammar) (file : Option (List ℕ)) (made : List ℕ) (old mid new : Option (List DeskCall)) (start : Place) → Reports old mid [] → HasLog made [] start.tip start.log
+    → start.grammar ≡ grammar → Reports mid new (on_disk (making made)) → IsOpen grammar true file 0 start old new
 made_opens grammar file made old mid new start t has own s =
-    (making made, record { made = made; grammar_is = own; has_log = has; opening_is = refl; none = refl }, (λ never. absurd (true≢false never)), tells_on old mid new [] (on_disk (making made)) t s)
+    (making made, record { made = made; grammar_is = own; has_log = has; opening_is = refl; none = refl }, (λ never. absurd (true≢false never)), reports_on old mid new [] (on_disk (making made)) t s)
 
-pub found_opens : (grammar : Grammar) (file left : Option (List ℕ)) (old mid new : Option (List DeskCall)) (torn : ℕ) (start : Place) → left ≡ file → Tells old mid []
+pub found_opens : (grammar : Grammar) (file left : Option (List ℕ)) (old mid new : Option (List DeskCall)) (torn : ℕ) (start : Place) → left ≡ file → Reports old mid []
     → start.grammar ≡ grammar → HasGrammar grammar left → IsOpened left mid new start.tip torn start.log → IsOpen grammar false file torn start old new
 found_opens grammar file left old mid new torn start is t own has s = (
   s.calls,
   record { made = s.made; bodies = s.bodies; has_log = s.has_log; finds = λ bytes e. s.finds bytes (is ∙ e); grammar_is = own },
   (λ _ bytes e. has bytes (is ∙ e)),
-  tells_on old mid new [] (on_disk s.calls) t s.tells,
+  reports_on old mid new [] (on_disk s.calls) t s.reports,
 )
 
 lived : (least count : ℕ) (start at : Place) (old new : Option (List DeskCall)) (counts : Counts) (Writes : List ℕ → Type 0) → HasServed least count start at old new counts
@@ -95,14 +95,14 @@ lived least count start at old new counts Writes s w = record {
   rounds = s.rounds;
   are_rounds = s.are_rounds;
   count_is = s.count_is;
-  tells = s.tells;
+  reports = s.reports;
   written = subst (λ c. Writes (count_line c)) s.counts_are w;
 }
 
 -- all turns were done, and memory was wanting for their line
-untold : (least count : ℕ) (start at : Place) (old new : Option (List DeskCall)) (counts : Counts) → HasServed least count start at old new counts
+unreported : (least count : ℕ) (start at : Place) (old new : Option (List DeskCall)) (counts : Counts) → HasServed least count start at old new counts
     → IsCutServing least count start old new
-untold least count start at old new counts s = record {
+unreported least count start at old new counts s = record {
   rounds = s.rounds;
   received = [];
   cut = [];
@@ -110,7 +110,7 @@ untold least count start at old new counts s = record {
   are_rounds = s.are_rounds;
   unanswered = record { done = []; is_round = inl refl; front = tt; calls_are = refl };
   within = omega (arith, s.count_is);
-  tells = subst (Tells old new) (sym (append-nil (calls_of start s.rounds))) s.tells;
+  reports = subst (Reports old new) (sym (append-nil (calls_of start s.rounds))) s.reports;
 }
 
 -- rounds that stopped have written nothing
@@ -131,8 +131,8 @@ ended_stops least count start old new out (NoJournal lack) s = absurd s
 ended_stops least count start old new out InUse s = absurd s
 
 pub line_stops : (least count : ℕ) (start at : Place) (old new : Option (List DeskCall)) (counts : Counts) (out_old out_new : Option (List ℕ)) (end : NodeEnd)
-    → HasServed least count start at old new counts → TellStops (count_line counts) out_old out_new end → ServingStops least count start old new out_old out_new (Node end)
-line_stops least count start at old new counts out_old out_new ends.NoMemory s t = (untold least count start at old new counts s, t)
+    → HasServed least count start at old new counts → ReportStops (count_line counts) out_old out_new end → ServingStops least count start old new out_old out_new (Node end)
+line_stops least count start at old new counts out_old out_new ends.NoMemory s t = (unreported least count start at old new counts s, t)
 line_stops least count start at old new counts out_old out_new ends.WriteFault s t = lived least count start at old new counts (AppendsFront out_old out_new) s t
 line_stops least count start at old new counts out_old out_new ends.LinkFault s t = absurd t
 line_stops least count start at old new counts out_old out_new ends.Usage s t = absurd t
@@ -148,13 +148,13 @@ said_end (Ok x) end P is p = tt
 said_end (Err e) end P is p = subst P (sym is) p
 
 -- after the opening's line and the bind
-module _ (role : JournalRole) (start : Place) (torn : ℕ) (old bound new : Option (List DeskCall)) (bind : Tells old bound (OnLink (Bound role.logger.local) ∷ [])) where
+module _ (role : JournalRole) (start : Place) (torn : ℕ) (old bound new : Option (List DeskCall)) (bind : Reports old bound (OnLink (Bound role.logger.local) ∷ [])) where
   pub served_noted : (Writes Notes : List ℕ → Type 0) → Notes (cut_text torn) → HasLived role.compact role.logger.turns start bound new Writes → HasServedNoted role start torn old new Writes Notes
   served_noted Writes Notes noted l = record {
     rounds = l.rounds;
     are_rounds = l.are_rounds;
     count_is = l.count_is;
-    tells = tells_on old bound new (OnLink (Bound role.logger.local) ∷ []) (calls_of start l.rounds) bind l.tells;
+    reports = reports_on old bound new (OnLink (Bound role.logger.local) ∷ []) (calls_of start l.rounds) bind l.reports;
     written = l.written;
     noted = noted;
   }
@@ -168,7 +168,7 @@ module _ (role : JournalRole) (start : Place) (torn : ℕ) (old bound new : Opti
     are_rounds = s.are_rounds;
     unanswered = s.unanswered;
     within = s.within;
-    tells = tells_on old bound new (OnLink (Bound role.logger.local) ∷ []) (calls_of start s.rounds ++ s.cut) bind s.tells;
+    reports = reports_on old bound new (OnLink (Bound role.logger.local) ∷ []) (calls_of start s.rounds ++ s.cut) bind s.reports;
     noted = noted;
   }
 
@@ -180,7 +180,7 @@ module _ (role : JournalRole) (start : Place) (torn : ℕ) (old bound new : Opti
     due = s.due;
     unreplaced = s.unreplaced;
     within = s.within;
-    tells = tells_on old bound new (OnLink (Bound role.logger.local) ∷ []) (calls_of start s.rounds ++ s.cut) bind s.tells;
+    reports = reports_on old bound new (OnLink (Bound role.logger.local) ∷ []) (calls_of start s.rounds ++ s.cut) bind s.reports;
     noted = noted;
   }
 
@@ -213,7 +213,7 @@ module _ (role : JournalRole) (file : Option (List ℕ)) (torn : ℕ) (start : P
     own = own;
     are_rounds = l.are_rounds;
     count_is = l.count_is;
-    tells = tells_on old opened new (on_disk opening) (OnLink (Bound role.logger.local) ∷ calls_of start l.rounds) o l.tells;
+    reports = reports_on old opened new (on_disk opening) (OnLink (Bound role.logger.local) ∷ calls_of start l.rounds) o l.reports;
     written = l.written;
     noted = l.noted;
   }
@@ -232,7 +232,7 @@ module _ (role : JournalRole) (file : Option (List ℕ)) (torn : ℕ) (start : P
     are_rounds = s.are_rounds;
     unanswered = s.unanswered;
     within = s.within;
-    tells = tells_on old opened new (on_disk opening) (OnLink (Bound role.logger.local) ∷ (calls_of start s.rounds ++ s.cut)) o s.tells;
+    reports = reports_on old opened new (on_disk opening) (OnLink (Bound role.logger.local) ∷ (calls_of start s.rounds ++ s.cut)) o s.reports;
     noted = s.noted;
   }
 
@@ -249,17 +249,17 @@ module _ (role : JournalRole) (file : Option (List ℕ)) (torn : ℕ) (start : P
     due = s.due;
     unreplaced = s.unreplaced;
     within = s.within;
-    tells = tells_on old opened new (on_disk opening) (OnLink (Bound role.logger.local) ∷ (calls_of start s.rounds ++ s.cut)) o s.tells;
+    reports = reports_on old opened new (on_disk opening) (OnLink (Bound role.logger.local) ∷ (calls_of start s.rounds ++ s.cut)) o s.reports;
     noted = s.noted;
   }
 
-  unbound : (Notes : List ℕ → Type 0) → IsOpen (grammar_for role.logger) role.begins file torn start old opened → Tells opened new [] → Notes (cut_text torn) → IsUnbound (grammar_for role.logger) role.begins file old new Notes
+  unbound : (Notes : List ℕ → Type 0) → IsOpen (grammar_for role.logger) role.begins file torn start old opened → Reports opened new [] → Notes (cut_text torn) → IsUnbound (grammar_for role.logger) role.begins file old new Notes
   unbound Notes (opening, starts, own, o) t n = record {
     opening = opening;
     torn = torn;
     start = start;
     starts = starts;
-    tells = subst (Tells old new) (append-nil (on_disk opening)) (tells_on old opened new (on_disk opening) [] o t);
+    reports = subst (Reports old new) (append-nil (on_disk opening)) (reports_on old opened new (on_disk opening) [] o t);
     noted = n;
   }
 

@@ -3,8 +3,8 @@ use Rattle.std.proofs.Common.{◌≡◌, ◌∙◌, inl, inr, ℕ, Bool, true, f
 use Rattle.std.proofs.lemmas.List.{length-map}
 use Rattle.ft_io.specs.declared.Addr.{Addr}
 use Rattle.ft_io.specs.declared.link_call.LinkCall.{LinkCall}
-use Rattle.ft_io.specs.Told.{Tells}
-use Rattle.ft_io.proofs.Tellings.{tells_on, none_told}
+use Rattle.ft_io.specs.Reported.{Reports}
+use Rattle.ft_io.proofs.Recordings.{reports_on, none_reported}
 use Rattle.disk.specs.CallRecord.{on_link, on_disk, link_calls}
 use Rattle.disk.specs.Remains.{IsFrontOf}
 use Rattle.disk.specs.declared.calls.DiskCall.{DiskCall}
@@ -126,7 +126,7 @@ waits before mid received idle is = record {
 }
 
 pub turned : (count : ℕ) (before mid after : KeptState) (old t1 t2 new : Option (List DeskCall)) (c k counts : Counts) (replies : List Answer) → before.round ≡ []
-    → HasGathered count before mid old t1 c k replies → Tells t1 t2 (on_disk (committing mid.tip mid.round)) → after.round ≡ [] → after.log ≡ mid.log → after.grammar ≡ mid.grammar
+    → HasGathered count before mid old t1 c k replies → Reports t1 t2 (on_disk (committing mid.tip mid.round)) → after.round ≡ [] → after.log ≡ mid.log → after.grammar ≡ mid.grammar
     → after.tip ≡ tip_after mid.tip mid.round → HasAnswered replies t2 new k counts → HasTurned count before after old new c counts
 turned count before mid after old t1 t2 new c k counts replies idle g kept none log same end a =
     let w = waits before mid g.received idle g.after_is in
@@ -140,10 +140,10 @@ turned count before mid after old t1 t2 new c k counts replies idle g kept none 
       round = f.round;
       count_is = sym (length-map f.round (λ (t : LoggerTurn). t.received)) ∙ (ap length f.same ∙ g.count_is);
       is_round = subst IsRound (sym f.same) g.is_round;
-      tells = tells_on old t1 new (on_link (receives (received_in f.round))) (on_disk (committing before.tip (changes_in before.grammar before.log (received_in f.round))) ++ on_link (answers_in before.grammar before.log f.round))
-          (subst (λ l. Tells old t1 (on_link l)) came g.tells)
-          (tells_on t1 t2 new (on_disk (committing before.tip (changes_in before.grammar before.log (received_in f.round)))) (on_link (answers_in before.grammar before.log f.round))
-          (subst (λ l. Tells t1 t2 (on_disk l)) commit kept) (subst (λ l. Tells t2 new (on_link l)) f.calls_are a.tells));
+      reports = reports_on old t1 new (on_link (receives (received_in f.round))) (on_disk (committing before.tip (changes_in before.grammar before.log (received_in f.round))) ++ on_link (answers_in before.grammar before.log f.round))
+          (subst (λ l. Reports old t1 (on_link l)) came g.reports)
+          (reports_on t1 t2 new (on_disk (committing before.tip (changes_in before.grammar before.log (received_in f.round)))) (on_link (answers_in before.grammar before.log f.round))
+          (subst (λ l. Reports t1 t2 (on_disk l)) commit kept) (subst (λ l. Reports t2 new (on_link l)) f.calls_are a.reports));
       counts_are = a.counts_are ∙ (ap₂ (λ x y. with_calls x y) (g.counts_are ∙ ap (with_calls c) came) f.calls_are
           ∙ (with_both c (receives (received_in f.round)) (answers_in before.grammar before.log f.round) ∙ ap (with_calls c) (sym links)));
       place = same_place after.tip (tip_after before.tip (changes_in before.grammar before.log (received_in f.round))) after.log
@@ -162,14 +162,14 @@ cut_by_memory most at old new g = record {
   cut = on_link (receives g.received) ++ [];
   within = g.within;
   unanswered = record { done = []; is_round = inr g.is_round; front = tt; calls_are = refl };
-  tells = subst (Tells old new) (sym (append-nil (on_link (receives g.received)))) g.tells;
+  reports = subst (Reports old new) (sym (append-nil (on_link (receives g.received)))) g.reports;
 }
 
 -- .. or its commit
 pub cut_by_commit : (count most : ℕ) (before mid : KeptState) (old t1 new : Option (List DeskCall)) (c k : Counts) (replies : List Answer) → count ≤ most → before.round ≡ []
     → HasGathered count before mid old t1 c k replies
-    → ((done : List DiskCall) × IsFrontOf (committing mid.tip mid.round) done × Tells t1 new (on_disk done)) → (mid.round ≡ [] → ⊥) → IsCutRound most (place_of before) old new
-cut_by_commit count most before mid old t1 new c k replies few idle g (done, front, told) some =
+    → ((done : List DiskCall) × IsFrontOf (committing mid.tip mid.round) done × Reports t1 new (on_disk done)) → (mid.round ≡ [] → ⊥) → IsCutRound most (place_of before) old new
+cut_by_commit count most before mid old t1 new c k replies few idle g (done, front, reported) some =
     let w = waits before mid g.received idle g.after_is in
     record {
       received = g.received;
@@ -182,7 +182,7 @@ cut_by_commit count most before mid old t1 new c k replies few idle g (done, fro
         front = subst (λ l. IsFrontOf l done) (ap₂ (λ x y. committing x y) w.tip w.round) front;
         calls_are = refl;
       };
-      tells = tells_on old t1 new (on_link (receives g.received)) (on_disk done) g.tells told;
+      reports = reports_on old t1 new (on_link (receives g.received)) (on_disk done) g.reports reported;
     }
 
 replies_count : (grammar : Grammar) (log : Log) (received : List Received) → length (replies_to grammar log received) ≤ length received
@@ -216,8 +216,8 @@ room_to_answer count before mid old t1 c k replies room g few =
     })
 
 -- rounds so far
-pub served_none : (least : ℕ) (at : Place) (told : Option (List DeskCall)) (counts : Counts) → counts ≡ no_calls → HasServed least 0 at at told told counts
-served_none least at told counts none = record { rounds = []; are_rounds = (tt, tt); count_is = refl; tells = none_told told; counts_are = none; at_is = refl }
+pub served_none : (least : ℕ) (at : Place) (reported : Option (List DeskCall)) (counts : Counts) → counts ≡ no_calls → HasServed least 0 at at reported reported counts
+served_none least at reported counts none = record { rounds = []; are_rounds = (tt, tt); count_is = refl; reports = none_reported reported; counts_are = none; at_is = refl }
 
 -- a file isn't due right after the time at which it was to be replaced
 never_due : (least length : ℕ) → IsDue least length length → ⊥
@@ -234,9 +234,9 @@ pub record IsServing (least last count : ℕ) (start at : Place) (old new : Opti
   pub served : HasServed least count start at old new counts
   pub last_is : last ≡ last_length start served.rounds
 
-pub serving_none : (least : ℕ) (at : Place) (told : Option (List DeskCall)) (counts : Counts) → counts ≡ no_calls → IsServing least 0 0 at at told told counts
+pub serving_none : (least : ℕ) (at : Place) (reported : Option (List DeskCall)) (counts : Counts) → counts ≡ no_calls → IsServing least 0 0 at at reported reported counts
 unfolding served_none
-serving_none least at told counts none = record { served = served_none least at told counts none; last_is = refl }
+serving_none least at reported counts none = record { served = served_none least at reported counts none; last_is = refl }
 
 pub served_on : (least last i count : ℕ) (start : Place) (before after : KeptState) (old mid new : Option (List DeskCall)) (c counts : Counts)
     → IsReady least last i start (place_of before) old mid c → HasTurned count before after mid new c counts → IsServing least last (i + count) start (place_of after) old new counts
@@ -248,7 +248,7 @@ served_on least last i count start before after old mid new c counts ready t =
         rounds = Turned t.round ∷ s.rounds;
         are_rounds = ((t.is_round, s.are_rounds.0), (ready.rests, s.are_rounds.1));
         count_is = ap₂ (λ x y. x + y) s.count_is t.count_is;
-        tells = tells_on old mid new (calls_of start s.rounds) (round_calls (place_after start s.rounds) t.round) s.tells (subst (Tells mid new) calls t.tells);
+        reports = reports_on old mid new (calls_of start s.rounds) (round_calls (place_after start s.rounds) t.round) s.reports (subst (Reports mid new) calls t.reports);
         counts_are = t.counts_are ∙ (ap₂ (λ x y. with_calls x (link_calls y)) s.counts_are calls
             ∙ (sym (counts_on (link_calls (calls_of start s.rounds)) (link_calls (round_calls (place_after start s.rounds) t.round)))
             ∙ ap counts_of (sym (link_calls-append (calls_of start s.rounds) (round_calls (place_after start s.rounds) t.round)))));
@@ -278,7 +278,7 @@ compacted_on least last next count start before after made old mid new counts se
           (due_after least last start before s.rounds serving.last_is s.at_is due, s.are_rounds.1),
         );
         count_is = s.count_is;
-        tells = tells_on old mid new (calls_of start s.rounds) replaced s.tells k.tells;
+        reports = reports_on old mid new (calls_of start s.rounds) replaced s.reports k.reports;
         counts_are = s.counts_are
             ∙ ap counts_of (sym (link_calls-append (calls_of start s.rounds) replaced ∙ append-nil (link_calls (calls_of start s.rounds))));
         at_is = same_place after.tip (tip_of made k.bodies) after.log (place_after start s.rounds).log after.grammar (place_after start s.rounds).grammar k.next_is (same ∙ ap (λ p. p.log) s.at_is) (grammar ∙ ap (λ p. p.grammar) s.at_is);
@@ -289,9 +289,9 @@ compacted_on least last next count start before after made old mid new counts se
 
 -- nothing was called
 same_served : (least count : ℕ) (start : Place) (before after : KeptState) (old mid new : Option (List DeskCall)) (counts : Counts) (s : HasServed least count start (place_of before) old mid counts)
-    → after.log ≡ before.log → after.grammar ≡ before.grammar → Stays before after mid new → (Tells old new (calls_of start s.rounds)) × (place_of after ≡ place_after start s.rounds)
+    → after.log ≡ before.log → after.grammar ≡ before.grammar → Stays before after mid new → (Reports old new (calls_of start s.rounds)) × (place_of after ≡ place_after start s.rounds)
 same_served least count start before after old mid new counts s log grammar (tip, none) = (
-  subst (Tells old new) (append-nil (calls_of start s.rounds)) (tells_on old mid new (calls_of start s.rounds) [] s.tells none),
+  subst (Reports old new) (append-nil (calls_of start s.rounds)) (reports_on old mid new (calls_of start s.rounds) [] s.reports none),
   same_place after.tip before.tip after.log before.log after.grammar before.grammar tip log grammar ∙ s.at_is,
 )
 
@@ -306,7 +306,7 @@ readied least last next count start before after old mid new counts serving (log
         rounds = s.rounds;
         are_rounds = s.are_rounds;
         count_is = s.count_is;
-        tells = same.0;
+        reports = same.0;
         counts_are = s.counts_are;
         at_is = same.1;
       };
@@ -324,7 +324,7 @@ readied least last next count start before after old mid new counts serving (log
         rounds = Stayed ∷ s.rounds;
         are_rounds = (s.are_rounds.0, (due_after least last start before s.rounds serving.last_is s.at_is due, s.are_rounds.1));
         count_is = s.count_is;
-        tells = same.0;
+        reports = same.0;
         counts_are = s.counts_are;
         at_is = same.1;
       };
@@ -333,9 +333,9 @@ readied least last next count start before after old mid new counts serving (log
     }
 
 -- what was done before a round
-pub not_compacted : (least last : ℕ) (before : KeptState) (told : Option (List DeskCall)) → (IsDue least last before.tip.end → ⊥) → before.round ≡ []
-    → HasCompacted least last last before before told told
-not_compacted least last before told rests idle = (refl, refl, idle, inl (rests, refl, (refl, none_told told)))
+pub not_compacted : (least last : ℕ) (before : KeptState) (reported : Option (List DeskCall)) → (IsDue least last before.tip.end → ⊥) → before.round ≡ []
+    → HasCompacted least last last before before reported reported
+not_compacted least last before reported rests idle = (refl, refl, idle, inl (rests, refl, (refl, none_reported reported)))
 
 pub is_compacted : (least last next : ℕ) (done : Bool) (made : List ℕ) (before after : KeptState) (old new : Option (List DeskCall)) → IsDue least last before.tip.end → next ≡ after.tip.end
     → after.log ≡ before.log → after.grammar ≡ before.grammar → after.round ≡ [] → (done ≡ true → IsCompacted made before.tip before.log after.tip old new) → (done ≡ false → Stays before after old new)
@@ -345,7 +345,7 @@ is_compacted least last next false made before after old new due next_is log gra
 
 -- a file that isn't due stays
 pub never_replaced : (least last next : ℕ) (before after : KeptState) (old new : Option (List DeskCall)) → (IsDue least last before.tip.end → ⊥)
-    → HasCompacted least last next before after old new → Tells old new []
+    → HasCompacted least last next before after old new → Reports old new []
 never_replaced least last next before after old new never (log, grammar, idle, inl (rests, next_is, (tip, none))) = none
 never_replaced least last next before after old new never (log, grammar, idle, inr (due, next_is, rest)) = absurd (never due)
 
@@ -368,7 +368,7 @@ replacing_cut least last count most start before old mid new counts few serving 
         calls_are = refl;
       };
       within = omega (arith, s.count_is, few);
-      tells = tells_on old mid new (calls_of start s.rounds) (on_disk k.done) s.tells k.tells;
+      reports = reports_on old mid new (calls_of start s.rounds) (on_disk k.done) s.reports k.reports;
     }
 
 pub serving_cut : (least last i most turns : ℕ) (start at : Place) (old mid new : Option (List DeskCall)) (c : Counts) → i + most ≤ turns → IsReady least last i start at old mid c
@@ -383,12 +383,12 @@ serving_cut least last i most turns start at old mid new c few ready cut =
       are_rounds = s.are_rounds;
       unanswered = subst (λ p. IsUnanswered p cut.received cut.cut) s.at_is cut.unanswered;
       within = omega (arith, s.count_is, cut.within, few);
-      tells = tells_on old mid new (calls_of start s.rounds) cut.cut s.tells cut.tells;
+      reports = reports_on old mid new (calls_of start s.rounds) cut.cut s.reports cut.reports;
     }
 
 -- none was begun
-pub unbegun : (least turns : ℕ) (start : Place) (told : Option (List DeskCall)) → IsCutServing least turns start told told
-unbegun least turns start told = record {
+pub unbegun : (least turns : ℕ) (start : Place) (reported : Option (List DeskCall)) → IsCutServing least turns start reported reported
+unbegun least turns start reported = record {
   rounds = [];
   received = [];
   cut = [];
@@ -396,7 +396,7 @@ unbegun least turns start told = record {
   are_rounds = (tt, tt);
   unanswered = record { done = []; is_round = inl refl; front = tt; calls_are = refl };
   within = omega arith;
-  tells = none_told told;
+  reports = none_reported reported;
 }
 
 -- how steps end
@@ -442,8 +442,8 @@ links_few start (Turned last ∷ earlier) =
     ap length (round_links (receives (received_in last)) (answers_in at.grammar at.log last) (committing at.tip (changes_in at.grammar at.log (received_in last))))
     ∙ length-append (receives (received_in last)) (answers_in at.grammar at.log last) in
     let came : length (receives (received_in last)) ≡ length last = receives_count (received_in last) ∙ length-map last (λ (t : LoggerTurn). t.received) in
-    let told = answers_few at.grammar at.log last in
-    omega (arith, few, all, this, came, told)
+    let reported = answers_few at.grammar at.log last in
+    omega (arith, few, all, this, came, reported)
 
 -- there is room for the counts of a round
 pub room_for_round : (least i : ℕ) (start at : Place) (old new : Option (List DeskCall)) (c : Counts) → i ≤ most_turns → HasServed least i start at old new c → HasRoom 512 c

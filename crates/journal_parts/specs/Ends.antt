@@ -59,8 +59,8 @@ text_of (NoJournal lack) = lack_text lack
 text_of InUse = codes "ftnode: journal in use\n"
 
 -- the complete line is written and the status is the end's; or that write failed, and the status is that of a failed write
-abbrev pub TellsEnd : ProcessEnd → (err_old err_new : Option (List ℕ)) → (faults_old faults_new : ℕ) → (code : ℕ) → Type 0
-TellsEnd end err_old err_new faults_old faults_new code =
+abbrev pub ReportsEnd : ProcessEnd → (err_old err_new : Option (List ℕ)) → (faults_old faults_new : ℕ) → (code : ℕ) → Type 0
+ReportsEnd end err_old err_new faults_old faults_new code =
     ((code ≡ code_of end) × Appends err_old err_new (text_of end))
     ⊎ ((code ≡ 5) × AppendsFront err_old err_new (text_of end) × Rose faults_old faults_new)
 

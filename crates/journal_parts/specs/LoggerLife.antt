@@ -2,7 +2,7 @@
 use Rattle.std.specs.Prelude.{◌≡◌, ◌⊎◌, ◌≤◌, ◌+◌, ℕ, Bool, true, false, Option, Some, List, [], ◌∷◌, ◌++◌, length}
 use Rattle.std.specs.Io.KnownBytes.{Appends}
 use Rattle.ft_io.specs.Sink.{AppendsFront}
-use Rattle.ft_io.specs.Told.{Tells}
+use Rattle.ft_io.specs.Reported.{Reports}
 use Rattle.ft_io.specs.declared.link_call.LinkCall.TheVariants.{Bound}
 use Rattle.seq_arith.specs.declared.kinds.Grammar.{Grammar}
 use Rattle.disk.specs.Remains.{IsFrontOf}
@@ -64,7 +64,7 @@ pub record IsKeeper (role : JournalRole) (file : Option (List ℕ)) (old new : O
   pub own : OpensOwn (grammar_for role.logger) role.begins file
   pub are_rounds : AreStepsBy role.compact start rounds
   pub count_is : turns_in rounds ≡ role.logger.turns
-  pub tells : Tells old new (on_disk opening ++ OnLink (Bound role.logger.local) ∷ calls_of start rounds)
+  pub reports : Reports old new (on_disk opening ++ OnLink (Bound role.logger.local) ∷ calls_of start rounds)
   pub written : Writes (count_line (counts_of (link_calls (calls_of start rounds))))
   pub noted : Notes (cut_text torn)  -- on standard error, how many bytes the opening has cut off
 
@@ -96,7 +96,7 @@ pub record IsCutKeeper (role : JournalRole) (file : Option (List ℕ)) (old new 
   pub are_rounds : AreStepsBy role.compact start rounds
   pub unanswered : IsUnanswered (place_after start rounds) received cut
   pub within : turns_in rounds + length received ≤ role.logger.turns
-  pub tells : Tells old new (on_disk opening ++ OnLink (Bound role.logger.local) ∷ (calls_of start rounds ++ cut))
+  pub reports : Reports old new (on_disk opening ++ OnLink (Bound role.logger.local) ∷ (calls_of start rounds ++ cut))
   pub noted : Notes (cut_text torn)
 
 -- a new file was to take the place of the old one, and that failed: a prefix of the calls that do it, whose last call may have failed
@@ -121,7 +121,7 @@ pub record IsCutCompacting (role : JournalRole) (file : Option (List ℕ)) (old 
   pub due : IsDueAfter role.compact start rounds
   pub unreplaced : IsUnreplaced (place_after start rounds) cut
   pub within : turns_in rounds ≤ role.logger.turns
-  pub tells : Tells old new (on_disk opening ++ OnLink (Bound role.logger.local) ∷ (calls_of start rounds ++ cut))
+  pub reports : Reports old new (on_disk opening ++ OnLink (Bound role.logger.local) ∷ (calls_of start rounds ++ cut))
   pub noted : Notes (cut_text torn)
 
 -- a run that ended while its file was opened or made: a prefix of the calls that do it, whose last call may have failed
@@ -132,7 +132,7 @@ pub record IsCutOpening (grammar : Grammar) (begins : Bool) (file : Option (List
   pub done : List DiskCall
   pub starts : Starts grammar begins file opening torn start
   pub front : IsFrontOf opening done
-  pub tells : Tells old new (on_disk done)
+  pub reports : Reports old new (on_disk done)
 
 -- a run that ended before its address was bound
 pub record IsUnbound (grammar : Grammar) (begins : Bool) (file : Option (List ℕ)) (old new : Option (List DeskCall)) (Notes : List ℕ → Type 0) : Type 0 where
@@ -140,13 +140,13 @@ pub record IsUnbound (grammar : Grammar) (begins : Bool) (file : Option (List �
   pub torn : ℕ
   pub start : Place
   pub starts : Starts grammar begins file opening torn start
-  pub tells : Tells old new (on_disk opening)
+  pub reports : Reports old new (on_disk opening)
   pub noted : Notes (cut_text torn)
 
 -- its file is open
 abbrev pub IsOpen : (grammar : Grammar) (begins : Bool) → Option (List ℕ) → (torn : ℕ) → Place → (old new : Option (List DeskCall)) → Type 0
 IsOpen grammar begins file torn start old new = (opening : List DiskCall) × Starts grammar begins file opening torn start × OpensOwn grammar begins file
-    × Tells old new (on_disk opening)
+    × Reports old new (on_disk opening)
 
 -- a file that is refused, at this place
 abbrev pub IsRefused : Option (List ℕ) → ℕ → Type 0
@@ -164,11 +164,11 @@ Lacks grammar _ file _ = ⊥
 
 -- how the opening stops: a file that is refused is unchanged
 abbrev pub OpeningStops : (grammar : Grammar) (begins : Bool) → (file : Option (List ℕ)) → (old new : Option (List DeskCall)) → ProcessEnd → Type 0
-OpeningStops grammar begins file old new InUse = Tells old new []
-OpeningStops grammar begins file old new (BadJournal at) = Tells old new [] × IsRefused file at × (begins ≡ false)
-OpeningStops grammar begins file old new (NoJournal lack) = Tells old new [] × Lacks grammar begins file lack
-OpeningStops grammar begins file old new JournalFault = Tells old new [] ⊎ IsCutOpening grammar begins file old new
-OpeningStops grammar begins file old new (Node NoMemory) = Tells old new []
+OpeningStops grammar begins file old new InUse = Reports old new []
+OpeningStops grammar begins file old new (BadJournal at) = Reports old new [] × IsRefused file at × (begins ≡ false)
+OpeningStops grammar begins file old new (NoJournal lack) = Reports old new [] × Lacks grammar begins file lack
+OpeningStops grammar begins file old new JournalFault = Reports old new [] ⊎ IsCutOpening grammar begins file old new
+OpeningStops grammar begins file old new (Node NoMemory) = Reports old new []
 OpeningStops grammar begins file old new _ = ⊥
 
 -- How such a logger stops early. No message of the round in which it stops is answered. A file that is refused is unchanged
@@ -178,8 +178,8 @@ module _ (role : JournalRole) (file : Option (List ℕ)) (old new : Option (List
   KeeperStops (Node WriteFault) =
       IsKeeper role file old new (AppendsFront out_old out_new) (Appends err_old err_new)
       ⊎ (IsUnbound (grammar_for role.logger) role.begins file old new (AppendsFront err_old err_new) × (out_new ≡ out_old))
-  KeeperStops (Node NoMemory) = ((Tells old new [] × (err_new ≡ err_old)) ⊎ IsCutKeeper role file old new (Appends err_old err_new)) × (out_new ≡ out_old)
+  KeeperStops (Node NoMemory) = ((Reports old new [] × (err_new ≡ err_old)) ⊎ IsCutKeeper role file old new (Appends err_old err_new)) × (out_new ≡ out_old)
   KeeperStops JournalFault =
-      (((Tells old new [] ⊎ IsCutOpening (grammar_for role.logger) role.begins file old new) × (err_new ≡ err_old))
+      (((Reports old new [] ⊎ IsCutOpening (grammar_for role.logger) role.begins file old new) × (err_new ≡ err_old))
       ⊎ (IsCutKeeper role file old new (Appends err_old err_new) ⊎ IsCutCompacting role file old new (Appends err_old err_new))) × (out_new ≡ out_old)
   KeeperStops end = OpeningStops (grammar_for role.logger) role.begins file old new end × (err_new ≡ err_old) × (out_new ≡ out_old)

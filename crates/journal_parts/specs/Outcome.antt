@@ -14,7 +14,7 @@ KeepsJournal role file (Ok _) old new out_old out_new err_old err_new = IsKeeper
 KeepsJournal role file (Err end) old new out_old out_new err_old err_new = KeeperStops role file old new out_old out_new err_old err_new end
 
 -- the status of an end, and what is written of it to err: the complete line, or a prefix of it at status 5
-abbrev pub IsTold : Result (Unit {0}) ProcessEnd → (err_old err_new : Option (List ℕ)) → (code : ℕ) → Type 0
-IsTold (Ok _) err_old err_new code = (code ≡ 0) × (err_new ≡ err_old)
-IsTold (Err end) err_old err_new code =
+abbrev pub IsReported : Result (Unit {0}) ProcessEnd → (err_old err_new : Option (List ℕ)) → (code : ℕ) → Type 0
+IsReported (Ok _) err_old err_new code = (code ≡ 0) × (err_new ≡ err_old)
+IsReported (Err end) err_old err_new code =
     ((code ≡ code_of end) × Appends err_old err_new (text_of end)) ⊎ ((code ≡ 5) × AppendsFront err_old err_new (text_of end))

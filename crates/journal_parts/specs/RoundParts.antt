@@ -2,7 +2,7 @@
 use Rattle.std.specs.Prelude.{◌≡◌, ◌⊎◌, ◌≤◌, ◌+◌, ℕ, Bool, true, Option, List, [], ◌∷◌, ◌++◌, length}
 use Rattle.std.specs.List.{AllByRecursion}
 use Rattle.ft_io.specs.Sink.{AppendsFront}
-use Rattle.ft_io.specs.Told.{Tells}
+use Rattle.ft_io.specs.Reported.{Reports}
 use Rattle.ft_io.specs.declared.link_call.LinkCall.{LinkCall}
 use Rattle.seq_arith.specs.MessageGrammar.{reading_by}
 use Rattle.seq_arith.specs.declared.kinds.Grammar.{Grammar}
@@ -71,13 +71,13 @@ AreHanded (answer ∷ answers) calls = (is_lost : Bool) × (rest : List LinkCall
 
 pub record HandsOver (answer : Answer) (old new : Option (List DeskCall)) (counted counts : Counts) : Type 0 where
   pub is_lost : Bool
-  pub tells : Tells old new (on_link (handing_bytes answer.to is_lost answer.out))
+  pub reports : Reports old new (on_link (handing_bytes answer.to is_lost answer.out))
   pub counts_are : counts ≡ with_calls counted (handing_bytes answer.to is_lost answer.out)
 
 pub record HasAnswered (answers : List Answer) (old new : Option (List DeskCall)) (counted counts : Counts) : Type 0 where
   pub calls : List LinkCall
   pub handed : AreHanded answers calls
-  pub tells : Tells old new (on_link calls)
+  pub reports : Reports old new (on_link calls)
   pub counts_are : counts ≡ with_calls counted calls
 
 -- one receive, which gave a datagram if `is_more`
@@ -85,7 +85,7 @@ pub record HasTaken (is_more : Bool) (before after : KeptState) (old new : Optio
     (waiting answers : List Answer) : Type 0 where
   pub received : Received
   pub is_datagram : is_more ≡ true → IsDatagram received
-  pub tells : Tells old new (on_link (received_as received ∷ []))
+  pub reports : Reports old new (on_link (received_as received ∷ []))
   pub counts_are : counts ≡ with_calls counted (received_as received ∷ [])
   pub after_is : after ≡ with_received before received
   pub answers_are : answers ≡ waiting ++ reply_to before.grammar before.log received
@@ -96,7 +96,7 @@ pub record IsGathering (count : ℕ) (before after : KeptState) (old new : Optio
   pub received : List Received
   pub count_is : length received ≡ count
   pub are_datagrams : AllByRecursion IsDatagram received
-  pub tells : Tells old new (on_link (receives received))
+  pub reports : Reports old new (on_link (receives received))
   pub counts_are : counts ≡ with_calls counted (receives received)
   pub after_is : after ≡ with_all_received before received
   pub answers_are : answers ≡ replies_to before.grammar before.log received
@@ -107,7 +107,7 @@ pub record HasGathered (count : ℕ) (before after : KeptState) (old new : Optio
   pub received : List Received
   pub count_is : length received ≡ count
   pub is_round : IsRound received
-  pub tells : Tells old new (on_link (receives received))
+  pub reports : Reports old new (on_link (receives received))
   pub counts_are : counts ≡ with_calls counted (receives received)
   pub after_is : after ≡ with_all_received before received
   pub answers_are : answers ≡ replies_to before.grammar before.log received
@@ -118,14 +118,14 @@ pub record IsCutGathering (most : ℕ) (grammar : Grammar) (log : Log) (old new 
   pub wants : LastWants grammar log received
   pub within : length received ≤ most
   pub is_round : IsRound received
-  pub tells : Tells old new (on_link (receives received))
+  pub reports : Reports old new (on_link (receives received))
 
 -- a complete round
 pub record HasTurned (count : ℕ) (before after : KeptState) (old new : Option (List DeskCall)) (counted counts : Counts) : Type 0 where
   pub round : Round
   pub count_is : length round ≡ count
   pub is_round : IsRound (received_in round)
-  pub tells : Tells old new (round_calls (place_of before) round)
+  pub reports : Reports old new (round_calls (place_of before) round)
   pub counts_are : counts ≡ with_calls counted (link_calls (round_calls (place_of before) round))
   pub place : place_of after ≡ after_receives (place_of before) (received_in round)
   pub idle : after.round ≡ []
@@ -137,11 +137,11 @@ pub record IsCutRound (most : ℕ) (at : Place) (old new : Option (List DeskCall
   pub reason : HasReason at.grammar at.log received
   pub within : length received ≤ most
   pub unanswered : IsUnanswered at received cut
-  pub tells : Tells old new cut
+  pub reports : Reports old new cut
 
 -- the file stays, and nothing is called on it
 abbrev pub Stays : (before after : KeptState) → (old new : Option (List DeskCall)) → Type 0
-Stays before after old new = (after.tip ≡ before.tip) × Tells old new []
+Stays before after old new = (after.tip ≡ before.tip) × Reports old new []
 
 -- A file that is due is replaced, if the new one can be written; no other is. `last` is its length after the last time, and `next` that after this one
 abbrev pub HasCompacted : (least last next : ℕ) → (before after : KeptState) → (old new : Option (List DeskCall)) → Type 0
@@ -160,7 +160,7 @@ pub record HasServed (least count : ℕ) (start at : Place) (old new : Option (L
   pub rounds : List Step
   pub are_rounds : AreStepsBy least start rounds
   pub count_is : turns_in rounds ≡ count
-  pub tells : Tells old new (calls_of start rounds)
+  pub reports : Reports old new (calls_of start rounds)
   pub counts_are : counts ≡ counts_of (link_calls (calls_of start rounds))
   pub at_is : at ≡ place_after start rounds
 
@@ -173,7 +173,7 @@ pub record IsCutServing (least most : ℕ) (start : Place) (old new : Option (Li
   pub are_rounds : AreStepsBy least start rounds
   pub unanswered : IsUnanswered (place_after start rounds) received cut
   pub within : turns_in rounds + length received ≤ most
-  pub tells : Tells old new (calls_of start rounds ++ cut)
+  pub reports : Reports old new (calls_of start rounds ++ cut)
 
 -- steps, and a new file that was to take the place of the old one
 pub record IsCutReplacing (least most : ℕ) (start : Place) (old new : Option (List DeskCall)) : Type 0 where
@@ -183,7 +183,7 @@ pub record IsCutReplacing (least most : ℕ) (start : Place) (old new : Option (
   pub due : IsDueAfter least start rounds
   pub unreplaced : IsUnreplaced (place_after start rounds) cut
   pub within : turns_in rounds ≤ most
-  pub tells : Tells old new (calls_of start rounds ++ cut)
+  pub reports : Reports old new (calls_of start rounds ++ cut)
 
 -- how steps end because a call on the file failed
 abbrev pub IsFaulted : (least most : ℕ) (start : Place) (old new : Option (List DeskCall)) → Type 0
@@ -200,7 +200,7 @@ pub record HasLived (least count : ℕ) (start : Place) (old new : Option (List 
   pub rounds : List Step
   pub are_rounds : AreStepsBy least start rounds
   pub count_is : turns_in rounds ≡ count
-  pub tells : Tells old new (calls_of start rounds)
+  pub reports : Reports old new (calls_of start rounds)
   pub written : Writes (count_line (counts_of (link_calls (calls_of start rounds))))
 
 -- how rounds and their line stop
@@ -219,7 +219,7 @@ pub record HasServedNoted (role : JournalRole) (start : Place) (torn : ℕ) (old
   pub rounds : List Step
   pub are_rounds : AreStepsBy role.compact start rounds
   pub count_is : turns_in rounds ≡ role.logger.turns
-  pub tells : Tells old new (OnLink (Bound role.logger.local) ∷ calls_of start rounds)
+  pub reports : Reports old new (OnLink (Bound role.logger.local) ∷ calls_of start rounds)
   pub written : Writes (count_line (counts_of (link_calls (calls_of start rounds))))
   pub noted : Notes (cut_text torn)
 
@@ -232,7 +232,7 @@ pub record IsCutServingNoted (role : JournalRole) (start : Place) (torn : ℕ) (
   pub are_rounds : AreStepsBy role.compact start rounds
   pub unanswered : IsUnanswered (place_after start rounds) received cut
   pub within : turns_in rounds + length received ≤ role.logger.turns
-  pub tells : Tells old new (OnLink (Bound role.logger.local) ∷ (calls_of start rounds ++ cut))
+  pub reports : Reports old new (OnLink (Bound role.logger.local) ∷ (calls_of start rounds ++ cut))
   pub noted : Notes (cut_text torn)
 
 -- .. and a new file that was to take the place of the old one
@@ -243,17 +243,17 @@ pub record IsCutReplacingNoted (role : JournalRole) (start : Place) (torn : ℕ)
   pub due : IsDueAfter role.compact start rounds
   pub unreplaced : IsUnreplaced (place_after start rounds) cut
   pub within : turns_in rounds ≤ role.logger.turns
-  pub tells : Tells old new (OnLink (Bound role.logger.local) ∷ (calls_of start rounds ++ cut))
+  pub reports : Reports old new (OnLink (Bound role.logger.local) ∷ (calls_of start rounds ++ cut))
   pub noted : Notes (cut_text torn)
 
 -- how these stop
 abbrev pub ServingNotedStops : JournalRole → Place → (torn : ℕ) → (old new : Option (List DeskCall)) → (out_old out_new err_old err_new : Option (List ℕ))
     → ProcessEnd → Type 0
-ServingNotedStops role start torn old new out_old out_new err_old err_new (Node LinkFault) = Tells old new [] × Appends err_old err_new (cut_text torn)
+ServingNotedStops role start torn old new out_old out_new err_old err_new (Node LinkFault) = Reports old new [] × Appends err_old err_new (cut_text torn)
     × (out_new ≡ out_old)
 ServingNotedStops role start torn old new out_old out_new err_old err_new (Node WriteFault) =
     HasServedNoted role start torn old new (AppendsFront out_old out_new) (Appends err_old err_new)
-    ⊎ (Tells old new [] × AppendsFront err_old err_new (cut_text torn) × (out_new ≡ out_old))
+    ⊎ (Reports old new [] × AppendsFront err_old err_new (cut_text torn) × (out_new ≡ out_old))
 ServingNotedStops role start torn old new out_old out_new err_old err_new (Node NoMemory) = IsCutServingNoted role start torn old new
     (Appends err_old err_new) × (out_new ≡ out_old)
 ServingNotedStops role start torn old new out_old out_new err_old err_new JournalFault =

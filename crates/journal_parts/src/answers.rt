@@ -21,7 +21,7 @@ pub struct Answer {
 /// Hands an answer to send, if it has bytes.
 fn reply<K: Desk>(desk: &mut K, answer: &Answer, counts: &mut Counts)
     requires { HasRoom 1 counts.old }
-    ensures handed { HandsOver answer.now (K.told desk.old) (K.told desk.new) counts.old counts.new }
+    ensures handed { HandsOver answer.now (K.reported desk.old) (K.reported desk.new) counts.old counts.new }
     ensures no_disk_fault { K.fault_count desk.new ≡ K.fault_count desk.old }
     ensures no_bind_fault { (K.beside desk.new).bind_faults ≡ (K.beside desk.old).bind_faults }
     ensures no_receive { (K.beside desk.new).waits ≡ (K.beside desk.old).waits }
@@ -37,7 +37,7 @@ fn reply<K: Desk>(desk: &mut K, answer: &Answer, counts: &mut Counts)
 /// Hands answers to send, in their order.
 pub(crate) fn reply_to_all<K: Desk>(desk: &mut K, answers: &[Answer], counts: &mut Counts)
     requires { HasRoom (length answers.now) counts.old }
-    ensures answered { HasAnswered answers.now (K.told desk.old) (K.told desk.new) counts.old counts.new }
+    ensures answered { HasAnswered answers.now (K.reported desk.old) (K.reported desk.new) counts.old counts.new }
     ensures no_disk_fault { K.fault_count desk.new ≡ K.fault_count desk.old }
     ensures no_bind_fault { (K.beside desk.new).bind_faults ≡ (K.beside desk.old).bind_faults }
     ensures no_receive { (K.beside desk.new).waits ≡ (K.beside desk.old).waits }

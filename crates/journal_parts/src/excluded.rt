@@ -4,7 +4,7 @@
 ghost use Rattle.std.specs.Prelude.{List, ◌≡◌, ◌≤◌, ◌<◌, ◌*◌, [], ◌++◌, OnOk, ◌∷◌, true, None, OnErr, vec_capacity};
 ghost use Rattle.disk.specs.CallRecord.{on_disk, on_link};
 ghost use Rattle.disk.specs.declared.calls.DiskCall.{DiskCall};
-ghost use Rattle.ft_io.specs.Told.{Tells};
+ghost use Rattle.ft_io.specs.Reported.{Reports};
 ghost use Rattle.ft_io.specs.declared.link_call.LinkCall.{LinkCall};
 ghost use Rattle.kept_log.specs.JournaledLog.{committing};
 ghost use Rattle.link_parts.specs.Counts.{HasRoom};
@@ -33,7 +33,7 @@ fn a_full_disk_answers<K: Desk>(
     requires counts { HasRoom 512 counts.old }
     requires room { 256 ≤ vec_capacity answers.old }
     ensures { OnErr result ((received : List Received) × (done : List DiskCall)
-        × Tells (K.told desk.old) (K.told desk.new) (on_link (receives received) ++ on_disk done)) }
+        × Reports (K.reported desk.old) (K.reported desk.new) (on_link (receives received) ++ on_disk done)) }
 {
     take_round(alloc, desk, kept, counts, answers, most)
 }
@@ -49,7 +49,7 @@ fn never_waits<K: Desk>(
     requires idle { kept.old.round ≡ [] }
     requires counts { HasRoom 512 counts.old }
     requires room { 256 ≤ vec_capacity answers.old }
-    ensures { OnOk result (Tells (K.beside desk.old).waits (K.beside desk.new).waits (true ∷ [])) }
+    ensures { OnOk result (Reports (K.beside desk.old).waits (K.beside desk.new).waits (true ∷ [])) }
 {
     take_round(alloc, desk, kept, counts, answers, 1)
 }
@@ -67,7 +67,7 @@ fn answers_before_the_commit<K: Desk>(
     requires idle { kept.old.round ≡ [] }
     requires counts { HasRoom 512 counts.old }
     requires room { 256 ≤ vec_capacity answers.old }
-    ensures { OnOk result ((received : List Received) × (answered : List LinkCall) × Tells (K.told desk.old) (K.told desk.new)
+    ensures { OnOk result ((received : List Received) × (answered : List LinkCall) × Reports (K.reported desk.old) (K.reported desk.new)
         (on_link (receives received) ++ (on_disk (committing kept.old.tip (changes_in kept.old.grammar kept.old.log received)) ++ on_link answered))) }
 {
     take_round(alloc, desk, kept, counts, answers, most)
@@ -82,7 +82,7 @@ fn a_short_file_is_replaced<K: Desk>(
 ) -> Result<(), ProcessEnd>
     requires idle { kept.old.round ≡ [] }
     requires short { kept.old.tip.end ≤ compaction.old.least }
-    ensures { OnOk result (Tells (K.told desk.old) (K.told desk.new) []) }
+    ensures { OnOk result (Reports (K.reported desk.old) (K.reported desk.new) []) }
 {
     compact_if_due(alloc, desk, kept, compaction)
 }
@@ -96,7 +96,7 @@ fn a_file_is_replaced_again_and_again<K: Desk>(
     compaction: &mut Compaction,
 ) -> Result<(), ProcessEnd>
     requires idle { kept.old.round ≡ [] }
-    ensures short { OnOk result (kept.old.tip.end ≤ 2 * compaction.old.last → Tells (K.told desk.old) (K.told desk.new) []) }
+    ensures short { OnOk result (kept.old.tip.end ≤ 2 * compaction.old.last → Reports (K.reported desk.old) (K.reported desk.new) []) }
     ensures measured { OnOk result (compaction.old.least < kept.old.tip.end → 2 * compaction.old.last < kept.old.tip.end
         → compaction.new.last ≡ kept.new.tip.end) }
 {

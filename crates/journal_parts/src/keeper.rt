@@ -26,10 +26,10 @@ fn open_log<K: Desk>(
     role: &JournalRole,
 ) -> Result<(KeptLog, usize), ProcessEnd>
     ensures opened { IfOk result (λ r. IsOpen (grammar_for role.now.logger) role.now.begins (K.file_of desk.old role.now.journal) r.1 (place_of r.0)
-        (K.told desk.old) (K.told desk.new)) }
+        (K.reported desk.old) (K.reported desk.new)) }
     ensures idle { IfOk result (λ r. r.0.round ≡ []) }
-    ensures stops { IfErr result (OpeningStops (grammar_for role.now.logger) role.now.begins (K.file_of desk.old role.now.journal) (K.told desk.old)
-        (K.told desk.new)) }
+    ensures stops { IfErr result (OpeningStops (grammar_for role.now.logger) role.now.begins (K.file_of desk.old role.now.journal) (K.reported desk.old)
+        (K.reported desk.new)) }
     ensures cause { IsErrOf result ProcessEnd.JournalFault → Rose (K.fault_count desk.old) (K.fault_count desk.new) }
     ensures in_use { IsErrOf result ProcessEnd.InUse → Rose (K.beside desk.old).refusals (K.beside desk.new).refusals }
     ensures missing { result ≡ Err (ProcessEnd.NoJournal Lack.Missing) → Rose (K.beside desk.old).refusals (K.beside desk.new).refusals }
@@ -52,9 +52,9 @@ fn find_log<K: Desk>(
     desk: &mut K,
     name: &str,
 ) -> Result<(KeptLog, usize), ProcessEnd>
-    ensures opened { IfOk result (λ r. IsOpen grammar false (K.file_of desk.old name.now) r.1 (place_of r.0) (K.told desk.old) (K.told desk.new)) }
+    ensures opened { IfOk result (λ r. IsOpen grammar false (K.file_of desk.old name.now) r.1 (place_of r.0) (K.reported desk.old) (K.reported desk.new)) }
     ensures idle { IfOk result (λ r. r.0.round ≡ []) }
-    ensures stops { IfErr result (OpeningStops grammar false (K.file_of desk.old name.now) (K.told desk.old) (K.told desk.new)) }
+    ensures stops { IfErr result (OpeningStops grammar false (K.file_of desk.old name.now) (K.reported desk.old) (K.reported desk.new)) }
     ensures cause { IsErrOf result ProcessEnd.JournalFault → Rose (K.fault_count desk.old) (K.fault_count desk.new) }
     ensures in_use { IsErrOf result ProcessEnd.InUse → Rose (K.beside desk.old).refusals (K.beside desk.new).refusals }
     ensures missing { result ≡ Err (ProcessEnd.NoJournal Lack.Missing) → Rose (K.beside desk.old).refusals (K.beside desk.new).refusals }
@@ -73,9 +73,9 @@ fn make_log<K: Desk>(
     desk: &mut K,
     name: &str,
 ) -> Result<(KeptLog, usize), ProcessEnd>
-    ensures opened { IfOk result (λ r. (file : Option (List ℕ)) → IsOpen grammar true file r.1 (place_of r.0) (K.told desk.old) (K.told desk.new)) }
+    ensures opened { IfOk result (λ r. (file : Option (List ℕ)) → IsOpen grammar true file r.1 (place_of r.0) (K.reported desk.old) (K.reported desk.new)) }
     ensures idle { IfOk result (λ r. r.0.round ≡ []) }
-    ensures stops { IfErr result (λ end. (file : Option (List ℕ)) → OpeningStops grammar true file (K.told desk.old) (K.told desk.new) end) }
+    ensures stops { IfErr result (λ end. (file : Option (List ℕ)) → OpeningStops grammar true file (K.reported desk.old) (K.reported desk.new) end) }
     ensures cause { IsErrOf result ProcessEnd.JournalFault → Rose (K.fault_count desk.old) (K.fault_count desk.new) }
     ensures in_use { IsErrOf result ProcessEnd.InUse → Rose (K.beside desk.old).refusals (K.beside desk.new).refusals }
     ensures present { result ≡ Err (ProcessEnd.NoJournal Lack.Present) → Rose (K.beside desk.old).refusals (K.beside desk.new).refusals }
@@ -91,7 +91,7 @@ fn make_log<K: Desk>(
 
 #[tactic(auto, using(crate::proofs::Living::ended_stops))]
 /// Runs a logger after its bind: takes its rounds, and writes the line of the counts.
-fn serve_and_tell<K: Desk, O: Sink>(
+fn serve_and_report<K: Desk, O: Sink>(
     alloc: Global,
     turns: u64,
     compact: u64,
@@ -101,8 +101,8 @@ fn serve_and_tell<K: Desk, O: Sink>(
 ) -> Result<(), ProcessEnd>
     requires within { turns ≤ most_turns }
     requires idle { kept.old.round ≡ [] }
-    ensures done { OnOk result (HasLived compact turns (place_of kept.old) (K.told desk.old) (K.told desk.new) (Appends (O.taken out.old) (O.taken out.new))) }
-    ensures stops { IfErr result (ServingStops compact turns (place_of kept.old) (K.told desk.old) (K.told desk.new) (O.taken out.old) (O.taken out.new)) }
+    ensures done { OnOk result (HasLived compact turns (place_of kept.old) (K.reported desk.old) (K.reported desk.new) (Appends (O.taken out.old) (O.taken out.new))) }
+    ensures stops { IfErr result (ServingStops compact turns (place_of kept.old) (K.reported desk.old) (K.reported desk.new) (O.taken out.old) (O.taken out.new)) }
     ensures cause { IsErrOf result ProcessEnd.JournalFault → Rose (K.fault_count desk.old) (K.fault_count desk.new) }
     ensures write_cause { result ≡ Err (ProcessEnd.Node NodeEnd.WriteFault) → Rose (O.fault_count out.old) (O.fault_count out.new) }
     ensures no_write_fault { UnlessFault result (O.fault_count out.new ≡ O.fault_count out.old) }
@@ -125,9 +125,9 @@ fn bind_and_serve<K: Desk, O: Sink, E: Sink>(
 ) -> Result<(), ProcessEnd>
     requires within { role.now.logger.turns ≤ most_turns }
     requires idle { kept.old.round ≡ [] }
-    ensures done { OnOk result (HasServedNoted role.now (place_of kept.old) torn (K.told desk.old) (K.told desk.new)
+    ensures done { OnOk result (HasServedNoted role.now (place_of kept.old) torn (K.reported desk.old) (K.reported desk.new)
         (Appends (O.taken out.old) (O.taken out.new)) (Appends (E.taken err.old) (E.taken err.new))) }
-    ensures stops { IfErr result (ServingNotedStops role.now (place_of kept.old) torn (K.told desk.old) (K.told desk.new) (O.taken out.old)
+    ensures stops { IfErr result (ServingNotedStops role.now (place_of kept.old) torn (K.reported desk.old) (K.reported desk.new) (O.taken out.old)
         (O.taken out.new) (E.taken err.old) (E.taken err.new)) }
     ensures cause { IsErrOf result ProcessEnd.JournalFault → Rose (K.fault_count desk.old) (K.fault_count desk.new) }
     ensures bind_cause { result ≡ Err (ProcessEnd.Node NodeEnd.LinkFault) → Rose (K.beside desk.old).bind_faults (K.beside desk.new).bind_faults }
@@ -143,7 +143,7 @@ fn bind_and_serve<K: Desk, O: Sink, E: Sink>(
     }
     match desk.bind(role.logger.local) {
         Err(Failed) => Err(ProcessEnd::Node(NodeEnd::LinkFault)),
-        Ok(()) => serve_and_tell(alloc, role.logger.turns, role.compact, desk, kept, out),
+        Ok(()) => serve_and_report(alloc, role.logger.turns, role.compact, desk, kept, out),
     }
 }
 
@@ -157,9 +157,9 @@ pub fn run_keeper<K: Desk, O: Sink, E: Sink>(
     err: &mut E,
 ) -> Result<(), ProcessEnd>
     requires { role.now.logger.turns ≤ most_turns }
-    ensures done { OnOk result (IsKeeper role.now (K.file_of desk.old role.now.journal) (K.told desk.old) (K.told desk.new)
+    ensures done { OnOk result (IsKeeper role.now (K.file_of desk.old role.now.journal) (K.reported desk.old) (K.reported desk.new)
         (Appends (O.taken out.old) (O.taken out.new)) (Appends (E.taken err.old) (E.taken err.new))) }
-    ensures stops { IfErr result (KeeperStops role.now (K.file_of desk.old role.now.journal) (K.told desk.old) (K.told desk.new)
+    ensures stops { IfErr result (KeeperStops role.now (K.file_of desk.old role.now.journal) (K.reported desk.old) (K.reported desk.new)
         (O.taken out.old) (O.taken out.new) (E.taken err.old) (E.taken err.new)) }
     ensures cause { IsErrOf result ProcessEnd.JournalFault → Rose (K.fault_count desk.old) (K.fault_count desk.new) }
     ensures in_use { IsErrOf result ProcessEnd.InUse → Rose (K.beside desk.old).refusals (K.beside desk.new).refusals }

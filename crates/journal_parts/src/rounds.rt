@@ -4,7 +4,7 @@ ghost use Rattle.std.specs.Prelude.{◌≡◌, ◌≤◌, ◌<◌, ◌+◌, [], 
 ghost use Rattle.std.specs.Prelude.{MatchOption};
 ghost use Rattle.std.specs.Bool.{OnTrue, OnFalse};
 ghost use Rattle.ft_io.specs.Faults.{Rose};
-ghost use Rattle.ft_io.specs.Told.{Tells};
+ghost use Rattle.ft_io.specs.Reported.{Reports};
 ghost use Rattle.disk.specs.CallRecord.{on_link};
 ghost use Rattle.link_parts.specs.Counts.{HasRoom, with_calls};
 ghost use Rattle.link_parts.specs.Receipt.{Received, datagram, received_as, IsQuiet};
@@ -22,7 +22,7 @@ ghost use Rattle.link_parts.specs.Ranges.{most_turns};
 use crate::answers::{Answer, reply_to_all};
 use crate::status::ProcessEnd;
 use disk::Desk;
-use ft_io::{Addr, Failed, Heard, NoMemory};
+use ft_io::{Addr, Failed, Receipt, NoMemory};
 use kept_log::KeptLog;
 use link_parts::Counts;
 use logger_store::MsgOut;
@@ -44,21 +44,21 @@ fn receive<K: Desk>(
 ) -> Option<(usize, Addr)>
     requires room { 2048 ≤ length buffer.old }
     requires counts { HasRoom 1 counts.old }
-    ensures received { (r : Received) × Tells (K.told desk.old) (K.told desk.new) (on_link (received_as r ∷ []))
+    ensures received { (r : Received) × Reports (K.reported desk.old) (K.reported desk.new) (on_link (received_as r ∷ []))
         × (counts.new ≡ with_calls counts.old (received_as r ∷ []))
         × MatchOption result (IsQuiet r) (λ g. (g.0 ≤ length buffer.new) × (r ≡ datagram g.1 (take g.0 buffer.new))) }
-    ensures waited { Tells (K.beside desk.old).waits (K.beside desk.new).waits (waits ∷ []) }
+    ensures waited { Reports (K.beside desk.old).waits (K.beside desk.new).waits (waits ∷ []) }
     ensures no_disk_fault { K.fault_count desk.new ≡ K.fault_count desk.old }
     ensures no_bind_fault { (K.beside desk.new).bind_faults ≡ (K.beside desk.old).bind_faults }
 {
-    let heard = if waits {
+    let receipt = if waits {
         desk.recv(buffer)
     } else {
         desk.recv_waiting(buffer)
     };
-    counts.note_received(&heard);
-    match heard {
-        Ok(Heard::Got { len, from }) => Some((len, from)),
+    counts.note_received(&receipt);
+    match receipt {
+        Ok(Receipt::Got { len, from }) => Some((len, from)),
         _ => None,
     }
 }
@@ -90,11 +90,11 @@ fn take_next<K: Desk>(
     requires counts { HasRoom 1 counts.old }
     requires room { is_full kept.old ≡ false }
     requires space { vec_len answers.old < vec_capacity answers.old }
-    ensures taken { IfOk result (λ more. HasTaken more kept.old kept.new (K.told desk.old)
-        (K.told desk.new) counts.old counts.new answers.old.items answers.new.items) }
+    ensures taken { IfOk result (λ more. HasTaken more kept.old kept.new (K.reported desk.old)
+        (K.reported desk.new) counts.old counts.new answers.old.items answers.new.items) }
     ensures cut_off { OnErr result ((r : Received) × (wants_then kept.old.grammar kept.old.log r ≡ true)
-        × Tells (K.told desk.old) (K.told desk.new) (on_link (received_as r ∷ []))) }
-    ensures waited { Tells (K.beside desk.old).waits (K.beside desk.new).waits (waits ∷ []) }
+        × Reports (K.reported desk.old) (K.reported desk.new) (on_link (received_as r ∷ []))) }
+    ensures waited { Reports (K.beside desk.old).waits (K.beside desk.new).waits (waits ∷ []) }
     ensures few { vec_len answers.new ≤ vec_len answers.old + 1 }
     ensures capacity { vec_capacity answers.new ≡ vec_capacity answers.old }
     ensures no_disk_fault { K.fault_count desk.new ≡ K.fault_count desk.old }
@@ -125,9 +125,9 @@ fn gather<K: Desk>(
     requires counts { HasRoom 256 counts.old }
     requires room { 256 ≤ vec_capacity answers.old }
     ensures count { IfOk result (λ count. (1 ≤ count) × (count ≤ most)) }
-    ensures gathered { IfOk result (λ count. HasGathered count kept.old kept.new (K.told desk.old) (K.told desk.new) counts.old counts.new answers.new.items) }
-    ensures cut_off { OnErr result (IsCutGathering most kept.old.grammar kept.old.log (K.told desk.old) (K.told desk.new)) }
-    ensures waited { IfOk result (λ count. Tells (K.beside desk.old).waits (K.beside desk.new).waits (waits_in count)) }
+    ensures gathered { IfOk result (λ count. HasGathered count kept.old kept.new (K.reported desk.old) (K.reported desk.new) counts.old counts.new answers.new.items) }
+    ensures cut_off { OnErr result (IsCutGathering most kept.old.grammar kept.old.log (K.reported desk.old) (K.reported desk.new)) }
+    ensures waited { IfOk result (λ count. Reports (K.beside desk.old).waits (K.beside desk.new).waits (waits_in count)) }
     ensures capacity { vec_capacity answers.new ≡ vec_capacity answers.old }
     ensures no_disk_fault { K.fault_count desk.new ≡ K.fault_count desk.old }
     ensures no_bind_fault { (K.beside desk.new).bind_faults ≡ (K.beside desk.old).bind_faults }
@@ -159,9 +159,9 @@ pub(crate) fn take_round<K: Desk>(
     requires counts { HasRoom 512 counts.old }
     requires room { 256 ≤ vec_capacity answers.old }
     ensures count { IfOk result (λ count. (1 ≤ count) × (count ≤ most)) }
-    ensures turned { IfOk result (λ count. HasTurned count kept.old kept.new (K.told desk.old) (K.told desk.new) counts.old counts.new) }
-    ensures stopped { OnErr result (IsCutRound most (place_of kept.old) (K.told desk.old) (K.told desk.new)) }
-    ensures waited { IfOk result (λ count. Tells (K.beside desk.old).waits (K.beside desk.new).waits (waits_in count)) }
+    ensures turned { IfOk result (λ count. HasTurned count kept.old kept.new (K.reported desk.old) (K.reported desk.new) counts.old counts.new) }
+    ensures stopped { OnErr result (IsCutRound most (place_of kept.old) (K.reported desk.old) (K.reported desk.new)) }
+    ensures waited { IfOk result (λ count. Reports (K.beside desk.old).waits (K.beside desk.new).waits (waits_in count)) }
     ensures capacity { vec_capacity answers.new ≡ vec_capacity answers.old }
     ensures ends { IfErr result IsServeEnd }
     ensures cause { IsErrOf result ProcessEnd.JournalFault → Rose (K.fault_count desk.old) (K.fault_count desk.new) }
@@ -210,10 +210,10 @@ pub(crate) fn compact_if_due<K: Desk>(
     compaction: &mut Compaction,
 ) -> Result<(), ProcessEnd>
     requires idle { kept.old.round ≡ [] }
-    ensures done { OnOk result (HasCompacted compaction.old.least compaction.old.last compaction.new.last kept.old kept.new (K.told desk.old)
-        (K.told desk.new)) }
+    ensures done { OnOk result (HasCompacted compaction.old.least compaction.old.last compaction.new.last kept.old kept.new (K.reported desk.old)
+        (K.reported desk.new)) }
     ensures least { compaction.new.least ≡ compaction.old.least }
-    ensures stopped { OnErr result (FailsToCompact compaction.old.least compaction.old.last kept.old (K.told desk.old) (K.told desk.new)) }
+    ensures stopped { OnErr result (FailsToCompact compaction.old.least compaction.old.last kept.old (K.reported desk.old) (K.reported desk.new)) }
     ensures fault { IfErr result (λ end. end ≡ ends.JournalFault) }
     ensures cause { OnErr result (Rose (K.fault_count desk.old) (K.fault_count desk.new)) }
     ensures never_falls { K.fault_count desk.old ≤ K.fault_count desk.new }
@@ -244,8 +244,8 @@ pub(crate) fn serve<K: Desk>(
 ) -> Result<Counts, ProcessEnd>
     requires within { turns ≤ most_turns }
     requires idle { kept.old.round ≡ [] }
-    ensures served { IfOk result (λ counts. HasServed compact turns (place_of kept.old) (place_of kept.new) (K.told desk.old) (K.told desk.new) counts) }
-    ensures stopped { IfErr result (HasEndedBy compact turns (place_of kept.old) (K.told desk.old) (K.told desk.new)) }
+    ensures served { IfOk result (λ counts. HasServed compact turns (place_of kept.old) (place_of kept.new) (K.reported desk.old) (K.reported desk.new) counts) }
+    ensures stopped { IfErr result (HasEndedBy compact turns (place_of kept.old) (K.reported desk.old) (K.reported desk.new)) }
     ensures ends { IfErr result IsServeEnd }
     ensures cause { IsErrOf result ProcessEnd.JournalFault → Rose (K.fault_count desk.old) (K.fault_count desk.new) }
     ensures never_falls { K.fault_count desk.old ≤ K.fault_count desk.new }

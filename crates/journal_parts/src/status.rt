@@ -7,7 +7,7 @@ ghost use Rattle.ft_io.specs.Sink.{AppendsFront};
 ghost use Rattle.link_parts.specs.Ends.{is_fault_status};
 ghost use Rattle.link_parts.specs.declared.status.NodeEnd.TheVariants as node_ends;
 ghost use Rattle.journal_parts.specs.declared.status.ProcessEnd.TheVariants as ends;
-ghost use Rattle.journal_parts.specs.Ends.{place_text, lack_text, cut_line, cut_text, from_shelf, from_open, from_keep, TellsEnd, is_fault};
+ghost use Rattle.journal_parts.specs.Ends.{place_text, lack_text, cut_line, cut_text, from_shelf, from_open, from_keep, ReportsEnd, is_fault};
 
 use disk::ShelfEnd;
 use ft_io::{Failed, NoMemory, Sink, write_all};
@@ -170,7 +170,7 @@ fn status_of(code: u8, written: Result<(), Failed>) -> Status
 
 /// Writes the line of an end, and returns its status: 5 if that write failed.
 pub fn report_end<E: Sink>(err: &mut E, end: ProcessEnd) -> Status
-    ensures told { TellsEnd end (E.taken err.old) (E.taken err.new) (E.fault_count err.old) (E.fault_count err.new) result.code }
+    ensures reported { ReportsEnd end (E.taken err.old) (E.taken err.new) (E.fault_count err.old) (E.fault_count err.new) result.code }
     ensures early { result.code ≡ 0 → ⊥ }
     ensures fault { is_fault_status result.code ≡ false → is_fault end ≡ false }
     ensures no_fault { is_fault_status result.code ≡ false → E.fault_count err.new ≡ E.fault_count err.old }

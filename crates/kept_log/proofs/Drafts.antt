@@ -8,8 +8,8 @@ use Rattle.long_laws.specs.Snapshot.{IsSnapshotOf, IsOrdered}
 use Rattle.long_laws.proofs.Snapshots.{snapshot_made}
 use Rattle.long_laws.proofs.Ordered.{folds_ordered}
 use Rattle.log_snapshot.specs.Steps.{IsSaid}
-use Rattle.ft_io.specs.Told.{Tells}
-use Rattle.ft_io.proofs.Tellings.{tells_on}
+use Rattle.ft_io.specs.Reported.{Reports}
+use Rattle.ft_io.proofs.Recordings.{reports_on}
 use Rattle.disk.specs.Aside.{HasAside}
 use Rattle.disk.specs.CallRecord.{on_disk}
 use Rattle.disk.specs.Remains.{IsFrontOf}
@@ -109,39 +109,39 @@ IsSynced made log aside tip =
 
 -- its place is taken
 abbrev pub IsPlaced : (aside : Option (List ℕ)) (old new : Option (List DeskCall)) → Type 0
-IsPlaced aside old new = (bytes : List ℕ) → HasAside aside bytes → Tells old new (on_disk (Replaced bytes false ∷ Synced false ∷ []))
+IsPlaced aside old new = (bytes : List ℕ) → HasAside aside bytes → Reports old new (on_disk (Replaced bytes false ∷ Synced false ∷ []))
 
 abbrev pub IsMisplaced : (aside : Option (List ℕ)) (old new : Option (List DeskCall)) → Type 0
 IsMisplaced aside old new =
-    (bytes : List ℕ) → HasAside aside bytes → (done : List DiskCall) × IsFrontOf (Replaced bytes false ∷ Synced false ∷ []) done × Tells old new (on_disk done)
+    (bytes : List ℕ) → HasAside aside bytes → (done : List DiskCall) × IsFrontOf (Replaced bytes false ∷ Synced false ∷ []) done × Reports old new (on_disk done)
 
-pub placed : (aside : Option (List ℕ)) (old mid new : Option (List DeskCall)) → ((bytes : List ℕ) → HasAside aside bytes → Tells old mid (OnDisk (Replaced bytes false) ∷ []))
-    → Tells mid new (OnDisk (Synced false) ∷ []) → IsPlaced aside old new
-placed aside old mid new renames syncs = λ bytes has. tells_on old mid new (OnDisk (Replaced bytes false) ∷ []) (OnDisk (Synced false) ∷ []) (renames bytes has) syncs
+pub placed : (aside : Option (List ℕ)) (old mid new : Option (List DeskCall)) → ((bytes : List ℕ) → HasAside aside bytes → Reports old mid (OnDisk (Replaced bytes false) ∷ []))
+    → Reports mid new (OnDisk (Synced false) ∷ []) → IsPlaced aside old new
+placed aside old mid new renames syncs = λ bytes has. reports_on old mid new (OnDisk (Replaced bytes false) ∷ []) (OnDisk (Synced false) ∷ []) (renames bytes has) syncs
 
-pub unsynced : (aside : Option (List ℕ)) (old mid new : Option (List DeskCall)) → ((bytes : List ℕ) → HasAside aside bytes → Tells old mid (OnDisk (Replaced bytes false) ∷ []))
-    → Tells mid new (OnDisk (Synced true) ∷ []) → IsMisplaced aside old new
+pub unsynced : (aside : Option (List ℕ)) (old mid new : Option (List DeskCall)) → ((bytes : List ℕ) → HasAside aside bytes → Reports old mid (OnDisk (Replaced bytes false) ∷ []))
+    → Reports mid new (OnDisk (Synced true) ∷ []) → IsMisplaced aside old new
 unsynced aside old mid new renames syncs = λ bytes has. (
   Replaced bytes false ∷ Synced true ∷ [],
   inl (refl, inr (refl, refl)),
-  tells_on old mid new (OnDisk (Replaced bytes false) ∷ []) (OnDisk (Synced true) ∷ []) (renames bytes has) syncs,
+  reports_on old mid new (OnDisk (Replaced bytes false) ∷ []) (OnDisk (Synced true) ∷ []) (renames bytes has) syncs,
 )
 
-pub unnamed : (aside : Option (List ℕ)) (old new : Option (List DeskCall)) → ((bytes : List ℕ) → HasAside aside bytes → Tells old new (OnDisk (Replaced bytes true) ∷ []))
+pub unnamed : (aside : Option (List ℕ)) (old new : Option (List DeskCall)) → ((bytes : List ℕ) → HasAside aside bytes → Reports old new (OnDisk (Replaced bytes true) ∷ []))
     → IsMisplaced aside old new
 unnamed aside old new renames = λ bytes has. (Replaced bytes true ∷ [], inr (refl, refl), renames bytes has)
 
 pub compacted : (made : List ℕ) (next : Tip) (log : Log) (aside : Option (List ℕ)) (old wrote new : Option (List DeskCall)) → length made ≡ 8 → IsSynced made log aside next
-    → Tells old wrote [] → IsPlaced aside wrote new → (tip : Tip) → IsCompacted made tip log next old new
+    → Reports old wrote [] → IsPlaced aside wrote new → (tip : Tip) → IsCompacted made tip log next old new
 compacted made next log aside old wrote new eight (bodies, messages, snapshot, kept, next_is, has) quiet placed tip = record {
   bodies = bodies;
   same_log = same_log made bodies tip log messages eight snapshot kept;
   next_is = next_is;
-  tells = tells_on old wrote new [] (on_disk (replacing made bodies)) quiet (placed (front made bodies) has);
+  reports = reports_on old wrote new [] (on_disk (replacing made bodies)) quiet (placed (front made bodies) has);
 }
 
 pub cut_compaction : (made : List ℕ) (next : Tip) (log : Log) (aside : Option (List ℕ)) (old wrote new : Option (List DeskCall)) → length made ≡ 8 → IsSynced made log aside next
-    → Tells old wrote [] → IsMisplaced aside wrote new → (tip : Tip) → IsCutCompaction made tip log old new
+    → Reports old wrote [] → IsMisplaced aside wrote new → (tip : Tip) → IsCutCompaction made tip log old new
 cut_compaction made next log aside old wrote new eight (bodies, messages, snapshot, kept, next_is, has) quiet misplaced tip =
     let all = misplaced (front made bodies) has in
     record {
@@ -149,5 +149,5 @@ cut_compaction made next log aside old wrote new eight (bodies, messages, snapsh
       done = all.0;
       same_log = same_log made bodies tip log messages eight snapshot kept;
       front = all.1;
-      tells = tells_on old wrote new [] (on_disk all.0) quiet all.2;
+      reports = reports_on old wrote new [] (on_disk all.0) quiet all.2;
     }

@@ -3,8 +3,8 @@ use Rattle.std.proofs.Common.{◌≡◌, ◌∙◌, ℕ, Option, Some, None, Lis
 use Rattle.std.specs.Io.KnownBytes.{Consumes, IsAtEnd}
 use Rattle.ft_io.proofs.Choices.{same_some}
 use Rattle.ft_io.specs.Faults.{Rose}
-use Rattle.ft_io.specs.Told.{Tells}
-use Rattle.ft_io.proofs.Tellings.{tells_on}
+use Rattle.ft_io.specs.Reported.{Reports}
+use Rattle.ft_io.proofs.Recordings.{reports_on}
 
 pub none_left : (known : Option (List ℕ)) (left : List ℕ) → IsAtEnd known → known ≡ Some left → left ≡ []
 none_left None left end is = absurd (subst (λ k. option_is k) (sym is) tt)
@@ -19,8 +19,8 @@ consumed known None more rest took is = absurd (subst (λ k. Consumes k None mor
 consumed known (Some left) more rest took is = (left, refl, subst (λ k. Consumes k (Some left) more) is took)
 
 -- .. nor after that
-pub quiet_on : {A : Type 0} (old mid new : Option (List A)) → Tells old mid [] → Tells mid new [] → Tells old new []
-quiet_on old mid new a b = tells_on old mid new [] [] a b
+pub quiet_on : {A : Type 0} (old mid new : Option (List A)) → Reports old mid [] → Reports mid new [] → Reports old new []
+quiet_on old mid new a b = reports_on old mid new [] [] a b
 
 -- a fault that a count tells of, it tells of from an earlier count on
 pub rose_later : (first old new : ℕ) → first ≤ old → Rose old new → Rose first new

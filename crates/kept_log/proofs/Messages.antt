@@ -14,7 +14,7 @@ use Rattle.seq_arith.specs.Checksum.{checksum}
 use Rattle.seq_arith.specs.Message.{Message}
 use Rattle.seq_arith.specs.MessageGrammar.{kind_numbered, has_length, is_sound_in, message_in, version, reading_of, reading_if, reading_by}
 use Rattle.seq_arith.proofs.Passing.{same_from}
-use Rattle.seq_arith.proofs.Refused.{goes_on, accepted, no_grammar_reads_the_other}
+use Rattle.seq_arith.proofs.Refused.{proceeds, accepted, no_grammar_reads_the_other}
 use Rattle.seq_arith.proofs.MessageSpelling.{bounded, room}
 use Rattle.ft_model.specs.Log.{Log, log_after}
 use Rattle.trace_laws.specs.NeededMessages.{log_after_all}
@@ -34,7 +34,7 @@ whole_of grammar kind bytes ok =
     let sized : Bool = not (has_length kind (length bytes)) in
     let sum : Bool = not (nat_eq (checksum bytes) 0) in
     let last : Result Message BadMsg = if not (is_sound_in grammar kind bytes) then Err bad.Field else Ok (message_in kind bytes) in
-    let passes : ((counted || sized) ≡ false) × IsOk (if sum then Err bad.Sum else last) = goes_on (counted || sized) bad.Length (if sum then Err bad.Sum else last) ok in
+    let passes : ((counted || sized) ≡ false) × IsOk (if sum then Err bad.Sum else last) = proceeds (counted || sized) bad.Length (if sum then Err bad.Sum else last) ok in
     let has : has_length kind (length bytes) ≡ true = not-false _ (right_false counted sized passes.0) in
     (same_from _ _ (left_false counted sized passes.0), omega (arith, (bounded kind (length bytes) has).1, room kind))
 
@@ -53,8 +53,8 @@ whole bytes message s =
     let last : Result Message BadMsg = reading_if grammar (kind_numbered (slice_index bytes 3)) bytes in
     let third : Result Message BadMsg = if version then Err bad.Version else last in
     let second : Result Message BadMsg = if magic then Err bad.Magic else third in
-    let long : (short ≡ false) × IsOk second = goes_on short bad.Short second ok in
-    let rest = whole_if grammar (kind_numbered (slice_index bytes 3)) bytes (goes_on version bad.Version last (goes_on magic bad.Magic third long.1).1).1 in
+    let long : (short ≡ false) × IsOk second = proceeds short bad.Short second ok in
+    let rest = whole_if grammar (kind_numbered (slice_index bytes 3)) bytes (proceeds version bad.Version last (proceeds magic bad.Magic third long.1).1).1 in
     record { long = ltb-false (length bytes) 16 long.0; few = rest.1; counted = rest.0 }
 
 word_in_front : (bytes behind : List ℕ) → 5 < length bytes → word_at (bytes ++ behind) 4 ≡ word_at bytes 4

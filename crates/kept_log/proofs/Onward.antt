@@ -28,7 +28,7 @@ took_none old new window bytes took is = subst (Consumes old new) (nothing bytes
     nothing (b ∷ bytes) long = absurd (omega (arith, long, length-append window (b ∷ bytes)))
 
 pub at_start : (made first : List ℕ) (known : Option (List ℕ)) → length made ≡ 8 → IsAt made first known known first (first_tip made) empty_log
-at_start made first known time = record { bodies = []; has_log = no_blocks made time; goes_on = λ left is. (left, is, refl) }
+at_start made first known time = record { bodies = []; has_log = no_blocks made time; proceeds = λ left is. (left, is, refl) }
 
 pub at_first : (made first : List ℕ) (known : Option (List ℕ)) (tip : Tip) (log : Log) → length made ≡ 8 → tip ≡ first_tip made → log ≡ empty_log
     → IsAt made first known known first tip log
@@ -40,8 +40,8 @@ pub at_more : (made first : List ℕ) (old mid new : Option (List ℕ)) (window 
 at_more made first old mid new window more tip log at took = record {
   bodies = at.bodies;
   has_log = at.has_log;
-  goes_on = λ left is.
-      let was = at.goes_on left is in
+  proceeds = λ left is.
+      let was = at.proceeds left is in
       let now = consumed mid new more was.0 took was.1 in
       (now.0, now.1, was.2 ∙ ap (λ (l : List ℕ). chain (first_tip made) at.bodies ++ l) (ap (λ (l : List ℕ). window ++ l) now.2 ∙ sym (append_assoc window more now.0)));
 }
@@ -51,8 +51,8 @@ pub at_block : (made first : List ℕ) (old new : Option (List ℕ)) (window res
 at_block made first old new window rest body tip before log at is few waits = record {
   bodies = at.bodies ++ body ∷ [];
   has_log = block_more made at.bodies tip before log body at.has_log few waits;
-  goes_on = λ left known.
-      let was = at.goes_on left known in
+  proceeds = λ left known.
+      let was = at.proceeds left known in
       let blocks : List ℕ = chain (first_tip made) at.bodies in (
         was.0,
         was.1,
@@ -67,7 +67,7 @@ at_block made first old new window rest body tip before log at is few waits = re
 pub at_wrong : (made first : List ℕ) (old new : Option (List ℕ)) (window : List ℕ) (tip : Tip) (log : Log) → IsAt made first old new window tip log
     → ((left : List ℕ) → new ≡ Some left → HasNoBlock tip (window ++ left)) → (left : List ℕ) → old ≡ Some left → IsBrokenAt tip.end made (first ++ left)
 at_wrong made first old new window tip log at none left known =
-    let was = at.goes_on left known in
+    let was = at.proceeds left known in
     record {
       bodies = at.bodies;
       messages = at.has_log.messages;

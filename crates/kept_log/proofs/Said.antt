@@ -9,8 +9,8 @@ use Rattle.seq_arith.specs.Message.Body.{HelloMsg}
 use Rattle.ft_model.specs.Log.{Log, Entry}
 use Rattle.long_laws.specs.Snapshot.{said, joined, messages_of, AreSaid, IsSnapshotOf}
 use Rattle.log_snapshot.specs.Steps.{IsRest}
-use Rattle.log_snapshot.specs.declared.saying.Step.{Step}
-use Rattle.log_snapshot.specs.declared.saying.Step.TheVariants.{Open}
+use Rattle.log_snapshot.specs.declared.writing_steps.Step.{Step}
+use Rattle.log_snapshot.specs.declared.writing_steps.Step.TheVariants.{Open}
 use Rattle.kept_log.specs.Draft.{DraftState, IsDraft, IsWritten}
 use Rattle.kept_log.proofs.Drafts.{written_on, written_none}
 use Rattle.kept_log.specs.Format.{front, tip_of}

@@ -2,8 +2,8 @@
 use Rattle.std.proofs.Common.{◌≡◌, ◌∙◌, inl, inr, ℕ, append_assoc, true, false, Option, Some, List, [], ◌∷◌, length, replicate, refl, sym, ap, subst, arith, Result, Ok, Err, OnErr, IfErr, IsErrAnd}
 use Rattle.std.specs.Result.{is_err}
 use Rattle.std.proofs.lemmas.List.{length-replicate}
-use Rattle.ft_io.specs.Told.{Tells}
-use Rattle.ft_io.proofs.Tellings.{tells_on}
+use Rattle.ft_io.specs.Reported.{Reports}
+use Rattle.ft_io.proofs.Recordings.{reports_on}
 use Rattle.ft_model.specs.Log.{Log}
 use Rattle.disk.specs.declared.calls.DiskCall.{DiskCall}
 use Rattle.disk.specs.declared.calls.DiskCall.TheVariants.{Cut, Synced}
@@ -18,19 +18,19 @@ use Rattle.kept_log.specs.ReadSteps.{FindsAs}
 use Rattle.kept_log.specs.declared.reading.Found.TheVariants as finds
 
 -- a front of calls was told
-abbrev pub IsFrontTold : List DiskCall → Option (List DeskCall) → Option (List DeskCall) → Type 0
-IsFrontTold calls old new = (done : List DiskCall) × IsFrontOf calls done × Tells old new (on_disk done)
+abbrev pub IsFrontReported : List DiskCall → Option (List DeskCall) → Option (List DeskCall) → Type 0
+IsFrontReported calls old new = (done : List DiskCall) × IsFrontOf calls done × Reports old new (on_disk done)
 
 -- the first of calls failed
-pub first_failed : (first : DiskCall) (others : List DiskCall) (old new : Option (List DeskCall)) → Tells old new (OnDisk (failed first) ∷ []) → IsFrontTold (first ∷ others) old new
-first_failed first others old new told = (failed first ∷ [], inr (refl, refl), told)
+pub first_failed : (first : DiskCall) (others : List DiskCall) (old new : Option (List DeskCall)) → Reports old new (OnDisk (failed first) ∷ []) → IsFrontReported (first ∷ others) old new
+first_failed first others old new reported = (failed first ∷ [], inr (refl, refl), reported)
 
 -- .. or the second, a sync
-pub sync_failed : {T E : Type 0} (first : DiskCall) (old mid new : Option (List DeskCall)) (r : Result T E) → Tells old mid (OnDisk first ∷ []) → Tells mid new (OnDisk (Synced (is_err r)) ∷ [])
-    → OnErr r (IsFrontTold (first ∷ Synced false ∷ []) old new)
-sync_failed first old mid new (Ok x) before told = tt
-sync_failed first old mid new (Err e) before told =
-    (first ∷ Synced true ∷ [], inl (refl, inr (refl, refl)), tells_on old mid new (OnDisk first ∷ []) (OnDisk (Synced true) ∷ []) before told)
+pub sync_failed : {T E : Type 0} (first : DiskCall) (old mid new : Option (List DeskCall)) (r : Result T E) → Reports old mid (OnDisk first ∷ []) → Reports mid new (OnDisk (Synced (is_err r)) ∷ [])
+    → OnErr r (IsFrontReported (first ∷ Synced false ∷ []) old new)
+sync_failed first old mid new (Ok x) before reported = tt
+sync_failed first old mid new (Err e) before reported =
+    (first ∷ Synced true ∷ [], inl (refl, inr (refl, refl)), reports_on old mid new (OnDisk first ∷ []) (OnDisk (Synced true) ∷ []) before reported)
 
 -- a tail that isn't empty is cut
 pub some_cut : (P : List DiskCall → Type 0) (end tail : ℕ) → (tail ≡ 0 → ⊥) → P (Cut end false ∷ Synced false ∷ []) → (torn : List ℕ) → length torn ≡ tail → P (cutting end torn)
@@ -43,7 +43,7 @@ cut_alike end [] (y ∷ ys) long = absurd (omega (arith, long))
 cut_alike end (x ∷ xs) [] long = absurd (omega (arith, long))
 cut_alike end (x ∷ xs) (y ∷ ys) long = refl
 
-module _ (left : Option (List ℕ)) (old mid new : Option (List DeskCall)) (log : Log) (quiet : Tells old mid []) where
+module _ (left : Option (List ℕ)) (old mid new : Option (List DeskCall)) (log : Log) (quiet : Reports old mid []) where
   whole : (tip : Tip) (tail : ℕ) (found : FindsAs left log (finds.Whole tip tail)) (file : List ℕ) → left ≡ Some file
       → (w : IsWhole file found.0 found.1 (cutting tip.end (replicate tail 0))) × (tail ≡ length w.tail)
   whole tip tail (made, bodies, has, low, few, behind) file known =
@@ -58,18 +58,18 @@ module _ (left : Option (List ℕ)) (old mid new : Option (List DeskCall)) (log 
         sym torn.2,
       )
 
-  pub whole_opened : (tip : Tip) (tail : ℕ) → FindsAs left log (finds.Whole tip tail) → ((torn : List ℕ) → length torn ≡ tail → Tells mid new (on_disk (cutting tip.end torn)))
+  pub whole_opened : (tip : Tip) (tail : ℕ) → FindsAs left log (finds.Whole tip tail) → ((torn : List ℕ) → length torn ≡ tail → Reports mid new (on_disk (cutting tip.end torn)))
       → IsOpened left old new tip tail log
-  whole_opened tip tail found told = record {
+  whole_opened tip tail found reported = record {
     made = found.0;
     bodies = found.1;
     calls = cutting tip.end (replicate tail 0);
     has_log = found.2;
-    tells = tells_on old mid new [] (on_disk (cutting tip.end (replicate tail 0))) quiet (told (replicate tail 0) (length-replicate tail 0));
+    reports = reports_on old mid new [] (on_disk (cutting tip.end (replicate tail 0))) quiet (reported (replicate tail 0) (length-replicate tail 0));
     finds = whole tip tail found;
   }
 
-  pub whole_stopped : (tip : Tip) (tail : ℕ) → FindsAs left log (finds.Whole tip tail) → ((torn : List ℕ) → length torn ≡ tail → IsFrontTold (cutting tip.end torn) mid new)
+  pub whole_stopped : (tip : Tip) (tail : ℕ) → FindsAs left log (finds.Whole tip tail) → ((torn : List ℕ) → length torn ≡ tail → IsFrontReported (cutting tip.end torn) mid new)
       → IsCutShort left old new
   whole_stopped tip tail found front = record {
     made = found.0;
@@ -79,7 +79,7 @@ module _ (left : Option (List ℕ)) (old mid new : Option (List DeskCall)) (log 
     done = (front (replicate tail 0) (length-replicate tail 0)).0;
     kept = found.2.kept;
     is_front = (front (replicate tail 0) (length-replicate tail 0)).1;
-    tells = tells_on old mid new [] (on_disk (front (replicate tail 0) (length-replicate tail 0)).0) quiet (front (replicate tail 0) (length-replicate tail 0)).2;
+    reports = reports_on old mid new [] (on_disk (front (replicate tail 0) (length-replicate tail 0)).0) quiet (front (replicate tail 0) (length-replicate tail 0)).2;
     cut = tail;
     time = found.2.time;
     finds = whole tip tail found;

@@ -109,7 +109,7 @@ module _ (made first : List ℕ) (old mid new : Option (List ℕ)) (window more 
   rest_is : (file : List ℕ) → old ≡ Some file
       → (left : List ℕ) × (new ≡ Some left) × (first ++ file ≡ chain (first_tip made) at.bodies ++ (tail ++ left)) × BeginsNone tip (tail ++ left)
   rest_is file known =
-      let was = at.goes_on file known in
+      let was = at.proceeds file known in
       let now = consumed mid new more was.0 took was.1 in
       let same : window ++ was.0 ≡ tail ++ now.0 = ap (λ (l : List ℕ). window ++ l) now.2 ∙ (sym (append_assoc window more now.0) ∙ ap (λ (l : List ℕ). l ++ now.0) (sym is)) in
       (now.0, now.1, was.2 ∙ ap (λ (l : List ℕ). chain (first_tip made) at.bodies ++ l) same, subst (BeginsNone tip) same (reached.3 was.0 was.1))

@@ -1,6 +1,6 @@
 -- A journal whose file is replaced by a new one with a snapshot of its log: with the messages that make the log again.
 use Rattle.std.specs.Prelude.{◌≡◌, ℕ, false, Option, List, [], ◌∷◌}
-use Rattle.ft_io.specs.Told.{Tells}
+use Rattle.ft_io.specs.Reported.{Reports}
 use Rattle.ft_model.specs.Log.{Log}
 use Rattle.disk.specs.Remains.{IsFrontOf}
 use Rattle.disk.specs.declared.calls.DeskCall.{DeskCall}
@@ -24,7 +24,7 @@ pub record IsCompacted (made : List ℕ) (tip : Tip) (log : Log) (next : Tip) (o
   pub bodies : List (List ℕ)
   pub same_log : HasSameLog tip log made bodies
   pub next_is : next ≡ tip_of made bodies
-  pub tells : Tells old new (on_disk (replacing made bodies))
+  pub reports : Reports old new (on_disk (replacing made bodies))
 
 -- .. or that failed: a prefix of these calls, whose last call may have failed
 pub record IsCutCompaction (made : List ℕ) (tip : Tip) (log : Log) (old new : Option (List DeskCall)) : Type 0 where
@@ -32,4 +32,4 @@ pub record IsCutCompaction (made : List ℕ) (tip : Tip) (log : Log) (old new : 
   pub done : List DiskCall
   pub same_log : HasSameLog tip log made bodies
   pub front : IsFrontOf (replacing made bodies) done
-  pub tells : Tells old new (on_disk done)
+  pub reports : Reports old new (on_disk done)

@@ -56,7 +56,7 @@ Steps old new tip next bytes rest before after takes.Wrong = ((left : List ℕ) 
 pub record IsAt (made first : List ℕ) (old new : Option (List ℕ)) (window : List ℕ) (tip : Tip) (log : Log) : Type 0 where
   pub bodies : List (List ℕ)
   pub has_log : HasLog made bodies tip log
-  pub goes_on : (left : List ℕ) → old ≡ Some left → (rest : List ℕ) × (new ≡ Some rest) × (first ++ left ≡ chain (first_tip made) bodies ++ (window ++ rest))
+  pub proceeds : (left : List ℕ) → old ≡ Some left → (rest : List ℕ) × (new ≡ Some rest) × (first ++ left ≡ chain (first_tip made) bodies ++ (window ++ rest))
 
 -- these bytes are blocks, and from this place of the file on there is no block
 pub record IsBrokenAt (at : ℕ) (made bytes : List ℕ) : Type 0 where

@@ -5,7 +5,7 @@ use Rattle.seq_arith.specs.Message.{Message}
 use Rattle.seq_arith.specs.MessageGrammar.{number_in, reading_by}
 use Rattle.seq_arith.specs.declared.kinds.Grammar.{Grammar}
 use Rattle.ft_model.specs.Log.{Log}
-use Rattle.ft_io.specs.Told.{Tells}
+use Rattle.ft_io.specs.Reported.{Reports}
 use Rattle.disk.specs.declared.calls.DiskCall.{DiskCall}
 use Rattle.disk.specs.declared.calls.DeskCall.{DeskCall}
 use Rattle.disk.specs.Remains.{IsFrontOf}
@@ -122,7 +122,7 @@ pub record IsOpened (left : Option (List ℕ)) (old new : Option (List DeskCall)
   pub bodies : List (List ℕ)
   pub calls : List DiskCall
   pub has_log : HasLog made bodies tip log
-  pub tells : Tells old new (on_disk calls)
+  pub reports : Reports old new (on_disk calls)
   pub finds : (file : List ℕ) → left ≡ Some file → (whole : IsWhole file made bodies calls) × (cut ≡ length whole.tail)
 
 -- a prefix of such calls, whose last call may have failed
@@ -136,23 +136,23 @@ pub record IsCutShort (left : Option (List ℕ)) (old new : Option (List DeskCal
   pub cut : ℕ
   pub time : length made ≡ 8
   pub is_front : IsFrontOf calls done
-  pub tells : Tells old new (on_disk done)
+  pub reports : Reports old new (on_disk done)
   pub finds : (file : List ℕ) → left ≡ Some file → (whole : IsWhole file made bodies calls) × (cut ≡ length whole.tail)
 
 -- how an opening stops early: no call has changed the file, unless one of those calls failed
 abbrev pub HasStopped : (left : Option (List ℕ)) (old new : Option (List DeskCall)) → OpenEnd → Type 0
-HasStopped left old new NoMemory = Tells old new []
-HasStopped left old new Empty = Tells old new [] × ((file : List ℕ) → left ≡ Some file → file ≡ [])
-HasStopped left old new Unfinished = Tells old new [] × ((file : List ℕ) → left ≡ Some file → IsUnfinished file)
-HasStopped left old new Older = Tells old new [] × ((file : List ℕ) → left ≡ Some file → IsOlder file)
-HasStopped left old new OtherGrammar = Tells old new []
-HasStopped left old new (Wrong at) = Tells old new [] × ((file : List ℕ) → left ≡ Some file → IsDamaged at file)
-HasStopped left old new Failed = Tells old new [] ⊎ IsCutShort left old new
+HasStopped left old new NoMemory = Reports old new []
+HasStopped left old new Empty = Reports old new [] × ((file : List ℕ) → left ≡ Some file → file ≡ [])
+HasStopped left old new Unfinished = Reports old new [] × ((file : List ℕ) → left ≡ Some file → IsUnfinished file)
+HasStopped left old new Older = Reports old new [] × ((file : List ℕ) → left ≡ Some file → IsOlder file)
+HasStopped left old new OtherGrammar = Reports old new []
+HasStopped left old new (Wrong at) = Reports old new [] × ((file : List ℕ) → left ≡ Some file → IsDamaged at file)
+HasStopped left old new Failed = Reports old new [] ⊎ IsCutShort left old new
 
 -- how the making of a journal stops early: nothing was called, or a prefix of the calls that make it, whose last call failed
 abbrev pub HasNotBegun : (made : List ℕ) (old new : Option (List DeskCall)) → KeepEnd → Type 0
-HasNotBegun made old new reads.NoMemory = Tells old new []
-HasNotBegun made old new reads.Failed = (done : List DiskCall) × IsFrontOf (making made) done × Tells old new (on_disk done)
+HasNotBegun made old new reads.NoMemory = Reports old new []
+HasNotBegun made old new reads.Failed = (done : List DiskCall) × IsFrontOf (making made) done × Reports old new (on_disk done)
 
 -- how an opening ends if its reading ends early
 abbrev pub opening_end : KeepEnd → OpenEnd

@@ -2,7 +2,7 @@
 
 ghost use Rattle.std.specs.Prelude.{[], ◌≡◌, ◌≤◌, ◌+◌, Option, length, IfOk, OnOk};
 ghost use Rattle.std.specs.Option.{option_to_list};
-ghost use Rattle.ft_io.specs.Told.{Tells};
+ghost use Rattle.ft_io.specs.Reported.{Reports};
 ghost use Rattle.seq_arith.specs.Message.{Message};
 ghost use Rattle.seq_arith.specs.declared.kinds.Grammar.{Grammar};
 ghost use Rattle.log_snapshot.specs.Steps.{IsSaid};
@@ -45,12 +45,12 @@ impl Draft {
         self.tip
     }
 
-    #[tactic(auto, using(crate::proofs::Drafts::begun, crate::proofs::Files::quiet_on, ft_io::proofs::Tellings::none_told))]
+    #[tactic(auto, using(crate::proofs::Drafts::begun, crate::proofs::Files::quiet_on, ft_io::proofs::Recordings::none_reported))]
     /// Begins a new file with the header of a journal that is made at this time.
     pub fn begin<K: Desk>(alloc: Global, desk: &mut K, made: &[u8; TIME]) -> Result<Draft, KeepEnd>
         requires time { length made.now ≡ 8 }
         ensures begun { IfOk result (λ d. IsDraft made.now (K.aside desk.new) d []) }
-        ensures told { Tells (K.told desk.old) (K.told desk.new) [] }
+        ensures reported { Reports (K.reported desk.old) (K.reported desk.new) [] }
         ensures never_falls { K.fault_count desk.old ≤ K.fault_count desk.new }
         ensures beside { K.beside desk.new ≡ K.beside desk.old }
     {
@@ -62,12 +62,12 @@ impl Draft {
         Ok(Draft { tip, body })
     }
 
-    #[tactic(auto, using(crate::proofs::Drafts::flushed, crate::proofs::Files::quiet_on, ft_io::proofs::Tellings::none_told))]
+    #[tactic(auto, using(crate::proofs::Drafts::flushed, crate::proofs::Files::quiet_on, ft_io::proofs::Recordings::none_reported))]
     /// Writes the body as a block.
     pub fn flush<K: Desk>(&mut self, alloc: Global, desk: &mut K) -> Result<(), KeepEnd>
         ensures written { OnOk result (IsWritten (K.aside desk.old) self.old (K.aside desk.new) self.new []) }
         ensures empty { OnOk result (self.new.body ≡ []) }
-        ensures told { Tells (K.told desk.old) (K.told desk.new) [] }
+        ensures reported { Reports (K.reported desk.old) (K.reported desk.new) [] }
         ensures never_falls { K.fault_count desk.old ≤ K.fault_count desk.new }
         ensures beside { K.beside desk.new ≡ K.beside desk.old }
     {
@@ -82,7 +82,7 @@ impl Draft {
         Ok(())
     }
 
-    #[tactic(auto, using(crate::proofs::Drafts::written_none, ft_io::proofs::Tellings::none_told))]
+    #[tactic(auto, using(crate::proofs::Drafts::written_none, ft_io::proofs::Recordings::none_reported))]
     /// Writes the body as a block if it has no room for this many bytes more.
     fn make_room<K: Desk>(
         &mut self,
@@ -93,7 +93,7 @@ impl Draft {
         requires { count ≤ 2048 }
         ensures written { OnOk result (IsWritten (K.aside desk.old) self.old (K.aside desk.new) self.new []) }
         ensures room { OnOk result (length self.new.body + count ≤ 381696) }
-        ensures told { Tells (K.told desk.old) (K.told desk.new) [] }
+        ensures reported { Reports (K.reported desk.old) (K.reported desk.new) [] }
         ensures never_falls { K.fault_count desk.old ≤ K.fault_count desk.new }
         ensures beside { K.beside desk.new ≡ K.beside desk.old }
     {
@@ -103,7 +103,7 @@ impl Draft {
         self.flush(alloc, desk)
     }
 
-    #[tactic(auto, using(crate::proofs::Drafts::taken, crate::proofs::Drafts::written_on, crate::proofs::Files::quiet_on, ft_io::proofs::Tellings::none_told))]
+    #[tactic(auto, using(crate::proofs::Drafts::taken, crate::proofs::Drafts::written_on, crate::proofs::Files::quiet_on, ft_io::proofs::Recordings::none_reported))]
     /// Takes the bytes of one message, or none.
     pub fn take<K: Desk>(
         &mut self,
@@ -114,7 +114,7 @@ impl Draft {
         requires { length bytes.now ≤ 2048 }
         ensures taken { OnOk result ((grammar : Grammar) (message : Option Message) → IsSaid grammar message bytes.now
             → IsWritten (K.aside desk.old) self.old (K.aside desk.new) self.new (option_to_list message)) }
-        ensures told { Tells (K.told desk.old) (K.told desk.new) [] }
+        ensures reported { Reports (K.reported desk.old) (K.reported desk.new) [] }
         ensures never_falls { K.fault_count desk.old ≤ K.fault_count desk.new }
         ensures beside { K.beside desk.new ≡ K.beside desk.old }
     {

@@ -6,7 +6,7 @@ ghost use Rattle.disk.specs.declared.calls.DeskCall.{DeskCall};
 ghost use Rattle.disk.specs.declared.calls.DeskCall.TheVariants.{OnDisk};
 ghost use Rattle.disk.specs.declared.calls.DiskCall.TheVariants.{Synced, Replaced};
 ghost use Rattle.disk.specs.Aside.{HasAside};
-ghost use Rattle.ft_io.specs.Told.{Tells};
+ghost use Rattle.ft_io.specs.Reported.{Reports};
 ghost use Rattle.kept_log.specs.Format.{digest, front, tip_of, BeginsNone};
 ghost use Rattle.kept_log.specs.JournaledLog.{is_full};
 ghost use Rattle.kept_log.specs.Startup.{IsFollowed, IsOfOther};
@@ -55,8 +55,8 @@ fn acknowledged_before_the_sync<D: Disk>(
     requires small { length body.now < 2 ^ 32 }
     requires number { tip.old.number < 2 ^ 63 }
     requires end { tip.old.end < 2 ^ 63 }
-    requires first { D.told disk.old ≡ Some [] }
-    ensures { OnOk result ((calls : List DeskCall) → D.told disk.new ≡ Some calls → drop 1 calls ≡ OnDisk (Synced false) ∷ []) }
+    requires first { D.reported disk.old ≡ Some [] }
+    ensures { OnOk result ((calls : List DeskCall) → D.reported disk.new ≡ Some calls → drop 1 calls ≡ OnDisk (Synced false) ∷ []) }
 {
     tip.keep(alloc, disk, body)
 }
@@ -127,7 +127,7 @@ fn answered_before_the_folder_is_synced<K: Desk>(
 ) -> Result<bool, Failed>
     requires { kept.old.round ≡ [] }
     ensures { IfOk result (λ done. done ≡ true → (bytes : List ℕ)
-        × Tells (K.told desk.old) (K.told desk.new) (OnDisk (Replaced bytes false) ∷ OnDisk (Synced false) ∷ [])) }
+        × Reports (K.reported desk.old) (K.reported desk.new) (OnDisk (Replaced bytes false) ∷ OnDisk (Synced false) ∷ [])) }
 {
     kept.compact(alloc, desk, made)
 }

@@ -2,7 +2,7 @@
 
 ghost use Rattle.std.specs.Prelude.{◌≡◌, ◌<◌, ◌≤◌, ◌^◌, ℕ, length, List, IfOk, OnOk, OnErr, IsErrOf};
 ghost use Rattle.ft_io.specs.Faults.{Rose};
-ghost use Rattle.ft_io.specs.Told.{Tells};
+ghost use Rattle.ft_io.specs.Reported.{Reports};
 ghost use Rattle.disk.specs.declared.calls.DiskCall.{DiskCall};
 ghost use Rattle.disk.specs.Remains.{IsFrontOf};
 ghost use Rattle.disk.specs.CallRecord.{on_disk};
@@ -86,10 +86,10 @@ impl Tip {
         requires small { length body.now < 2 ^ 32 }
         requires number { self.old.number < 2 ^ 63 }
         requires end { self.old.end < 2 ^ 63 }
-        ensures kept { OnOk result (Tells (D.told disk.old) (D.told disk.new) (on_disk (keeping self.old body.now))) }
+        ensures kept { OnOk result (Reports (D.reported disk.old) (D.reported disk.new) (on_disk (keeping self.old body.now))) }
         ensures next { OnOk result (self.new ≡ next_tip self.old body.now) }
         ensures stopped { OnErr result ((done : List DiskCall) × IsFrontOf (keeping self.old body.now) done
-            × Tells (D.told disk.old) (D.told disk.new) (on_disk done)) }
+            × Reports (D.reported disk.old) (D.reported disk.new) (on_disk done)) }
         ensures cause { IsErrOf result KeepEnd.Failed → Rose (D.fault_count disk.old) (D.fault_count disk.new) }
         ensures never_falls { D.fault_count disk.old ≤ D.fault_count disk.new }
         ensures beside { D.beside disk.new ≡ D.beside disk.old }

@@ -4,7 +4,7 @@ ghost use Rattle.std.specs.Prelude.{[], ◌≡◌, ◌≤◌, List, ℕ, Ok, tru
 ghost use Rattle.seq_arith.specs.MessageGrammar.{number_bytes};
 ghost use Rattle.kept_log.specs.Format.{making};
 ghost use Rattle.ft_io.specs.Faults.{Rose};
-ghost use Rattle.ft_io.specs.Told.{Tells};
+ghost use Rattle.ft_io.specs.Reported.{Reports};
 ghost use Rattle.seq_arith.specs.MessageGrammar.{reading_by};
 ghost use Rattle.ft_model.specs.Log.{Log, log_after, answer_to};
 ghost use Rattle.logger_wire.specs.Value.{message_of, IsSendableBy};
@@ -62,12 +62,12 @@ impl KeptLog {
         grammar: Grammar,
         disk: &mut D,
     ) -> Result<(KeptLog, usize), OpenEnd>
-        ensures opened { IfOk result (λ r. IsOpened (D.left disk.old) (D.told disk.old) (D.told disk.new) r.0.tip r.1 r.0.log) }
+        ensures opened { IfOk result (λ r. IsOpened (D.left disk.old) (D.reported disk.old) (D.reported disk.new) r.0.tip r.1 r.0.log) }
         ensures none_waits { IfOk result (λ r. r.0.round ≡ []) }
         ensures grammar { IfOk result (λ r. r.0.grammar ≡ grammar) }
         ensures has_grammar { OnOk result (HasGrammar grammar (D.left disk.old)) }
         ensures other { IsErrOf result OpenEnd.OtherGrammar → HasOtherGrammar grammar (D.left disk.old) }
-        ensures stopped { IfErr result (HasStopped (D.left disk.old) (D.told disk.old) (D.told disk.new)) }
+        ensures stopped { IfErr result (HasStopped (D.left disk.old) (D.reported disk.old) (D.reported disk.new)) }
         ensures cause { IsErrOf result OpenEnd.Failed → Rose (D.fault_count disk.old) (D.fault_count disk.new) }
         ensures never_falls { D.fault_count disk.old ≤ D.fault_count disk.new }
         ensures beside { D.beside disk.new ≡ D.beside disk.old }
@@ -93,10 +93,10 @@ impl KeptLog {
         made: u64,
     ) -> Result<KeptLog, KeepEnd>
         ensures begun { IfOk result (λ k. HasLog (number_bytes 8 made) [] k.tip k.log) }
-        ensures told { OnOk result (Tells (D.told disk.old) (D.told disk.new) (on_disk (making (number_bytes 8 made)))) }
+        ensures reported { OnOk result (Reports (D.reported disk.old) (D.reported disk.new) (on_disk (making (number_bytes 8 made)))) }
         ensures none_waits { IfOk result (λ k. k.round ≡ []) }
         ensures grammar { IfOk result (λ k. k.grammar ≡ grammar) }
-        ensures stopped { IfErr result (HasNotBegun (number_bytes 8 made) (D.told disk.old) (D.told disk.new)) }
+        ensures stopped { IfErr result (HasNotBegun (number_bytes 8 made) (D.reported disk.old) (D.reported disk.new)) }
         ensures cause { IsErrOf result KeepEnd.Failed → Rose (D.fault_count disk.old) (D.fault_count disk.new) }
         ensures never_falls { D.fault_count disk.old ≤ D.fault_count disk.new }
         ensures beside { D.beside disk.new ≡ D.beside disk.old }
@@ -174,7 +174,7 @@ impl KeptLog {
     /// Writes a new file with a snapshot of the log, of a journal that is made at this time, puts it in the place of the file, and syncs the folder. Returns
     /// false if it couldn't be written, or the log has no boot number yet: then the old file and the log are as before. After an error the log may only be
     /// dropped.
-    #[tactic(auto, using(ft_io::proofs::Tellings::none_told), unfolding(seq_arith::specs::MessageGrammar::number_bytes))]
+    #[tactic(auto, using(ft_io::proofs::Recordings::none_reported), unfolding(seq_arith::specs::MessageGrammar::number_bytes))]
     pub fn compact<K: Desk>(
         &mut self,
         alloc: Global,
@@ -186,9 +186,9 @@ impl KeptLog {
         ensures grammar { self.new.grammar ≡ self.old.grammar }
         ensures round { self.new.round ≡ [] }
         ensures compacted { IfOk result (λ done. done ≡ true
-            → IsCompacted (number_bytes 8 made) self.old.tip self.old.log self.new.tip (K.told desk.old) (K.told desk.new)) }
-        ensures kept { IfOk result (λ done. done ≡ false → (self.new.tip ≡ self.old.tip) × Tells (K.told desk.old) (K.told desk.new) []) }
-        ensures failed { OnErr result (IsCutCompaction (number_bytes 8 made) self.old.tip self.old.log (K.told desk.old) (K.told desk.new)) }
+            → IsCompacted (number_bytes 8 made) self.old.tip self.old.log self.new.tip (K.reported desk.old) (K.reported desk.new)) }
+        ensures kept { IfOk result (λ done. done ≡ false → (self.new.tip ≡ self.old.tip) × Reports (K.reported desk.old) (K.reported desk.new) []) }
+        ensures failed { OnErr result (IsCutCompaction (number_bytes 8 made) self.old.tip self.old.log (K.reported desk.old) (K.reported desk.new)) }
         ensures cause { OnErr result (Rose (K.fault_count desk.old) (K.fault_count desk.new)) }
         ensures never_falls { K.fault_count desk.old ≤ K.fault_count desk.new }
         ensures beside { K.beside desk.new ≡ K.beside desk.old }
@@ -208,7 +208,7 @@ impl KeptLog {
     /// Appends the uncommitted round as a block of the journal. After `Ok` the round is empty, and every death leaves a file that has the log. After an error
     /// the log may only be dropped; its file can then be opened again.
     pub fn commit<D: Disk>(&mut self, alloc: Global, disk: &mut D) -> Result<(), KeepEnd>
-        ensures kept { OnOk result (Tells (D.told disk.old) (D.told disk.new) (on_disk (committing self.old.tip self.old.round))) }
+        ensures kept { OnOk result (Reports (D.reported disk.old) (D.reported disk.new) (on_disk (committing self.old.tip self.old.round))) }
         ensures round { OnOk result (self.new.round ≡ []) }
         ensures log { self.new.log ≡ self.old.log }
         ensures grammar { self.new.grammar ≡ self.old.grammar }
@@ -217,7 +217,7 @@ impl KeptLog {
         ensures has_log { OnOk result ((made : List ℕ) (bodies : List (List ℕ)) (before : Log) → HasLog made bodies self.old.tip before
             → Waits before self.old.round self.old.log → HasLog made (with_round bodies self.old.round) self.new.tip self.new.log) }
         ensures stopped { OnErr result ((done : List DiskCall) × IsFrontOf (committing self.old.tip self.old.round) done
-            × Tells (D.told disk.old) (D.told disk.new) (on_disk done)) }
+            × Reports (D.reported disk.old) (D.reported disk.new) (on_disk done)) }
         // An empty round is always committed.
         ensures some { OnErr result (self.old.round ≡ [] → ⊥) }
         ensures cause { IsErrOf result KeepEnd.Failed → Rose (D.fault_count disk.old) (D.fault_count disk.new) }

@@ -2,7 +2,7 @@
 
 ghost use Rattle.std.specs.Prelude.{◌≡◌, ◌≤◌, List, ℕ, [], length, IfOk, IfErr, OnOk, OnErr, IsErrOf};
 ghost use Rattle.ft_io.specs.Faults.{Rose};
-ghost use Rattle.ft_io.specs.Told.{Tells};
+ghost use Rattle.ft_io.specs.Reported.{Reports};
 ghost use Rattle.disk.specs.declared.calls.DiskCall.{DiskCall};
 ghost use Rattle.disk.specs.Remains.{IsFrontOf};
 ghost use Rattle.disk.specs.CallRecord.{on_disk};
@@ -76,8 +76,8 @@ pub(crate) fn header_of(alloc: Global, made: &[u8; TIME], tip: &Tip) -> Result<V
 /// Makes a journal in an empty file, and returns where its first block begins.
 pub fn make<D: Disk>(alloc: Global, disk: &mut D, made: &[u8; TIME]) -> Result<Tip, KeepEnd>
     ensures tip { IfOk result (λ tip. tip ≡ first_tip made.now) }
-    ensures made { OnOk result (Tells (D.told disk.old) (D.told disk.new) (on_disk (making made.now))) }
-    ensures stopped { IfErr result (HasNotBegun made.now (D.told disk.old) (D.told disk.new)) }
+    ensures made { OnOk result (Reports (D.reported disk.old) (D.reported disk.new) (on_disk (making made.now))) }
+    ensures stopped { IfErr result (HasNotBegun made.now (D.reported disk.old) (D.reported disk.new)) }
     ensures cause { IsErrOf result KeepEnd.Failed → Rose (D.fault_count disk.old) (D.fault_count disk.new) }
     ensures never_falls { D.fault_count disk.old ≤ D.fault_count disk.new }
     ensures beside { D.beside disk.new ≡ D.beside disk.old }
@@ -91,9 +91,9 @@ pub fn make<D: Disk>(alloc: Global, disk: &mut D, made: &[u8; TIME]) -> Result<T
 
 /// Cuts off this many bytes after the blocks.
 fn cut_tail<D: Disk>(disk: &mut D, end: u64, tail: usize) -> Result<(), Failed>
-    ensures cut { OnOk result ((torn : List ℕ) → length torn ≡ tail → Tells (D.told disk.old) (D.told disk.new) (on_disk (cutting end torn))) }
+    ensures cut { OnOk result ((torn : List ℕ) → length torn ≡ tail → Reports (D.reported disk.old) (D.reported disk.new) (on_disk (cutting end torn))) }
     ensures stopped { OnErr result ((torn : List ℕ) → length torn ≡ tail
-        → (done : List DiskCall) × IsFrontOf (cutting end torn) done × Tells (D.told disk.old) (D.told disk.new) (on_disk done)) }
+        → (done : List DiskCall) × IsFrontOf (cutting end torn) done × Reports (D.reported disk.old) (D.reported disk.new) (on_disk done)) }
     ensures cause { OnErr result (Rose (D.fault_count disk.old) (D.fault_count disk.new)) }
     ensures never_falls { D.fault_count disk.old ≤ D.fault_count disk.new }
     ensures beside { D.beside disk.new ≡ D.beside disk.old }
@@ -114,9 +114,9 @@ pub fn open_file<D: Disk>(
     store: &mut LogStore,
 ) -> Result<(Tip, usize), OpenEnd>
     requires { store.old ≡ empty_log }
-    ensures opened { IfOk result (λ found. IsOpened (D.left disk.old) (D.told disk.old) (D.told disk.new) found.0 found.1 store.new) }
+    ensures opened { IfOk result (λ found. IsOpened (D.left disk.old) (D.reported disk.old) (D.reported disk.new) found.0 found.1 store.new) }
     ensures grammar { OnOk result (HasGrammar grammar (D.left disk.old)) }
-    ensures stopped { IfErr result (HasStopped (D.left disk.old) (D.told disk.old) (D.told disk.new)) }
+    ensures stopped { IfErr result (HasStopped (D.left disk.old) (D.reported disk.old) (D.reported disk.new)) }
     ensures other { IsErrOf result OpenEnd.OtherGrammar → HasOtherGrammar grammar (D.left disk.old) }
     ensures cause { IsErrOf result OpenEnd.Failed → Rose (D.fault_count disk.old) (D.fault_count disk.new) }
     ensures never_falls { D.fault_count disk.old ≤ D.fault_count disk.new }

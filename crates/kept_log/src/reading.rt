@@ -3,7 +3,7 @@
 ghost use Rattle.std.specs.Prelude.{[], ◌≡◌, ◌≤◌, ◌<◌, ◌^◌, ◌++◌, List, ℕ, length, IfOk, OnOk, IsErrOf};
 ghost use Rattle.std.specs.Io.KnownBytes.{Consumes, IsAtEnd};
 ghost use Rattle.ft_io.specs.Faults.{Rose};
-ghost use Rattle.ft_io.specs.Told.{Tells};
+ghost use Rattle.ft_io.specs.Reported.{Reports};
 ghost use Rattle.ft_model.specs.Log.{empty_log};
 ghost use Rattle.kept_log.specs.ReadSteps.{Takes, Steps, Reaches, IsTail, FindsBehind, FindsAs, FindsIn};
 
@@ -91,7 +91,7 @@ pub(crate) fn take_block(
 }
 
 /// Takes a block into the log, or reads on.
-#[tactic(auto, using(ft_io::proofs::Tellings::none_told, crate::proofs::Steps::block_steps, crate::proofs::Steps::end_steps, crate::proofs::Steps::wrong_steps, crate::proofs::Steps::short_ends, crate::proofs::Steps::short_steps))]
+#[tactic(auto, using(ft_io::proofs::Recordings::none_reported, crate::proofs::Steps::block_steps, crate::proofs::Steps::end_steps, crate::proofs::Steps::wrong_steps, crate::proofs::Steps::short_ends, crate::proofs::Steps::short_steps))]
 fn step<D: Disk>(
     alloc: Global,
     disk: &mut D,
@@ -104,7 +104,7 @@ fn step<D: Disk>(
     requires number { tip.old.number < 2 ^ 63 }
     requires end { tip.old.end < 2 ^ 63 }
     ensures stepped { IfOk result (Steps (D.left disk.old) (D.left disk.new) tip.old tip.new window.old window.new store.old store.new) }
-    ensures told { Tells (D.told disk.old) (D.told disk.new) [] }
+    ensures reported { Reports (D.reported disk.old) (D.reported disk.new) [] }
     ensures cause { IsErrOf result KeepEnd.Failed → Rose (D.fault_count disk.old) (D.fault_count disk.new) }
     ensures never_falls { D.fault_count disk.old ≤ D.fault_count disk.new }
     ensures beside { D.beside disk.new ≡ D.beside disk.old }
@@ -123,7 +123,7 @@ fn step<D: Disk>(
     }
 }
 
-#[tactic(auto, using(crate::proofs::Files::quiet_on, crate::proofs::Files::rose_later, ft_io::proofs::Tellings::none_told, crate::proofs::Onward::at_first))]
+#[tactic(auto, using(crate::proofs::Files::quiet_on, crate::proofs::Files::rose_later, ft_io::proofs::Recordings::none_reported, crate::proofs::Onward::at_first))]
 /// Takes all blocks of a file into the log. The window has what was read after the header.
 fn read_blocks<D: Disk>(
     alloc: Global,
@@ -137,7 +137,7 @@ fn read_blocks<D: Disk>(
     requires log { store.old ≡ empty_log }
     requires time { length made.now ≡ 8 }
     ensures reached { IfOk result (Reaches made.now window.old (D.left disk.old) (D.left disk.new) window.new store.new) }
-    ensures told { Tells (D.told disk.old) (D.told disk.new) [] }
+    ensures reported { Reports (D.reported disk.old) (D.reported disk.new) [] }
     ensures cause { IsErrOf result KeepEnd.Failed → Rose (D.fault_count disk.old) (D.fault_count disk.new) }
     ensures never_falls { D.fault_count disk.old ≤ D.fault_count disk.new }
     ensures beside { D.beside disk.new ≡ D.beside disk.old }
@@ -157,7 +157,7 @@ fn read_blocks<D: Disk>(
     Err(KeepEnd::NoMemory)
 }
 
-#[tactic(auto, using(crate::proofs::Files::quiet_on, crate::proofs::Files::rose_later, ft_io::proofs::Tellings::none_told))]
+#[tactic(auto, using(crate::proofs::Files::quiet_on, crate::proofs::Files::rose_later, ft_io::proofs::Recordings::none_reported))]
 /// Reads until there are more than so many bytes, or the file ends.
 fn fill_up<D: Disk>(
     disk: &mut D,
@@ -169,7 +169,7 @@ fn fill_up<D: Disk>(
     requires most { most < 1000000 }
     ensures read { OnOk result ((bytes : List ℕ) × Consumes (D.left disk.old) (D.left disk.new) bytes × (window.new ≡ window.old ++ bytes)) }
     ensures end { OnOk result (length window.new ≤ most → IsAtEnd (D.left disk.new)) }
-    ensures told { Tells (D.told disk.old) (D.told disk.new) [] }
+    ensures reported { Reports (D.reported disk.old) (D.reported disk.new) [] }
     ensures cause { IsErrOf result KeepEnd.Failed → Rose (D.fault_count disk.old) (D.fault_count disk.new) }
     ensures never_falls { D.fault_count disk.old ≤ D.fault_count disk.new }
     ensures beside { D.beside disk.new ≡ D.beside disk.old }
@@ -183,7 +183,7 @@ fn fill_up<D: Disk>(
 }
 
 /// Reads what comes after the header. The window has its first bytes.
-#[tactic(auto, using(crate::proofs::Files::quiet_on, crate::proofs::Files::rose_later, ft_io::proofs::Tellings::none_told))]
+#[tactic(auto, using(crate::proofs::Files::quiet_on, crate::proofs::Files::rose_later, ft_io::proofs::Recordings::none_reported))]
 fn read_rest<D: Disk>(
     alloc: Global,
     disk: &mut D,
@@ -196,7 +196,7 @@ fn read_rest<D: Disk>(
     requires log { store.old ≡ empty_log }
     requires time { length made.now ≡ 8 }
     ensures found { IfOk result (FindsBehind made.now window.old (D.left disk.old) store.new) }
-    ensures told { Tells (D.told disk.old) (D.told disk.new) [] }
+    ensures reported { Reports (D.reported disk.old) (D.reported disk.new) [] }
     ensures cause { IsErrOf result KeepEnd.Failed → Rose (D.fault_count disk.old) (D.fault_count disk.new) }
     ensures never_falls { D.fault_count disk.old ≤ D.fault_count disk.new }
     ensures beside { D.beside disk.new ≡ D.beside disk.old }
@@ -226,7 +226,7 @@ pub(crate) fn tail_of(tip: &Tip, tail: &[u8]) -> Found
 
 /// Reads a file that was opened just now to its end, and takes its blocks into the empty log, if its messages are of this grammar. It changes
 /// nothing of the file.
-#[tactic(auto, using(crate::proofs::Files::quiet_on, crate::proofs::Files::rose_later, ft_io::proofs::Tellings::none_told))]
+#[tactic(auto, using(crate::proofs::Files::quiet_on, crate::proofs::Files::rose_later, ft_io::proofs::Recordings::none_reported))]
 pub fn read_file<D: Disk>(
     alloc: Global,
     grammar: Grammar,
@@ -236,7 +236,7 @@ pub fn read_file<D: Disk>(
     requires { store.old ≡ empty_log }
     ensures found { IfOk result (FindsAs (D.left disk.old) store.new) }
     ensures grammar { IfOk result (FindsIn grammar (D.left disk.old)) }
-    ensures told { Tells (D.told disk.old) (D.told disk.new) [] }
+    ensures reported { Reports (D.reported disk.old) (D.reported disk.new) [] }
     ensures cause { IsErrOf result KeepEnd.Failed → Rose (D.fault_count disk.old) (D.fault_count disk.new) }
     ensures never_falls { D.fault_count disk.old ≤ D.fault_count disk.new }
     ensures beside { D.beside disk.new ≡ D.beside disk.old }

@@ -2,7 +2,7 @@
 
 ghost use Rattle.std.specs.Prelude.{[], ◌≡◌, ◌≤◌, ◌∷◌, List, ℕ, None, false, length, IfOk, IfSome, OnOk, OnErr};
 ghost use Rattle.ft_io.specs.Faults.{Rose};
-ghost use Rattle.ft_io.specs.Told.{Tells};
+ghost use Rattle.ft_io.specs.Reported.{Reports};
 ghost use Rattle.seq_arith.specs.Message.{Message};
 ghost use Rattle.seq_arith.specs.Message.Body.{HelloMsg};
 ghost use Rattle.long_laws.specs.Snapshot.{said, joined, messages_of, AreSaid, IsSnapshotOf};
@@ -28,7 +28,7 @@ use logger_store::{LogStore, MsgOut, StoredEntry};
 use logger_wire::Grammar;
 use std::alloc::Global;
 
-#[tactic(auto, using(crate::proofs::Said::partly_begun, crate::proofs::Said::partly_on, crate::proofs::Said::all_of, crate::proofs::Files::quiet_on, ft_io::proofs::Tellings::none_told))]
+#[tactic(auto, using(crate::proofs::Said::partly_begun, crate::proofs::Said::partly_on, crate::proofs::Said::all_of, crate::proofs::Files::quiet_on, ft_io::proofs::Recordings::none_reported))]
 /// Writes what makes an entry again.
 fn write_entry<K: Desk>(
     alloc: Global,
@@ -41,7 +41,7 @@ fn write_entry<K: Desk>(
     requires boot { 1 ≤ boot }
     ensures written { OnOk result ((pieces : List (List ℕ)) × (joined pieces ≡ entry.now.bytes)
         × IsWritten (K.aside desk.old) draft.old (K.aside desk.new) draft.new (messages_of boot entry.now pieces)) }
-    ensures told { Tells (K.told desk.old) (K.told desk.new) [] }
+    ensures reported { Reports (K.reported desk.old) (K.reported desk.new) [] }
     ensures never_falls { K.fault_count desk.old ≤ K.fault_count desk.new }
     ensures beside { K.beside desk.new ≡ K.beside desk.old }
 {
@@ -55,7 +55,7 @@ fn write_entry<K: Desk>(
     Ok(())
 }
 
-#[tactic(auto, using(crate::proofs::Said::none_written, crate::proofs::Said::one_more_at, crate::proofs::Said::all_written, crate::proofs::Files::quiet_on, ft_io::proofs::Tellings::none_told))]
+#[tactic(auto, using(crate::proofs::Said::none_written, crate::proofs::Said::one_more_at, crate::proofs::Said::all_written, crate::proofs::Files::quiet_on, ft_io::proofs::Recordings::none_reported))]
 /// Writes what makes the entries of a log again.
 fn write_entries<K: Desk>(
     alloc: Global,
@@ -67,7 +67,7 @@ fn write_entries<K: Desk>(
     requires boot { 1 ≤ store.now.boot }
     ensures written { OnOk result ((messages : List Message) × AreSaid store.now.boot store.now.entries messages
         × IsWritten (K.aside desk.old) draft.old (K.aside desk.new) draft.new messages) }
-    ensures told { Tells (K.told desk.old) (K.told desk.new) [] }
+    ensures reported { Reports (K.reported desk.old) (K.reported desk.new) [] }
     ensures never_falls { K.fault_count desk.old ≤ K.fault_count desk.new }
     ensures beside { K.beside desk.new ≡ K.beside desk.old }
 {
@@ -80,7 +80,7 @@ fn write_entries<K: Desk>(
 }
 
 /// Writes that a server of this boot has started.
-#[tactic(auto, using(crate::proofs::Files::quiet_on, ft_io::proofs::Tellings::none_told))]
+#[tactic(auto, using(crate::proofs::Files::quiet_on, ft_io::proofs::Recordings::none_reported))]
 fn write_boot<K: Desk>(
     alloc: Global,
     desk: &mut K,
@@ -90,7 +90,7 @@ fn write_boot<K: Desk>(
 ) -> Result<(), KeepEnd>
     requires boot { 1 ≤ boot }
     ensures written { OnOk result (IsWritten (K.aside desk.old) draft.old (K.aside desk.new) draft.new (said boot HelloMsg ∷ [])) }
-    ensures told { Tells (K.told desk.old) (K.told desk.new) [] }
+    ensures reported { Reports (K.reported desk.old) (K.reported desk.new) [] }
     ensures never_falls { K.fault_count desk.old ≤ K.fault_count desk.new }
     ensures beside { K.beside desk.new ≡ K.beside desk.old }
 {
@@ -99,7 +99,7 @@ fn write_boot<K: Desk>(
     draft.take(alloc, desk, out.bytes())
 }
 
-#[tactic(auto, using(crate::proofs::Said::new_file, crate::proofs::Files::quiet_on, ft_io::proofs::Tellings::none_told))]
+#[tactic(auto, using(crate::proofs::Said::new_file, crate::proofs::Files::quiet_on, ft_io::proofs::Recordings::none_reported))]
 /// Writes a new file with a snapshot of a log, of a journal that is made at this time, and syncs it. Returns where its next block begins.
 pub fn write_snapshot<K: Desk>(
     alloc: Global,
@@ -112,7 +112,7 @@ pub fn write_snapshot<K: Desk>(
     requires time { length made.now ≡ 8 }
     ensures written { IfOk result (λ tip. (bodies : List (List ℕ)) × (messages : List Message) × IsSnapshotOf store.now messages × AreKept bodies messages
         × (tip ≡ tip_of made.now bodies) × HasAside (K.aside_synced desk.new) (front made.now bodies)) }
-    ensures told { Tells (K.told desk.old) (K.told desk.new) [] }
+    ensures reported { Reports (K.reported desk.old) (K.reported desk.new) [] }
     ensures never_falls { K.fault_count desk.old ≤ K.fault_count desk.new }
     ensures beside { K.beside desk.new ≡ K.beside desk.old }
 {
@@ -128,9 +128,9 @@ pub fn write_snapshot<K: Desk>(
 /// Puts the new file in the place of the old one, and syncs the folder.
 fn take_place<K: Desk>(desk: &mut K) -> Result<(), Failed>
     ensures replaced { OnOk result ((bytes : List ℕ) → HasAside (K.aside_synced desk.old) bytes
-        → Tells (K.told desk.old) (K.told desk.new) (on_disk (Replaced bytes false ∷ Synced false ∷ []))) }
+        → Reports (K.reported desk.old) (K.reported desk.new) (on_disk (Replaced bytes false ∷ Synced false ∷ []))) }
     ensures failed { OnErr result ((bytes : List ℕ) → HasAside (K.aside_synced desk.old) bytes
-        → (done : List DiskCall) × IsFrontOf (Replaced bytes false ∷ Synced false ∷ []) done × Tells (K.told desk.old) (K.told desk.new) (on_disk done)) }
+        → (done : List DiskCall) × IsFrontOf (Replaced bytes false ∷ Synced false ∷ []) done × Reports (K.reported desk.old) (K.reported desk.new) (on_disk done)) }
     ensures cause { OnErr result (Rose (K.fault_count desk.old) (K.fault_count desk.new)) }
     ensures never_falls { K.fault_count desk.old ≤ K.fault_count desk.new }
     ensures beside { K.beside desk.new ≡ K.beside desk.old }
@@ -140,7 +140,7 @@ fn take_place<K: Desk>(desk: &mut K) -> Result<(), Failed>
     Ok(())
 }
 
-#[tactic(auto, using(crate::proofs::Drafts::compacted, crate::proofs::Drafts::cut_compaction, crate::proofs::Files::quiet_on, ft_io::proofs::Tellings::none_told))]
+#[tactic(auto, using(crate::proofs::Drafts::compacted, crate::proofs::Drafts::cut_compaction, crate::proofs::Files::quiet_on, ft_io::proofs::Recordings::none_reported))]
 /// Writes a new file with a snapshot of a log, of a journal that is made at this time, and puts it in the place of the old one. Returns where its next block
 /// begins; `None` if it couldn't be written: then it is removed, and the old file is as before.
 pub fn replace_file<K: Desk>(
@@ -152,9 +152,9 @@ pub fn replace_file<K: Desk>(
 ) -> Result<Option<Tip>, Failed>
     requires boot { 1 ≤ store.now.boot }
     requires time { length made.now ≡ 8 }
-    ensures replaced { IfOk result (λ r. IfSome r (λ next. (tip : Tip) → IsCompacted made.now tip store.now next (K.told desk.old) (K.told desk.new))) }
-    ensures stays { IfOk result (λ r. r ≡ None → Tells (K.told desk.old) (K.told desk.new) []) }
-    ensures failed { OnErr result ((tip : Tip) → IsCutCompaction made.now tip store.now (K.told desk.old) (K.told desk.new)) }
+    ensures replaced { IfOk result (λ r. IfSome r (λ next. (tip : Tip) → IsCompacted made.now tip store.now next (K.reported desk.old) (K.reported desk.new))) }
+    ensures stays { IfOk result (λ r. r ≡ None → Reports (K.reported desk.old) (K.reported desk.new) []) }
+    ensures failed { OnErr result ((tip : Tip) → IsCutCompaction made.now tip store.now (K.reported desk.old) (K.reported desk.new)) }
     ensures cause { OnErr result (Rose (K.fault_count desk.old) (K.fault_count desk.new)) }
     ensures never_falls { K.fault_count desk.old ≤ K.fault_count desk.new }
     ensures beside { K.beside desk.new ≡ K.beside desk.old }

@@ -3,7 +3,7 @@
 ghost use Rattle.std.specs.Prelude.{[], ◌≡◌, ◌≤◌, ◌<◌, ◌++◌, List, ℕ, drop, false, true, length, IfOk, OnOk, IsErrOf};
 ghost use Rattle.std.specs.Io.KnownBytes.{Consumes, IsAtEnd};
 ghost use Rattle.ft_io.specs.Faults.{Rose};
-ghost use Rattle.ft_io.specs.Told.{Tells};
+ghost use Rattle.ft_io.specs.Reported.{Reports};
 
 use crate::journal::KeepEnd;
 use disk::Disk;
@@ -72,7 +72,7 @@ pub fn fill<D: Disk>(disk: &mut D, window: &mut Window, chunk: &mut [u8]) -> Res
     ensures grows { IfOk result (λ more. more ≡ true → length window.old < length window.new) }
     ensures same { IfOk result (λ more. more ≡ false → window.new ≡ window.old) }
     ensures end { IfOk result (λ more. more ≡ false → IsAtEnd (D.left disk.old) × IsAtEnd (D.left disk.new)) }
-    ensures told { Tells (D.told disk.old) (D.told disk.new) [] }
+    ensures reported { Reports (D.reported disk.old) (D.reported disk.new) [] }
     ensures cause { IsErrOf result KeepEnd.Failed → Rose (D.fault_count disk.old) (D.fault_count disk.new) }
     ensures never_falls { D.fault_count disk.old ≤ D.fault_count disk.new }
     ensures beside { D.beside disk.new ≡ D.beside disk.old }

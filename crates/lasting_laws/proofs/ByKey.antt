@@ -25,7 +25,7 @@ use Rattle.ft_model.proofs.PlaceTurns.PlaceWent.{stayed, went_on, began, dropped
 use Rattle.ft_model.proofs.StageTurns.{either_turn}
 use Rattle.long_laws.specs.Forgetting.{Named}
 use Rattle.long_laws.specs.LongTrace.{places_at}
-use Rattle.long_laws.specs.Quarantine.{Quarantined, begun, aged, named_in, quarantined_at, goes_on_or_begins, quarantine_of, quarantine_after}
+use Rattle.long_laws.specs.Quarantine.{Quarantined, begun, aged, named_in, quarantined_at, proceeds_or_begins, quarantine_of, quarantine_after}
 use Rattle.long_laws.proofs.QuarantineKept.{named_key}
 use Rattle.lasting_laws.specs.ByKey.{next_quarantine, quarantine_at, KeyWent}
 use Rattle.long_laws.proofs.QuarantineWhole.{aged_key}
@@ -36,7 +36,7 @@ module _ (node : Node) (input : Input) (qs : List Quarantined) where
   its_key k q e = aged_key input q ∙ same_key q.named.key k (found_passes (λ x. key_eq x.named.key k) qs q e)
 
   skip_of : (key k : Key) (rest : List Quarantined) → key_eq k key ≡ false → (q : Option Quarantined) (n : Option Named) → quarantined_at k qs ≡ q → named_in node input node.stage k ≡ n
-      → quarantined_at key (goes_on_or_begins input q n ++ rest) ≡ quarantined_at key rest
+      → quarantined_at key (proceeds_or_begins input q n ++ rest) ≡ quarantined_at key rest
   skip_of key k rest other (Some q) n e f =
       if_false (key_eq (aged input q).named.key key) (Some (aged input q)) (quarantined_at key rest) (ap (λ x. key_eq x key) (its_key k q e) ∙ other)
   skip_of key k rest other None (Some n) e f =
@@ -55,7 +55,7 @@ module _ (node : Node) (input : Input) (qs : List Quarantined) where
       skip key p (flat_map (quarantine_of node input qs) places) parts.0 ∙ none_there key places parts.1
 
   here_of : (key : Key) (rest : List Quarantined) → quarantined_at key rest ≡ None → (q : Option Quarantined) (n : Option Named) → quarantined_at key qs ≡ q
-      → named_in node input node.stage key ≡ n → quarantined_at key (goes_on_or_begins input q n ++ rest) ≡ next_quarantine input q n
+      → named_in node input node.stage key ≡ n → quarantined_at key (proceeds_or_begins input q n ++ rest) ≡ next_quarantine input q n
   here_of key rest none (Some q) n e f =
       if_true (key_eq (aged input q).named.key key) (Some (aged input q)) (quarantined_at key rest) (ap (λ x. key_eq x key) (its_key key q e) ∙ key_is key)
   here_of key rest none None (Some n) e f =
@@ -65,7 +65,7 @@ module _ (node : Node) (input : Input) (qs : List Quarantined) where
   here : (key : Key) (place : Place) (rest : List Quarantined) → key_eq (key_of place) key ≡ true → quarantined_at key rest ≡ None
       → quarantined_at key (quarantine_of node input qs place ++ rest) ≡ quarantine_at node input key (quarantined_at key qs) (Some place)
   here key (Ended k) rest its none =
-      subst (λ x. quarantined_at key (goes_on_or_begins input (quarantined_at x qs) (named_in node input node.stage x) ++ rest)
+      subst (λ x. quarantined_at key (proceeds_or_begins input (quarantined_at x qs) (named_in node input node.stage x) ++ rest)
       ≡ next_quarantine input (quarantined_at key qs) (named_in node input node.stage key)) (sym (same_key k key its))
       (here_of key rest none (quarantined_at key qs) (named_in node input node.stage key) refl refl)
   here key (Lives p) rest its none = none
@@ -88,7 +88,7 @@ module _ (node : Node) (input : Input) (qs : List Quarantined) where
 
   -- no key has two
   one_key : (k : Key) (q : Option Quarantined) (n : Option Named) → quarantined_at k qs ≡ q → named_in node input node.stage k ≡ n
-      → (goes_on_or_begins input q n ≡ []) ⊎ ((x : Quarantined) × (goes_on_or_begins input q n ≡ x ∷ []) × (x.named.key ≡ k))
+      → (proceeds_or_begins input q n ≡ []) ⊎ ((x : Quarantined) × (proceeds_or_begins input q n ≡ x ∷ []) × (x.named.key ≡ k))
   one_key k (Some q) n e f = inr (aged input q, refl, its_key k q e)
   one_key k None (Some n) e f = inr (begun n, refl, named_key node input node.stage k n f)
   one_key k None None e f = inl refl

@@ -20,7 +20,7 @@ use Rattle.ft_model.specs.Point.{Point}
 use Rattle.ft_model.specs.ServingTurn.{PlaceTurn, AllGo, Stays, Meets, newcomers, is_strange, concerns}
 use Rattle.ft_model.specs.World.{ServerTurn}
 use Rattle.ft_model.specs.declared.event.Event.TheVariants.{Tick}
-use Rattle.ft_model.proofs.Distinct.{keeps_key, distinct_goes_on}
+use Rattle.ft_model.proofs.Distinct.{keeps_key, distinct_proceeds}
 use Rattle.ft_model.proofs.Keys.{key_eq_turns, all_from_get, finds_itself}
 use Rattle.ft_model.proofs.Lists.{all_both, all_of, key_is}
 use Rattle.ft_model.proofs.PlaceTurns.{place_went}
@@ -80,7 +80,7 @@ module _ {State : Type 0} (service : Machine State) where
         places = served.0;
         at = served.1;
         apart = subst (λ l. AreDistinct (map key_of l)) (sym went)
-            (distinct_goes_on (PlaceTurn service m (Packet_comes (last_rst m.server p)))
+            (distinct_proceeds (PlaceTurn service m (Packet_comes (last_rst m.server p)))
             (λ place now some g. keeps_key service m (Packet_comes (last_rst m.server p)) place now some (place_went service m (Packet_comes (last_rst m.server p)) place now some g))
             s.places turn.went turn.by_places turn.all_go s.apart);
         left_apart = s.left_apart.1;
@@ -236,7 +236,7 @@ module _ {State : Type 0} (service : Machine State) (patience : Patience) (n : L
       let went : served.0 ≡ turn.went = turn.places ∙ append-nil turn.went in
       let apart : AreDistinct (map key_of served.0) =
       subst (λ l. AreDistinct (map key_of l)) (sym went)
-      (distinct_goes_on (PlaceTurn service n.node Tick_comes) (λ place now some g. keeps_key service n.node Tick_comes place now some (place_went service n.node Tick_comes place now some g))
+      (distinct_proceeds (PlaceTurn service n.node Tick_comes) (λ place now some g. keeps_key service n.node Tick_comes place now some (place_went service n.node Tick_comes place now some g))
       places turn.went turn.by_places turn.all_go d) in
       record {
         opened = opened + length (newcomers n.node Tick_comes opened places);

@@ -98,15 +98,15 @@ abbrev pub ServerMoves : {State : Type 0} → Machine State → LastingInput →
 ServerMoves service input before parcels after = ServerTurn service input before.node before parcels after
 
 -- a segment arrives at the client that is at its address
-abbrev pub heard_by : Key → Segment → Guest → Guest
-heard_by key segment g = if is_there key g then record g { client = received g.client segment } else g
+abbrev pub received_by : Key → Segment → Guest → Guest
+received_by key segment g = if is_there key g then record g { client = received g.client segment } else g
 
-abbrev pub ClientHears : Key → Segment → LastingWorld → List Parcel → LastingWorld → Type 0
-ClientHears key segment before parcels after = (parcels ≡ []) × (after ≡ record before { guests = map (heard_by key segment) before.guests })
+abbrev pub ClientReceives : Key → Segment → LastingWorld → List Parcel → LastingWorld → Type 0
+ClientReceives key segment before parcels after = (parcels ≡ []) × (after ≡ record before { guests = map (received_by key segment) before.guests })
 
 -- a message arrives at the log, which sends its answer and nothing else
-abbrev pub LogHears : Message → LastingWorld → List Parcel → LastingWorld → Type 0
-LogHears message before parcels after =
+abbrev pub LogReceives : Message → LastingWorld → List Parcel → LastingWorld → Type 0
+LogReceives message before parcels after =
     (parcels ≡ map Usual (option_to_list (option_map From_logger (answer_to before.log message))))
     × (after ≡ with_sent parcels (record before { log = log_after before.log message }))
 
@@ -143,8 +143,8 @@ LogForgets message before parcels after =
 -- a parcel reaches its addressee
 abbrev pub ParcelComes : {State : Type 0} → Machine State → Parcel → LastingWorld → List Parcel → LastingWorld → Type 0
 ParcelComes service (Usual (To_server segment)) before parcels after = ServerMoves service (Usual_comes (Packet_comes segment)) before parcels after
-ParcelComes service (Usual (To_client segment)) before parcels after = ClientHears (destination_of segment) segment before parcels after
-ParcelComes service (Usual (To_logger message)) before parcels after = LogHears message before parcels after
+ParcelComes service (Usual (To_client segment)) before parcels after = ClientReceives (destination_of segment) segment before parcels after
+ParcelComes service (Usual (To_logger message)) before parcels after = LogReceives message before parcels after
 ParcelComes service (Usual (From_logger message)) before parcels after = ServerMoves service (Usual_comes (Message_comes message)) before parcels after
 ParcelComes service (Forget_sent message) before parcels after = LogForgets message before parcels after
 ParcelComes service (Forgotten_sent message) before parcels after = ServerMoves service (Forget_comes message) before parcels after
@@ -177,12 +177,12 @@ abbrev pub NothingHappens : LastingWorld → List Parcel → LastingWorld → Ty
 NothingHappens before parcels after = (parcels ≡ []) × (after ≡ before)
 
 abbrev pub LogReads : Said → LastingWorld → List Parcel → LastingWorld → Type 0
-LogReads (Says message) before parcels after = LogHears message before parcels after
+LogReads (Says message) before parcels after = LogReceives message before parcels after
 LogReads (Says_of_forgetting message) before parcels after = LogForgets message before parcels after
 LogReads Says_nothing before parcels after = NothingHappens before parcels after
 
 abbrev pub ClientReads : Key → Result Segment BadPacket → LastingWorld → List Parcel → LastingWorld → Type 0
-ClientReads key (Ok segment) before parcels after = ClientHears key segment before parcels after
+ClientReads key (Ok segment) before parcels after = ClientReceives key segment before parcels after
 ClientReads key (Err why) before parcels after = NothingHappens before parcels after
 
 -- these bytes reach the addressee of a parcel in place of its own

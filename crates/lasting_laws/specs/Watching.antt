@@ -27,18 +27,18 @@ abbrev pub begun_watch : Origin → Watch
 begun_watch origin = record { origin = origin; age = 0; silent = 0 }
 
 -- a packet of its client comes
-abbrev pub heard_origin : Origin → Origin
-heard_origin Restored_empty = Restored
-heard_origin origin = origin
+abbrev pub received_origin : Origin → Origin
+received_origin Restored_empty = Restored
+received_origin origin = origin
 
-abbrev pub heard_from : Watch → Watch
-heard_from w = record { origin = heard_origin w.origin; age = w.age; silent = 0 }
+abbrev pub received_from : Watch → Watch
+received_from w = record { origin = received_origin w.origin; age = w.age; silent = 0 }
 
 abbrev pub one_tick_older : Watch → Watch
 one_tick_older w = record { origin = w.origin; age = w.age + 1; silent = w.silent + 1 }
 
 abbrev pub watched : Node → Input → Key → Watch → Watch
-watched node (Packet_comes segment) key w = if concerns node (Packet_comes segment) key then heard_from w else w
+watched node (Packet_comes segment) key w = if concerns node (Packet_comes segment) key then received_from w else w
 watched node Tick_comes key w = one_tick_older w
 watched node (Message_comes message) key w = w
 watched node Noise_comes key w = w
@@ -71,9 +71,9 @@ is_opened_here _ = false
 abbrev pub is_half_open : Watch → Point → Bool
 is_half_open w p = is_opened_here w.origin && not p.syn_acked
 
-abbrev pub is_unheard : Origin → Bool
-is_unheard Restored_empty = true
-is_unheard _ = false
+abbrev pub is_unreceived : Origin → Bool
+is_unreceived Restored_empty = true
+is_unreceived _ = false
 
 -- Whether the server lets go of a connection. A half-open one and one that may be half-open are let go of after 250 ticks, whatever `silence` is
 abbrev pub half_open_ticks : ℕ
@@ -85,7 +85,7 @@ is_silent silence w = nat_lt 0 silence && nat_le (2 * silence) w.silent
 abbrev pub is_let_go : (silence : ℕ) → Watch → Point → Bool
 is_let_go silence w p =
     not p.reset
-    && (if is_half_open w p then nat_le half_open_ticks w.age else (if is_unheard w.origin then nat_le half_open_ticks w.silent else is_silent silence w))
+    && (if is_half_open w p then nat_le half_open_ticks w.age else (if is_unreceived w.origin then nat_le half_open_ticks w.silent else is_silent silence w))
 
 -- When a keep-alive is due. One that may be half-open is asked at every fiftieth tick, any other first at `silence` and then each eighth part of it
 abbrev pub interval : (silence : ℕ) → ℕ
@@ -93,7 +93,7 @@ interval silence = max 1 (silence / 8)
 
 abbrev pub is_due : (silence : ℕ) → Watch → Bool
 is_due silence w =
-    if is_unheard w.origin then w.silent % 50 == 0
+    if is_unreceived w.origin then w.silent % 50 == 0
     else nat_lt 0 silence && (nat_le silence w.silent && (w.silent - silence) % interval silence == 0)
 
 -- While something is unacknowledged, its retransmission asks, and no keep-alive is sent

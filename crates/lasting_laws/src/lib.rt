@@ -26,7 +26,7 @@ ghost use Rattle.lasting_laws.specs.LastingTurn.LastingInput.{Usual_comes};
 ghost use Rattle.lasting_laws.specs.ByKey.{quarantine_at, KeyWent};
 ghost use Rattle.lasting_laws.specs.Watching.Origin.{Opened_here, Restored_empty, Restored};
 ghost use Rattle.lasting_laws.specs.WorkedSilence.{open_point, half_open_point, asked_at, let_go_at};
-ghost use Rattle.lasting_laws.specs.Watching.{Watch, watched, is_half_open, is_unheard, is_let_go, is_asked};
+ghost use Rattle.lasting_laws.specs.Watching.{Watch, watched, is_half_open, is_unreceived, is_let_go, is_asked};
 ghost use Rattle.std.specs.Prelude.{codes};
 ghost use Rattle.ft_model.specs.Report.{line_of_packet};
 ghost use Rattle.ft_model.specs.declared.way.Way.TheVariants.{ServerToLogger, LoggerToServer};
@@ -39,15 +39,15 @@ use server_trait::Service;
 /// A connection that is neither half-open nor restored empty and unheard is let go of only after its client was silent for twice the threshold; never without a
 /// threshold, and never once it is reset.
 pub fn established_connections_are_let_go_after_silence()
-    ensures silent { (silence : ℕ) (w : Watch) (p : Point) → is_half_open w p ≡ false → is_unheard w.origin ≡ false → is_let_go silence w p ≡ true
+    ensures silent { (silence : ℕ) (w : Watch) (p : Point) → is_half_open w p ≡ false → is_unreceived w.origin ≡ false → is_let_go silence w p ≡ true
         → (0 < silence) × (2 * silence ≤ w.silent) }
     ensures reset { (silence : ℕ) (w : Watch) (p : Point) → p.reset ≡ true → is_let_go silence w p ≡ false }
 {}
 
 /// Only ticks count as silence, each as one, and a packet of the client ends it.
 pub fn silence_is_counted_in_ticks()
-    ensures heard { (node : Node) (segment : Segment) (key : Key) (w : Watch) → concerns node (Packet_comes segment) key ≡ true
-        → ((watched node (Packet_comes segment) key w).silent ≡ 0) × (is_unheard (watched node (Packet_comes segment) key w).origin ≡ false) }
+    ensures receipt { (node : Node) (segment : Segment) (key : Key) (w : Watch) → concerns node (Packet_comes segment) key ≡ true
+        → ((watched node (Packet_comes segment) key w).silent ≡ 0) × (is_unreceived (watched node (Packet_comes segment) key w).origin ≡ false) }
     ensures others { (node : Node) (segment : Segment) (key : Key) (w : Watch) → concerns node (Packet_comes segment) key ≡ false
         → watched node (Packet_comes segment) key w ≡ w }
     ensures messages { (node : Node) (message : Message) (key : Key) (w : Watch) → watched node (Message_comes message) key w ≡ w }

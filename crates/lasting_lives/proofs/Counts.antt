@@ -3,12 +3,12 @@ use Rattle.std.proofs.Common.{◌≡◌, ◌∙◌, ℕ, ◌≤◌, ◌<◌, ◌
 use Rattle.std.proofs.lemmas.Bool.{leb-true, leb-false}
 use Rattle.long_laws.specs.Quarantine.{Quarantined, is_leaving}
 use Rattle.lasting_laws.specs.Watching as law
-use Rattle.lasting_laws.specs.Watching.{heard_from, one_tick_older}
+use Rattle.lasting_laws.specs.Watching.{received_from, one_tick_older}
 use Rattle.lasting_lives.specs.declared.life.Resting.{Resting}
 use Rattle.lasting_lives.specs.declared.watch.Watch.{Watch}
 use Rattle.lasting_lives.specs.declared.watch.Origin.{Origin}
 use Rattle.lasting_lives.specs.declared.watch.Origin.TheVariants as origin
-use Rattle.lasting_lives.specs.Lives.{next_count, older_watch, older_resting, heard_watch, heard_origin, left_resting}
+use Rattle.lasting_lives.specs.Lives.{next_count, older_watch, older_resting, received_watch, received_origin, left_resting}
 use Rattle.lasting_lives.specs.Watches.{counted, origin_said, WatchStands, QuarantineStands}
 
 pub next_is : (ticks : ℕ) → next_count (counted ticks) ≡ counted (ticks + 1)
@@ -28,13 +28,13 @@ whole ticks small = omega (arith, small)
 pub older_stands : (w : Watch) (v : law.Watch) → WatchStands w v → WatchStands (older_watch w) (one_tick_older v)
 older_stands w v st = record { origin = st.origin; age = ap next_count st.age ∙ next_is v.age; silent = ap next_count st.silent ∙ next_is v.silent }
 
-heard_said : (o : Origin) → origin_said (heard_origin o) ≡ law.heard_origin (origin_said o)
-heard_said origin.Opened = refl
-heard_said origin.RestoredEmpty = refl
-heard_said origin.Restored = refl
+received_said : (o : Origin) → origin_said (received_origin o) ≡ law.received_origin (origin_said o)
+received_said origin.Opened = refl
+received_said origin.RestoredEmpty = refl
+received_said origin.Restored = refl
 
-pub heard_stands : (w : Watch) (v : law.Watch) → WatchStands w v → WatchStands (heard_watch w) (heard_from v)
-heard_stands w v st = record { origin = heard_said w.origin ∙ ap law.heard_origin st.origin; age = st.age; silent = refl }
+pub received_stands : (w : Watch) (v : law.Watch) → WatchStands w v → WatchStands (received_watch w) (received_from v)
+received_stands w v st = record { origin = received_said w.origin ∙ ap law.received_origin st.origin; age = st.age; silent = refl }
 
 -- a quarantine after a tick, and once it has ended
 pub older_rests : (r : Resting) (q : Quarantined) → QuarantineStands r q → QuarantineStands (older_resting r) (record q { age = q.age + 1 })

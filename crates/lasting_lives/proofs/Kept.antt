@@ -36,9 +36,9 @@ use Rattle.lasting_lives.specs.declared.life.Life.TheVariants as life
 use Rattle.lasting_lives.specs.declared.life.Resting.{Resting}
 use Rattle.lasting_lives.specs.declared.watch.Watch.{Watch}
 use Rattle.lasting_lives.specs.Known.{LifeStands, LivesStand, RestsAt, life_after}
-use Rattle.lasting_lives.specs.Lives.{heard, heard_watch, older_watch, older_resting}
+use Rattle.lasting_lives.specs.Lives.{receipt, received_watch, older_watch, older_resting}
 use Rattle.lasting_lives.specs.Watches.{WatchStands, QuarantineStands}
-use Rattle.lasting_lives.proofs.Counts.{heard_stands, older_stands, older_rests}
+use Rattle.lasting_lives.proofs.Counts.{received_stands, older_stands, older_rests}
 
 abbrev pub is_message : Input → Bool
 is_message (Message_comes message) = true
@@ -151,14 +151,14 @@ watched_life : (node : Node) (input : Input) (key : Key) (w : Watch) → is_mess
 watched_life node (Packet_comes segment) key w calm v st =
     by_cases (concerns node (Packet_comes segment) key)
     (λ t. (
-      heard_watch w,
-      if_true (concerns node (Packet_comes segment) key) (option_map heard (Some (life.Watched w))) (Some (life.Watched w)) t,
-      subst (WatchStands (heard_watch w)) (sym (if_true (concerns node (Packet_comes segment) key) (Rattle.lasting_laws.specs.Watching.heard_from v) v t)) (heard_stands w v st),
+      received_watch w,
+      if_true (concerns node (Packet_comes segment) key) (option_map receipt (Some (life.Watched w))) (Some (life.Watched w)) t,
+      subst (WatchStands (received_watch w)) (sym (if_true (concerns node (Packet_comes segment) key) (Rattle.lasting_laws.specs.Watching.received_from v) v t)) (received_stands w v st),
     ))
     (λ f. (
       w,
-      if_false (concerns node (Packet_comes segment) key) (option_map heard (Some (life.Watched w))) (Some (life.Watched w)) f,
-      subst (WatchStands w) (sym (if_false (concerns node (Packet_comes segment) key) (Rattle.lasting_laws.specs.Watching.heard_from v) v f)) st,
+      if_false (concerns node (Packet_comes segment) key) (option_map receipt (Some (life.Watched w))) (Some (life.Watched w)) f,
+      subst (WatchStands w) (sym (if_false (concerns node (Packet_comes segment) key) (Rattle.lasting_laws.specs.Watching.received_from v) v f)) st,
     ))
 watched_life node Tick_comes key w calm v st = (older_watch w, refl, older_stands w v st)
 watched_life node Noise_comes key w calm v st = (w, refl, st)
@@ -169,7 +169,7 @@ resting_life : (node : Node) (input : Input) (key : Key) (r : Resting) → is_me
 resting_life node (Packet_comes segment) key r calm q st =
     (r, same (concerns node (Packet_comes segment) key), st, refl)
   where
-    same : (b : Bool) → (if b then option_map heard (Some (life.Resting r)) else Some (life.Resting r)) ≡ Some (life.Resting r)
+    same : (b : Bool) → (if b then option_map receipt (Some (life.Resting r)) else Some (life.Resting r)) ≡ Some (life.Resting r)
     same true = refl
     same false = refl
 resting_life node Tick_comes key r calm q st = (older_resting r, refl, older_rests r q st, refl)
@@ -179,7 +179,7 @@ resting_life node (Message_comes message) key r calm q st = absurd (true≢false
 no_life : (node : Node) (input : Input) (key : Key) → is_message input ≡ false → life_after node input key None ≡ None
 no_life node (Packet_comes segment) key calm = same (concerns node (Packet_comes segment) key)
   where
-    same : (b : Bool) → (if b then option_map heard None else None) ≡ None
+    same : (b : Bool) → (if b then option_map receipt None else None) ≡ None
     same true = refl
     same false = refl
 no_life node Tick_comes key calm = refl

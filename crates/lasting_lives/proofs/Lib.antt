@@ -1,6 +1,6 @@
 pub mod Counts
 pub mod Lived
 pub mod Kept
-pub mod Told
+pub mod Reported
 pub mod Rests
 pub mod Restarted

@@ -21,7 +21,7 @@ use Rattle.lasting_lives.specs.declared.life.Resting.{Resting}
 use Rattle.lasting_lives.specs.declared.watch.Watch.{Watch}
 use Rattle.lasting_lives.specs.declared.watch.Origin.{Origin}
 use Rattle.lasting_lives.specs.declared.watch.Origin.TheVariants as origin
-use Rattle.lasting_lives.specs.Lives.{heard, older}
+use Rattle.lasting_lives.specs.Lives.{receipt, older}
 use Rattle.lasting_lives.specs.Watches.{WatchStands, QuarantineStands, end_there}
 
 -- what is known of a key: the watch of a live connection, the quarantine of one that is done, nothing of any other key
@@ -57,7 +57,7 @@ LivesStand n (Fenced newer) lives = Unit {0}
 
 -- What becomes of a life in a turn on anything but a message, while the node serves: a packet ends its client's silence, and a tick makes all older
 abbrev pub life_after : Node → Input → Key → Option Life → Option Life
-life_after node (Packet_comes segment) key l = if concerns node (Packet_comes segment) key then option_map heard l else l
+life_after node (Packet_comes segment) key l = if concerns node (Packet_comes segment) key then option_map receipt l else l
 life_after node Tick_comes key l = option_map older l
 life_after node (Message_comes message) key l = l
 life_after node Noise_comes key l = l

@@ -35,16 +35,16 @@ abbrev pub all_older : List (Key × Life) → List (Key × Life)
 all_older lives = map (λ e. (e.0, older e.1)) lives
 
 -- a packet of a live connection's client comes
-abbrev pub heard_origin : Origin → Origin
-heard_origin origin.RestoredEmpty = origin.Restored
-heard_origin o = o
+abbrev pub received_origin : Origin → Origin
+received_origin origin.RestoredEmpty = origin.Restored
+received_origin o = o
 
-abbrev pub heard_watch : Watch → Watch
-heard_watch w = record { origin = heard_origin w.origin; age = w.age; silent = 0 }
+abbrev pub received_watch : Watch → Watch
+received_watch w = record { origin = received_origin w.origin; age = w.age; silent = 0 }
 
-abbrev pub heard : Life → Life
-heard (life.Watched w) = life.Watched (heard_watch w)
-heard (life.Resting r) = life.Resting r
+abbrev pub receipt : Life → Life
+receipt (life.Watched w) = life.Watched (received_watch w)
+receipt (life.Resting r) = life.Resting r
 
 -- a quarantine of `wait` ticks ends
 abbrev pub left_resting : (wait : ℕ) → Resting → Resting

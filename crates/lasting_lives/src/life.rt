@@ -8,7 +8,7 @@ ghost use Rattle.logger_wire.specs.Records.{head_said};
 ghost use Rattle.forget_wire.specs.Value.{named_said};
 ghost use Rattle.long_laws.specs.Quarantine.{Quarantined, begun, named_head, is_leaving, is_same};
 ghost use Rattle.ft_model.specs.Opening.{is_syn as is_syn_segment};
-ghost use Rattle.lasting_lives.specs.Lives.{older, older_resting, left, left_resting, heard};
+ghost use Rattle.lasting_lives.specs.Lives.{older, older_resting, left, left_resting, receipt};
 ghost use Rattle.lasting_lives.specs.Watches.{QuarantineStands};
 
 use crate::watch::Watch;
@@ -94,7 +94,7 @@ impl Resting {
 impl Life {
     /// Notes that a packet of its client came.
     pub fn receive(&mut self)
-        ensures { self.new ≡ heard self.old }
+        ensures { self.new ≡ receipt self.old }
     {
         if let Life::Watched(watch) = self {
             watch.receive();

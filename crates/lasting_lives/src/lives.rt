@@ -4,7 +4,7 @@ ghost use Rattle.std.specs.Prelude.{◌≡◌, [], false, None, Some, OnOk, opti
 ghost use Rattle.std.specs.Map.{lookup};
 ghost use Rattle.ft_io.specs.declared.Key.{Key as key_type};
 ghost use Rattle.ft_io.specs.Key.{key_eq};
-ghost use Rattle.lasting_lives.specs.Lives.{resting_in, watch_in, all_older, heard, left};
+ghost use Rattle.lasting_lives.specs.Lives.{resting_in, watch_in, all_older, receipt, left};
 
 use crate::life::{Life, Resting};
 use crate::watch::Watch;
@@ -70,7 +70,7 @@ impl Lives {
 
     /// Notes that a packet of a live connection's client came.
     pub fn receive(&mut self, key: Key)
-        ensures its { lookup (key_eq key) self.new ≡ option_map heard (lookup (key_eq key) self.old) }
+        ensures its { lookup (key_eq key) self.new ≡ option_map receipt (lookup (key_eq key) self.old) }
         ensures others { (k : key_type) → key_eq key k ≡ false → lookup (key_eq k) self.new ≡ lookup (key_eq k) self.old }
     {
         if let Some(life) = self.of.get_mut(&key) {

@@ -4,7 +4,7 @@ ghost use Rattle.std.specs.Prelude.{◌≡◌, ◌≤◌, false};
 ghost use Rattle.ft_model.specs.Point.{Point};
 ghost use Rattle.lasting_laws.specs.Watching.{is_half_open, is_let_go, is_due, interval as interval_lem};
 ghost use Rattle.lasting_laws.specs.Watching as law;
-ghost use Rattle.lasting_lives.specs.Lives.{heard_watch, older_watch};
+ghost use Rattle.lasting_lives.specs.Lives.{received_watch, older_watch};
 ghost use Rattle.lasting_lives.specs.Watches.{WatchStands, ShowsPoint, due_by};
 
 use crate::outside::Outside;
@@ -56,7 +56,7 @@ impl Watch {
 
     /// Notes that a packet of the client came.
     pub fn receive(&mut self)
-        ensures { self.new ≡ heard_watch self.old }
+        ensures { self.new ≡ received_watch self.old }
     {
         if let Origin::RestoredEmpty = self.origin {
             self.origin = Origin::Restored;

@@ -12,7 +12,7 @@ use Rattle.ft_model.specs.Readable.{FitsKey}
 use Rattle.ft_model.specs.Texts.{address_text, key_text}
 use Rattle.line_check.specs.Words.{Column, number_word, in_field, most_of, number_fits, key_fits, columns_fit}
 use Rattle.line_check.specs.Words.Column.{KeyColumn, NumberColumn}
-use Rattle.line_check.proofs.Spelled.{same_bytes, bytes_same, number_told, number_shown, address_told, address_shown}
+use Rattle.line_check.proofs.Spelled.{same_bytes, bytes_same, number_reported, number_shown, address_reported, address_shown}
 
 -- the fields of columns, and the words of their numbers
 abbrev pub column_fields : List Column → List Field
@@ -64,29 +64,29 @@ most_fits fields.Offset n h = (omega (arith, h), omega (arith, h))
 most_fits fields.Units n h = (omega (arith, h), omega (arith, h))
 most_fits fields.Newer n h = (omega (arith, h), omega (arith, h))
 
-number_told_in : (grammar : Grammar) (boot behind : ℕ) (field : Field) (b : Bool) (word : List ℕ) → number_fits grammar boot behind field (if b then Some word else None) ≡ true
+number_reported_in : (grammar : Grammar) (boot behind : ℕ) (field : Field) (b : Bool) (word : List ℕ) → number_fits grammar boot behind field (if b then Some word else None) ≡ true
     → (b ≡ true) × ((n : ℕ) × (n < 256 ^ width field) × (is_in_range_by grammar boot behind field n ≡ true) × (word ≡ decimal n))
-number_told_in grammar boot behind field false word e = absurd (true≢false (sym e))
-number_told_in grammar boot behind field true word e = (refl, by_number (number_word (most_of field) word) refl e)
+number_reported_in grammar boot behind field false word e = absurd (true≢false (sym e))
+number_reported_in grammar boot behind field true word e = (refl, by_number (number_word (most_of field) word) refl e)
   where
     by_number : (o : Option ℕ) → number_word (most_of field) word ≡ o → in_field grammar boot behind field o ≡ true → (n : ℕ) × (n < 256 ^ width field) × (is_in_range_by grammar boot behind field n ≡ true) × (word ≡ decimal n)
     by_number None f e = absurd (true≢false (sym e))
-    by_number (Some n) f e = let t : (n ≤ most_of field) × (word ≡ decimal n) = number_told (most_of field) n word f in (n, fits_bytes field n t.0, e, t.1)
+    by_number (Some n) f e = let t : (n ≤ most_of field) × (word ≡ decimal n) = number_reported (most_of field) n word f in (n, fits_bytes field n t.0, e, t.1)
 
-key_told_in : (b : Bool) (word : List ℕ) → key_fits (if b then Some word else None) ≡ true → (b ≡ true) × ((key : Key) × FitsKey key × (word ≡ key_text key))
-key_told_in false word e = absurd (true≢false (sym e))
-key_told_in true word e = (refl, address_told word e)
+key_reported_in : (b : Bool) (word : List ℕ) → key_fits (if b then Some word else None) ≡ true → (b ≡ true) × ((key : Key) × FitsKey key × (word ≡ key_text key))
+key_reported_in false word e = absurd (true≢false (sym e))
+key_reported_in true word e = (refl, address_reported word e)
 
 drop_more : (columns : ℕ) (label word : List ℕ) (more : List (List ℕ)) → drop (2 * suc columns) (label ∷ word ∷ more) ≡ drop (2 * columns) more
 drop_more columns label word more = let two : 2 * suc columns ≡ suc (suc (2 * columns)) = omega arith in ap (λ k. drop k (label ∷ word ∷ more)) two
 
-pub columns_told : (grammar : Grammar) (boot behind : ℕ) (columns : List Column) (words : List (List ℕ)) → columns_fit grammar boot behind columns words ≡ true → (numbers : List ℕ) × IsRead grammar boot behind columns words numbers
-columns_told grammar boot behind [] words e = ([], record { fit = tt; ranged = refl; words_are = refl })
-columns_told grammar boot behind (KeyColumn ∷ columns) [] e = absurd (true≢false (sym e))
-columns_told grammar boot behind (KeyColumn ∷ columns) (label ∷ []) e = absurd (true≢false (sym e))
-columns_told grammar boot behind (KeyColumn ∷ columns) (label ∷ word ∷ more) e =
-    let first = key_told_in (bytes_eq label (codes "key")) word (left_true (key_fits (if bytes_eq label (codes "key") then Some word else None)) _ e) in
-    let others : (numbers : List ℕ) × IsRead grammar boot behind columns more numbers = columns_told grammar boot behind columns more (right_true (key_fits (if bytes_eq label (codes "key") then Some word else None)) _ e) in
+pub columns_reported : (grammar : Grammar) (boot behind : ℕ) (columns : List Column) (words : List (List ℕ)) → columns_fit grammar boot behind columns words ≡ true → (numbers : List ℕ) × IsRead grammar boot behind columns words numbers
+columns_reported grammar boot behind [] words e = ([], record { fit = tt; ranged = refl; words_are = refl })
+columns_reported grammar boot behind (KeyColumn ∷ columns) [] e = absurd (true≢false (sym e))
+columns_reported grammar boot behind (KeyColumn ∷ columns) (label ∷ []) e = absurd (true≢false (sym e))
+columns_reported grammar boot behind (KeyColumn ∷ columns) (label ∷ word ∷ more) e =
+    let first = key_reported_in (bytes_eq label (codes "key")) word (left_true (key_fits (if bytes_eq label (codes "key") then Some word else None)) _ e) in
+    let others : (numbers : List ℕ) × IsRead grammar boot behind columns more numbers = columns_reported grammar boot behind columns more (right_true (key_fits (if bytes_eq label (codes "key") then Some word else None)) _ e) in
     let key : Key = first.1.0 in
     let ip : key.ip < 2 ^ 32 = first.1.1.0 in
     let port : key.port < 2 ^ 16 = first.1.1.1 in (
@@ -98,12 +98,12 @@ columns_told grammar boot behind (KeyColumn ∷ columns) (label ∷ word ∷ mor
             (others.1.words_are ∙ ap (λ t. column_words columns others.0 ++ t) (sym (drop_more (length columns) label word more))));
       },
     )
-columns_told grammar boot behind (NumberColumn name field ∷ columns) [] e = absurd (true≢false (sym e))
-columns_told grammar boot behind (NumberColumn name field ∷ columns) (label ∷ []) e = absurd (true≢false (sym e))
-columns_told grammar boot behind (NumberColumn name field ∷ columns) (label ∷ word ∷ more) e =
-    let first = number_told_in grammar boot behind field (bytes_eq label name) word (left_true (number_fits grammar boot behind field (if bytes_eq label name then Some word else None)) _ e) in
+columns_reported grammar boot behind (NumberColumn name field ∷ columns) [] e = absurd (true≢false (sym e))
+columns_reported grammar boot behind (NumberColumn name field ∷ columns) (label ∷ []) e = absurd (true≢false (sym e))
+columns_reported grammar boot behind (NumberColumn name field ∷ columns) (label ∷ word ∷ more) e =
+    let first = number_reported_in grammar boot behind field (bytes_eq label name) word (left_true (number_fits grammar boot behind field (if bytes_eq label name then Some word else None)) _ e) in
     let others : (numbers : List ℕ) × IsRead grammar boot behind columns more numbers =
-    columns_told grammar boot behind columns more (right_true (number_fits grammar boot behind field (if bytes_eq label name then Some word else None)) _ e) in (
+    columns_reported grammar boot behind columns more (right_true (number_fits grammar boot behind field (if bytes_eq label name then Some word else None)) _ e) in (
       first.1.0 ∷ others.0,
       record {
         fit = (first.1.1, others.1.fit);

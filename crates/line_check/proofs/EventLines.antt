@@ -28,8 +28,8 @@ use Rattle.line_check.specs.Words.{number_word, is_numbered, ends_with_feed}
 use Rattle.line_check.specs.EventWords.{event_of_words, if_true, event_in_words, event_in_text}
 use Rattle.line_check.proofs.Spelled.{same_bytes, bytes_same}
 use Rattle.report_laws.proofs.Fronts.{cut_last}
-use Rattle.line_check.proofs.LineWords.{joined_cut, line_joined, feed_shown, feed_told, numbered_told, numbered_shown}
-use Rattle.line_check.proofs.EventWords.{event_told, event_shown}
+use Rattle.line_check.proofs.LineWords.{joined_cut, line_joined, feed_shown, feed_reported, numbered_reported, numbered_shown}
+use Rattle.line_check.proofs.EventWords.{event_reported, event_shown}
 use Rattle.line_check.proofs.EventRanges.{askable_of, fits_of}
 
 tested : (b : Bool) (o : Option Event) (e : Event) → if_true b o ≡ Some e → (b ≡ true) × (o ≡ Some e)
@@ -41,16 +41,16 @@ passed true o e t h = h
 passed false o e t h = absurd (true≢false (sym t))
 
 -- the words of the line of event n
-words_told : (n : ℕ) (words : List (List ℕ)) (e : Event) → event_in_words n words ≡ Some e → (words ≡ codes "event" ∷ decimal n ∷ event_words e) × IsAskable e
+words_reported : (n : ℕ) (words : List (List ℕ)) (e : Event) → event_in_words n words ≡ Some e → (words ≡ codes "event" ∷ decimal n ∷ event_words e) × IsAskable e
 unfolding event_in_words
-words_told n [] e h = none_is_not h
-words_told n (a ∷ []) e h = none_is_not h
-words_told n (a ∷ b ∷ words) e h =
+words_reported n [] e h = none_is_not h
+words_reported n (a ∷ []) e h = none_is_not h
+words_reported n (a ∷ b ∷ words) e h =
     let t = tested (bytes_eq a (codes "event") && is_numbered n (number_word (2 ^ 32 - 1) b)) (event_of_words words) e h in
     let first : a ≡ codes "event" = same_bytes a (codes "event") (left_true (bytes_eq a (codes "event")) _ t.0) in
-    let second : b ≡ decimal n = numbered_told n b (right_true (bytes_eq a (codes "event")) _ t.0) in
-    let told : (words ≡ event_words e) × IsAskable e = event_told words e t.1 in
-    (ap₂ (λ x y. x ∷ y) first (ap₂ (λ x y. x ∷ y) second told.0), told.1)
+    let second : b ≡ decimal n = numbered_reported n b (right_true (bytes_eq a (codes "event")) _ t.0) in
+    let reported : (words ≡ event_words e) × IsAskable e = event_reported words e t.1 in
+    (ap₂ (λ x y. x ∷ y) first (ap₂ (λ x y. x ∷ y) second reported.0), reported.1)
 
 words_shown : (n : ℕ) (e : Event) → n ≤ 2 ^ 32 - 1 → IsAskable e → event_in_words n (codes "event" ∷ decimal n ∷ event_words e) ≡ Some e
 unfolding event_in_words
@@ -62,14 +62,14 @@ line_is : (n : ℕ) (e : Event) → event_line n e ≡ join_with_byte 32 (codes 
 unfolding event_line
 line_is n e = line_joined (codes "event") (decimal n) (event_words e)
 
-pub line_told : (n : ℕ) (text : List ℕ) (e : Event) → event_in_text n text ≡ Some e → (text ≡ event_line n e) × IsAskable e
+pub line_reported : (n : ℕ) (text : List ℕ) (e : Event) → event_in_text n text ≡ Some e → (text ≡ event_line n e) × IsAskable e
 unfolding event_in_text
-line_told n text e h =
+line_reported n text e h =
     let front : List ℕ = take (length text - 1) text in
     let t = tested (ends_with_feed text) (event_in_words n (slice_split (is 32) front)) e h in
-    let told = words_told n (slice_split (is 32) front) e t.1 in
-    let joined : front ≡ join_with_byte 32 (codes "event" ∷ decimal n ∷ event_words e) = sym (join_with_byte-slice_split 32 front) ∙ ap (join_with_byte 32) told.0 in
-    (feed_told text t.0 ∙ (ap (λ t. t ++ 10 ∷ []) joined ∙ sym (line_is n e)), told.1)
+    let reported = words_reported n (slice_split (is 32) front) e t.1 in
+    let joined : front ≡ join_with_byte 32 (codes "event" ∷ decimal n ∷ event_words e) = sym (join_with_byte-slice_split 32 front) ∙ ap (join_with_byte 32) reported.0 in
+    (feed_reported text t.0 ∙ (ap (λ t. t ++ 10 ∷ []) joined ∙ sym (line_is n e)), reported.1)
 
 pub line_shown : (n : ℕ) (e : Event) → n ≤ 2 ^ 32 - 1 → IsAskable e → event_in_text n (event_line n e) ≡ Some e
 unfolding event_in_text
@@ -118,9 +118,9 @@ size_with_event schedule n e text same =
     omega (arith, whole, number, more)
 
 -- the line of an event that a schedule can ask for, where the schedule's text stays within its limit
-pub event_line_told : (schedule : Schedule) (n : ℕ) (e : Event) (text : List ℕ) → event_in_text n text ≡ Some e → FitsLimit (with_line (Begun schedule) (says.Event e)) → IsEventLine schedule n e text
-event_line_told schedule n e text h short =
-    let t : (text ≡ event_line n e) × IsAskable e = line_told n text e h in
+pub event_line_reported : (schedule : Schedule) (n : ℕ) (e : Event) (text : List ℕ) → event_in_text n text ≡ Some e → FitsLimit (with_line (Begun schedule) (says.Event e)) → IsEventLine schedule n e text
+event_line_reported schedule n e text h short =
+    let t : (text ≡ event_line n e) × IsAskable e = line_reported n text e h in
     let asked : List ℕ = asked_line e ++ 10 ∷ [] in
     record {
       asked = asked;
@@ -144,7 +144,7 @@ no_event_line schedule n text few none event l = none_is_not (none ∙ event_lin
 size_is : (schedule : Schedule) (n size more : ℕ) (e : Event) (text : List ℕ) → Some e ≡ event_in_text n text → more ≡ size + length text - (7 + length (decimal n)) → length (schedule_bytes (Begun schedule)) ≡ size
     → length (schedule_bytes (with_line (Begun schedule) (says.Event e))) ≡ more
 size_is schedule n size more e text read is begins =
-    let t : (text ≡ event_line n e) × IsAskable e = line_told n text e (sym read) in
+    let t : (text ≡ event_line n e) × IsAskable e = line_reported n text e (sym read) in
     let whole = size_with_event schedule n e text t.0 in
     omega (arith, whole, is, begins)
 
@@ -153,7 +153,7 @@ pub event_line_given : (schedule : Schedule) (n size more : ℕ) (e : Event) (te
 event_line_given schedule n size more e text read is few begins =
     let whole = size_is schedule n size more e text read is begins in
     let short : FitsLimit (with_line (Begun schedule) (says.Event e)) = omega (arith, whole, few) in
-    (event_line_told schedule n e text (sym read) short, whole)
+    (event_line_reported schedule n e text (sym read) short, whole)
 
 pub event_line_too_long : (schedule : Schedule) (n size more : ℕ) (e : Event) (text : List ℕ) → n < 2 ^ 32 → Some e ≡ event_in_text n text → more ≡ size + length text - (7 + length (decimal n)) → 8388609 < more
     → length (schedule_bytes (Begun schedule)) ≡ size → (event : Event) → IsEventLine schedule n event text → ⊥

@@ -13,18 +13,18 @@ use Rattle.ft_model.specs.declared.line.Verb.TheVariants as verbs
 use Rattle.schedule_text.specs.EventLines.{IsAskable}
 use Rattle.line_check.specs.Words.{number_word}
 use Rattle.line_check.specs.EventWords.{from_least, ranged, one_of, two_of, three_of, with_two, with_three, client_in, long_in, window_in, packet_in, boot_in, bare, boot_words, deliver_words, flip_words, window_words, send_words, client_words, stop_words, verb_name, all_verbs, verb_among, verb_named, event_for, event_of_words}
-use Rattle.line_check.proofs.Spelled.{value_or, same_bytes, number_told, number_shown}
+use Rattle.line_check.proofs.Spelled.{value_or, same_bytes, number_reported, number_shown}
 
 -- numbers in a range
-ranged_told : (least most n : ℕ) (word : List ℕ) → ranged least most word ≡ Some n → (least ≤ n) × (n ≤ most) × (word ≡ decimal n)
+ranged_reported : (least most n : ℕ) (word : List ℕ) → ranged least most word ≡ Some n → (least ≤ n) × (n ≤ most) × (word ≡ decimal n)
 unfolding ranged
-ranged_told least most n word e = by_number (number_word most word) refl e
+ranged_reported least most n word e = by_number (number_word most word) refl e
   where
     by_number : (o : Option ℕ) → number_word most word ≡ o → from_least least o ≡ Some n → (least ≤ n) × (n ≤ most) × (word ≡ decimal n)
     by_number None f g = none_is_not g
     by_number (Some m) f g =
         let c : (nat_le least m ≡ true) × (m ≡ n) = chosen_is (nat_le least m) m n g in
-        let t : (m ≤ most) × (word ≡ decimal m) = number_told most m word f in
+        let t : (m ≤ most) × (word ≡ decimal m) = number_reported most m word f in
         let same : m ≡ n = c.1 in
         let low : least ≤ m = leb-true least m c.0 in
         (omega (arith, same, low), omega (arith, same, t.0), t.1 ∙ ap decimal same)
@@ -35,56 +35,56 @@ ranged_shown least most n low high fits =
     ap (from_least least) (number_shown most n high fits) ∙ ap (λ b. if b then Some n else None) (le-leb least n low)
 
 -- values of numbers
-one_told : {A : Type 0} (o : Option ℕ) (make : ℕ → A) (y : A) → option_map make o ≡ Some y → (a : ℕ) × (o ≡ Some a) × (make a ≡ y)
-one_told None make y e = none_is_not e
-one_told (Some a) make y e = (a, refl, ap (value_or y) e)
+one_reported : {A : Type 0} (o : Option ℕ) (make : ℕ → A) (y : A) → option_map make o ≡ Some y → (a : ℕ) × (o ≡ Some a) × (make a ≡ y)
+one_reported None make y e = none_is_not e
+one_reported (Some a) make y e = (a, refl, ap (value_or y) e)
 
-two_told : {A : Type 0} (o p : Option ℕ) (make : ℕ → ℕ → A) (y : A) → with_two make o p ≡ Some y → (a : ℕ) × (b : ℕ) × (o ≡ Some a) × (p ≡ Some b) × (make a b ≡ y)
-two_told None p make y e = none_is_not e
-two_told (Some a) None make y e = none_is_not e
-two_told (Some a) (Some b) make y e = (a, b, refl, refl, ap (value_or y) e)
+two_reported : {A : Type 0} (o p : Option ℕ) (make : ℕ → ℕ → A) (y : A) → with_two make o p ≡ Some y → (a : ℕ) × (b : ℕ) × (o ≡ Some a) × (p ≡ Some b) × (make a b ≡ y)
+two_reported None p make y e = none_is_not e
+two_reported (Some a) None make y e = none_is_not e
+two_reported (Some a) (Some b) make y e = (a, b, refl, refl, ap (value_or y) e)
 
-three_told : {A : Type 0} (o p q : Option ℕ) (make : ℕ → ℕ → ℕ → A) (y : A) → with_three make o p q ≡ Some y
+three_reported : {A : Type 0} (o p q : Option ℕ) (make : ℕ → ℕ → ℕ → A) (y : A) → with_three make o p q ≡ Some y
     → (a : ℕ) × (b : ℕ) × (c : ℕ) × (o ≡ Some a) × (p ≡ Some b) × (q ≡ Some c) × (make a b c ≡ y)
-three_told None p q make y e = none_is_not e
-three_told (Some a) None q make y e = none_is_not e
-three_told (Some a) (Some b) None make y e = none_is_not e
-three_told (Some a) (Some b) (Some c) make y e = (a, b, c, refl, refl, refl, ap (value_or y) e)
+three_reported None p q make y e = none_is_not e
+three_reported (Some a) None q make y e = none_is_not e
+three_reported (Some a) (Some b) None make y e = none_is_not e
+three_reported (Some a) (Some b) (Some c) make y e = (a, b, c, refl, refl, refl, ap (value_or y) e)
 
 -- the words of an event that a schedule can ask for
 abbrev IsWordsOf : List (List ℕ) → Event → Type 0
 IsWordsOf words e = (words ≡ event_words e) × IsAskable e
 
-boot_told : (words : List (List ℕ)) (e : Event) → boot_words (two_of words) ≡ Some e → IsWordsOf (codes "boot" ∷ words) e
-boot_told [] e h = none_is_not h
-boot_told (a ∷ []) e h = none_is_not h
-boot_told (a ∷ b ∷ c ∷ more) e h = none_is_not h
-boot_told (a ∷ b ∷ []) e h =
-    let t = two_told (boot_in a) (long_in b) Boot e h in
-    let p = ranged_told 1 (2 ^ 64 - 1) t.0 a t.2 in
-    let q = ranged_told 0 (2 ^ 32 - 1) t.1 b t.3 in
+boot_reported : (words : List (List ℕ)) (e : Event) → boot_words (two_of words) ≡ Some e → IsWordsOf (codes "boot" ∷ words) e
+boot_reported [] e h = none_is_not h
+boot_reported (a ∷ []) e h = none_is_not h
+boot_reported (a ∷ b ∷ c ∷ more) e h = none_is_not h
+boot_reported (a ∷ b ∷ []) e h =
+    let t = two_reported (boot_in a) (long_in b) Boot e h in
+    let p = ranged_reported 1 (2 ^ 64 - 1) t.0 a t.2 in
+    let q = ranged_reported 0 (2 ^ 32 - 1) t.1 b t.3 in
     subst (IsWordsOf (codes "boot" ∷ a ∷ b ∷ [])) t.4 (ap₂ (λ x y. codes "boot" ∷ x ∷ y ∷ []) p.2 q.2, (p.0, omega (arith, p.1), omega (arith, q.1)))
 
-bare_told : (own : Event) (words : List (List ℕ)) (e : Event) → bare own words ≡ Some e → (words ≡ []) × (own ≡ e)
-bare_told own [] e h = (refl, ap (value_or e) h)
-bare_told own (a ∷ more) e h = none_is_not h
+bare_reported : (own : Event) (words : List (List ℕ)) (e : Event) → bare own words ≡ Some e → (words ≡ []) × (own ≡ e)
+bare_reported own [] e h = (refl, ap (value_or e) h)
+bare_reported own (a ∷ more) e h = none_is_not h
 
-deliver_told : (words : List (List ℕ)) (e : Event) → deliver_words (one_of words) ≡ Some e → IsWordsOf (codes "deliver" ∷ words) e
-deliver_told [] e h = none_is_not h
-deliver_told (a ∷ b ∷ more) e h = none_is_not h
-deliver_told (a ∷ []) e h =
-    let t = one_told (packet_in a) Deliver e h in
-    let p = ranged_told 1 (2 ^ 32 - 1) t.0 a t.1 in
+deliver_reported : (words : List (List ℕ)) (e : Event) → deliver_words (one_of words) ≡ Some e → IsWordsOf (codes "deliver" ∷ words) e
+deliver_reported [] e h = none_is_not h
+deliver_reported (a ∷ b ∷ more) e h = none_is_not h
+deliver_reported (a ∷ []) e h =
+    let t = one_reported (packet_in a) Deliver e h in
+    let p = ranged_reported 1 (2 ^ 32 - 1) t.0 a t.1 in
     subst (IsWordsOf (codes "deliver" ∷ a ∷ [])) t.2 (ap (λ x. codes "deliver" ∷ x ∷ []) p.2, (p.0, omega (arith, p.1)))
 
-flip_told : (words : List (List ℕ)) (e : Event) → flip_words (two_of words) ≡ Some e → IsWordsOf (codes "flip" ∷ words) e
-flip_told [] e h = none_is_not h
-flip_told (a ∷ []) e h = none_is_not h
-flip_told (a ∷ b ∷ c ∷ more) e h = none_is_not h
-flip_told (a ∷ b ∷ []) e h =
-    let t = two_told (packet_in a) (long_in b) Flip e h in
-    let p = ranged_told 1 (2 ^ 32 - 1) t.0 a t.2 in
-    let q = ranged_told 0 (2 ^ 32 - 1) t.1 b t.3 in
+flip_reported : (words : List (List ℕ)) (e : Event) → flip_words (two_of words) ≡ Some e → IsWordsOf (codes "flip" ∷ words) e
+flip_reported [] e h = none_is_not h
+flip_reported (a ∷ []) e h = none_is_not h
+flip_reported (a ∷ b ∷ c ∷ more) e h = none_is_not h
+flip_reported (a ∷ b ∷ []) e h =
+    let t = two_reported (packet_in a) (long_in b) Flip e h in
+    let p = ranged_reported 1 (2 ^ 32 - 1) t.0 a t.2 in
+    let q = ranged_reported 0 (2 ^ 32 - 1) t.1 b t.3 in
     subst (IsWordsOf (codes "flip" ∷ a ∷ b ∷ [])) t.4 (ap₂ (λ x y. codes "flip" ∷ x ∷ y ∷ []) p.2 q.2, ((p.0, omega (arith, p.1)), omega (arith, q.1)))
 
 -- a client and a window
@@ -102,9 +102,9 @@ windowed make [] e h = none_is_not h
 windowed make (a ∷ []) e h = none_is_not h
 windowed make (a ∷ b ∷ c ∷ more) e h = none_is_not h
 windowed make (a ∷ b ∷ []) e h =
-    let t = two_told (client_in a) (window_in b) make e h in
-    let p = ranged_told 1 16 t.0 a t.2 in
-    let q = ranged_told 0 65535 t.1 b t.3 in
+    let t = two_reported (client_in a) (window_in b) make e h in
+    let p = ranged_reported 1 16 t.0 a t.2 in
+    let q = ranged_reported 0 65535 t.1 b t.3 in
     record {
       client = t.0;
       window = t.1;
@@ -115,16 +115,16 @@ windowed make (a ∷ b ∷ []) e h =
       event_is = t.4;
     }
 
-send_told : (words : List (List ℕ)) (e : Event) → send_words (three_of words) ≡ Some e → IsWordsOf (codes "send" ∷ words) e
-send_told [] e h = none_is_not h
-send_told (a ∷ []) e h = none_is_not h
-send_told (a ∷ b ∷ []) e h = none_is_not h
-send_told (a ∷ b ∷ c ∷ d ∷ more) e h = none_is_not h
-send_told (a ∷ b ∷ c ∷ []) e h =
-    let t = three_told (client_in a) (long_in b) (long_in c) Send e h in
-    let p = ranged_told 1 16 t.0 a t.3 in
-    let q = ranged_told 0 (2 ^ 32 - 1) t.1 b t.4 in
-    let r = ranged_told 0 (2 ^ 32 - 1) t.2 c t.5 in
+send_reported : (words : List (List ℕ)) (e : Event) → send_words (three_of words) ≡ Some e → IsWordsOf (codes "send" ∷ words) e
+send_reported [] e h = none_is_not h
+send_reported (a ∷ []) e h = none_is_not h
+send_reported (a ∷ b ∷ []) e h = none_is_not h
+send_reported (a ∷ b ∷ c ∷ d ∷ more) e h = none_is_not h
+send_reported (a ∷ b ∷ c ∷ []) e h =
+    let t = three_reported (client_in a) (long_in b) (long_in c) Send e h in
+    let p = ranged_reported 1 16 t.0 a t.3 in
+    let q = ranged_reported 0 (2 ^ 32 - 1) t.1 b t.4 in
+    let r = ranged_reported 0 (2 ^ 32 - 1) t.2 c t.5 in
     subst (IsWordsOf (codes "send" ∷ a ∷ b ∷ c ∷ [])) t.6
     (ap₂ (λ x more. codes "send" ∷ x ∷ more) p.2 (ap₂ (λ x y. x ∷ y ∷ []) q.2 r.2), ((p.0, p.1), omega (arith, q.1), omega (arith, r.1)))
 
@@ -134,16 +134,16 @@ alone : (make : ℕ → Event) (words : List (List ℕ)) (e : Event) → client_
 alone make [] e h = none_is_not h
 alone make (a ∷ b ∷ more) e h = none_is_not h
 alone make (a ∷ []) e h =
-    let t = one_told (client_in a) make e h in
-    let p = ranged_told 1 16 t.0 a t.1 in
+    let t = one_reported (client_in a) make e h in
+    let p = ranged_reported 1 16 t.0 a t.1 in
     (t.0, p.0, p.1, ap (λ x. x ∷ []) p.2, t.2)
 
-stop_told : (words : List (List ℕ)) (e : Event) → stop_words (one_of words) ≡ Some e → IsWordsOf (codes "stop" ∷ words) e
-stop_told [] e h = none_is_not h
-stop_told (a ∷ b ∷ more) e h = none_is_not h
-stop_told (a ∷ []) e h =
-    let t = one_told (ranged 1 2 a) Stop e h in
-    let p = ranged_told 1 2 t.0 a t.1 in
+stop_reported : (words : List (List ℕ)) (e : Event) → stop_words (one_of words) ≡ Some e → IsWordsOf (codes "stop" ∷ words) e
+stop_reported [] e h = none_is_not h
+stop_reported (a ∷ b ∷ more) e h = none_is_not h
+stop_reported (a ∷ []) e h =
+    let t = one_reported (ranged 1 2 a) Stop e h in
+    let p = ranged_reported 1 2 t.0 a t.1 in
     subst (IsWordsOf (codes "stop" ∷ a ∷ [])) t.2 (ap (λ x. codes "stop" ∷ x ∷ []) p.2, (p.0, p.1))
 
 -- verbs
@@ -165,9 +165,9 @@ verb_shown verbs.Ack = refl
 verb_shown verbs.Reset = refl
 verb_shown verbs.Stop = refl
 
-verb_told : (word : List ℕ) (v : Verb) → verb_named word ≡ Some v → word ≡ verb_name v
+verb_reported : (word : List ℕ) (v : Verb) → verb_named word ≡ Some v → word ≡ verb_name v
 unfolding verb_named
-verb_told word v e = among all_verbs e
+verb_reported word v e = among all_verbs e
   where
     by_test : (first : Verb) (more : List Verb) (b : Bool) → bytes_eq word (verb_name first) ≡ b → (if b then Some first else verb_among more word) ≡ Some v
         → (verb_among more word ≡ Some v → word ≡ verb_name v) → word ≡ verb_name v
@@ -178,32 +178,32 @@ verb_told word v e = among all_verbs e
     among [] e = none_is_not e
     among (first ∷ more) e = by_test first more (bytes_eq word (verb_name first)) refl e (among more)
 
-event_for_told : (v : Verb) (words : List (List ℕ)) (e : Event) → event_for (Some v) words ≡ Some e → IsWordsOf (verb_name v ∷ words) e
-event_for_told verbs.Boot words e h = boot_told words e h
-event_for_told verbs.Crash words e h = let t = bare_told Crash words e h in subst (IsWordsOf (codes "crash" ∷ words)) t.1 (ap (λ x. codes "crash" ∷ x) t.0, tt)
-event_for_told verbs.Tick words e h = let t = bare_told Tick words e h in subst (IsWordsOf (codes "tick" ∷ words)) t.1 (ap (λ x. codes "tick" ∷ x) t.0, tt)
-event_for_told verbs.Deliver words e h = deliver_told words e h
-event_for_told verbs.Flip words e h = flip_told words e h
-event_for_told verbs.Open words e h =
+event_for_reported : (v : Verb) (words : List (List ℕ)) (e : Event) → event_for (Some v) words ≡ Some e → IsWordsOf (verb_name v ∷ words) e
+event_for_reported verbs.Boot words e h = boot_reported words e h
+event_for_reported verbs.Crash words e h = let t = bare_reported Crash words e h in subst (IsWordsOf (codes "crash" ∷ words)) t.1 (ap (λ x. codes "crash" ∷ x) t.0, tt)
+event_for_reported verbs.Tick words e h = let t = bare_reported Tick words e h in subst (IsWordsOf (codes "tick" ∷ words)) t.1 (ap (λ x. codes "tick" ∷ x) t.0, tt)
+event_for_reported verbs.Deliver words e h = deliver_reported words e h
+event_for_reported verbs.Flip words e h = flip_reported words e h
+event_for_reported verbs.Open words e h =
     let t = windowed Begin words e h in subst (IsWordsOf (codes "open" ∷ words)) t.event_is (ap (λ x. codes "open" ∷ x) t.words_are, ((t.least, t.most), t.fits))
-event_for_told verbs.Send words e h = send_told words e h
-event_for_told verbs.Fin words e h =
+event_for_reported verbs.Send words e h = send_reported words e h
+event_for_reported verbs.Fin words e h =
     let t = alone Fin words e h in subst (IsWordsOf (codes "fin" ∷ words)) t.4 (ap (λ x. codes "fin" ∷ x) t.3, (t.1, t.2))
-event_for_told verbs.Ack words e h =
+event_for_reported verbs.Ack words e h =
     let t = windowed Ack words e h in subst (IsWordsOf (codes "ack" ∷ words)) t.event_is (ap (λ x. codes "ack" ∷ x) t.words_are, ((t.least, t.most), t.fits))
-event_for_told verbs.Reset words e h =
+event_for_reported verbs.Reset words e h =
     let t = alone Reset words e h in subst (IsWordsOf (codes "reset" ∷ words)) t.4 (ap (λ x. codes "reset" ∷ x) t.3, (t.1, t.2))
-event_for_told verbs.Stop words e h = stop_told words e h
+event_for_reported verbs.Stop words e h = stop_reported words e h
 
-pub event_told : (words : List (List ℕ)) (e : Event) → event_of_words words ≡ Some e → (words ≡ event_words e) × IsAskable e
-event_told [] e h = none_is_not h
-event_told (word ∷ words) e h = by_verb (verb_named word) refl h
+pub event_reported : (words : List (List ℕ)) (e : Event) → event_of_words words ≡ Some e → (words ≡ event_words e) × IsAskable e
+event_reported [] e h = none_is_not h
+event_reported (word ∷ words) e h = by_verb (verb_named word) refl h
   where
     by_verb : (o : Option Verb) → verb_named word ≡ o → event_for o words ≡ Some e → (word ∷ words ≡ event_words e) × IsAskable e
     by_verb None f g = none_is_not g
     by_verb (Some v) f g =
-        let t : (verb_name v ∷ words ≡ event_words e) × IsAskable e = event_for_told v words e g in
-        (ap (λ x. x ∷ words) (verb_told word v f) ∙ t.0, t.1)
+        let t : (verb_name v ∷ words ≡ event_words e) × IsAskable e = event_for_reported v words e g in
+        (ap (λ x. x ∷ words) (verb_reported word v f) ∙ t.0, t.1)
 
 client_shown : (n : ℕ) → 1 ≤ n → n ≤ 16 → client_in (decimal n) ≡ Some n
 client_shown n low high = ranged_shown 1 16 n low high (omega (arith, high))

@@ -43,9 +43,9 @@ no_length : (word : List ℕ) → (length word == 0) ≡ true → word ≡ []
 no_length [] e = refl
 no_length (c ∷ word) e = let none : length (c ∷ word) ≡ 0 = equal_of_test (length (c ∷ word)) 0 e in absurd (omega (arith, none))
 
-pub letters_told : (word : List ℕ) → are_letters word ≡ true → (flags : ℕ) × (flags < 256) × (word ≡ flag_letters flags)
+pub letters_reported : (word : List ℕ) → are_letters word ≡ true → (flags : ℕ) × (flags < 256) × (word ≡ flag_letters flags)
 unfolding are_letters
-letters_told word e =
+letters_reported word e =
     let w1 : List ℕ = without 67 word in
     let w2 : List ℕ = without 69 w1 in
     let w3 : List ℕ = without 85 w2 in
@@ -145,13 +145,13 @@ letters_shown flags =
     ap (λ w. length (without_all (codes "CEUAPRSF") w) == 0) same
     ∙ ap (λ w. length w == 0) (all_stripped bits (codes "CEUAPRSF") (refl, (refl, (refl, (refl, (refl, (refl, (refl, (refl, tt)))))))))
 
-pub flags_told : (word : List ℕ) → are_flags word ≡ true → (flags : ℕ) × (flags < 256) × (word ≡ flags_text flags)
+pub flags_reported : (word : List ℕ) → are_flags word ≡ true → (flags : ℕ) × (flags < 256) × (word ≡ flags_text flags)
 unfolding are_flags flags_text
-flags_told word e = by_cases (bytes_eq word (codes "-"))
+flags_reported word e = by_cases (bytes_eq word (codes "-"))
     (λ d. (0, omega arith, same_bytes word (codes "-") d))
     (λ d. let f : nat_lt 0 (length word) && are_letters word ≡ true = ap (λ b. b || (nat_lt 0 (length word) && are_letters word)) (sym d) ∙ e in
-    let told : (flags : ℕ) × (flags < 256) × (word ≡ flag_letters flags) = letters_told word (right_true (nat_lt 0 (length word)) (are_letters word) f) in
-    (told.0, told.1, not_dash word (left_true (nat_lt 0 (length word)) (are_letters word) f) ∙ ap or_dash told.2))
+    let reported : (flags : ℕ) × (flags < 256) × (word ≡ flag_letters flags) = letters_reported word (right_true (nat_lt 0 (length word)) (are_letters word) f) in
+    (reported.0, reported.1, not_dash word (left_true (nat_lt 0 (length word)) (are_letters word) f) ∙ ap or_dash reported.2))
   where
     not_dash : (w : List ℕ) → nat_lt 0 (length w) ≡ true → w ≡ or_dash w
     not_dash [] h = absurd (true≢false (sym h))

@@ -94,10 +94,10 @@ front_is bytes line some =
     ap (λ k. take k (bytes ++ line)) size ∙ take-append-add bytes line (length line - 1)
 
 -- what one line more does, by the grammar
-after_told : (n : ℕ) (draft later : Draft) (front : List ℕ) → after_line no_objection n draft front ≡ Ok later
+after_reported : (n : ℕ) (draft later : Draft) (front : List ℕ) → after_line no_objection n draft front ≡ Ok later
     → (later ≡ draft) ⊎ ((l : Line) × (line_of draft front ≡ Ok l) × (later ≡ with_line draft l))
 unfolding after_line
-after_told n draft later front e = by_tests (is_passed_over front) (is_too_much draft front) (line_of draft front) refl e
+after_reported n draft later front e = by_tests (is_passed_over front) (is_too_much draft front) (line_of draft front) refl e
   where
     by_tests : (a b : Bool) (r : Result Line LineWhy) → line_of draft front ≡ r
         → (if a then Ok draft else (if b then Err (TooLong limit.Events) else at_line n (r >>= λ l. unless_objected (no_objection draft l) (with_line draft l)))) ≡ Ok later
@@ -107,10 +107,10 @@ after_told n draft later front e = by_tests (is_passed_over front) (is_too_much 
     by_tests false false (Ok l) f g = let same : with_line draft l ≡ later = cc in inr (l, f, sym same)
     by_tests false false (Err why) f g = absurd (cc)
 
-last_told : (n : ℕ) (draft : Draft) (front : List ℕ) (schedule : Schedule) → read_lines no_objection n draft (front ∷ []) ≡ Ok schedule
+last_reported : (n : ℕ) (draft : Draft) (front : List ℕ) (schedule : Schedule) → read_lines no_objection n draft (front ∷ []) ≡ Ok schedule
     → after_line no_objection n draft front ≡ Ok (Begun schedule)
 unfolding read_lines
-last_told n draft front schedule e = by_after (after_line no_objection n draft front) refl e
+last_reported n draft front schedule e = by_after (after_line no_objection n draft front) refl e
   where
     by_after : (r : Result Draft Refusal) → after_line no_objection n draft front ≡ r → (r >>= λ later. read_lines no_objection (n + 1) later []) ≡ Ok schedule
         → after_line no_objection n draft front ≡ Ok (Begun schedule)
@@ -144,7 +144,7 @@ text_read bytes front draft r schedule clean e = by_size (nat_le (length (bytes 
         → (length (bytes ++ front) ≤ 8388608) × (after_line no_objection r.number draft front ≡ Ok (Begun schedule))
     by_size true f g = (
       leb-true (length (bytes ++ front)) 8388608 f,
-      last_told r.number draft front schedule (sym (r.reads (front ∷ [])) ∙ (ap (read_lines no_objection 1 Empty) (sym (lines_are bytes front draft r clean)) ∙ g)),
+      last_reported r.number draft front schedule (sym (r.reads (front ∷ [])) ∙ (ap (read_lines no_objection 1 Empty) (sym (lines_are bytes front draft r clean)) ∙ g)),
     )
     by_size false f g = absurd (cc)
 
@@ -189,9 +189,9 @@ fits bytes line all some same short =
     omega (arith, front, a, b, some, same, short)
 
 -- the server's line
-named_told : (kind : ServiceKind) (line : List ℕ) (schedule : Schedule) → 0 < length line → IsRead (Named kind) line schedule
+named_reported : (kind : ServiceKind) (line : List ℕ) (schedule : Schedule) → 0 < length line → IsRead (Named kind) line schedule
     → HeaderLine (Named kind) line (Continues (InHeader (Begun schedule)))
-named_told kind line schedule some r = by_line (after_told r.number (Named kind) (Begun schedule) (take (length line - 1) line) r.after)
+named_reported kind line schedule some r = by_line (after_reported r.number (Named kind) (Begun schedule) (take (length line - 1) line) r.after)
   where
     by_line : (Begun schedule ≡ Named kind) ⊎ ((l : Line) × (line_of (Named kind) (take (length line - 1) line) ≡ Ok l) × (Begun schedule ≡ with_line (Named kind) l))
         → HeaderLine (Named kind) line (Continues (InHeader (Begun schedule)))
@@ -221,9 +221,9 @@ unfolding header
 no_events before x = refl
 
 -- the line of a profile or of a client
-begun_told : (before : Schedule) (line : List ℕ) (schedule : Schedule) → HeaderAccepted before → before.events ≡ [] → 0 < length line → IsRead (Begun before) line schedule
+begun_reported : (before : Schedule) (line : List ℕ) (schedule : Schedule) → HeaderAccepted before → before.events ≡ [] → 0 < length line → IsRead (Begun before) line schedule
     → HeaderLine (Begun before) line (Continues (InHeader (Begun schedule)))
-begun_told before line schedule h none some r = by_line (after_told r.number (Begun before) (Begun schedule) (take (length line - 1) line) r.after)
+begun_reported before line schedule h none some r = by_line (after_reported r.number (Begun before) (Begun schedule) (take (length line - 1) line) r.after)
   where
     bytes : List ℕ
     bytes = schedule_bytes (Begun before)
@@ -280,11 +280,11 @@ begun_told before line schedule h none some r = by_line (after_told r.number (Be
         let canonical : IsCanonical (Begun before) (says.Profile Wan) line = record { spelled = spelled; accepted = accepted; short = fits bytes line (schedule_bytes (Begun later)) some size r.short } in
         inl (says.Profile Wan, (tt, canonical), ap (λ s. Continues (InHeader (Begun s))) same)
 
-line_told : (draft : Draft) (line : List ℕ) (schedule : Schedule) → IsHeaderSoFar draft → 0 < length line → IsRead draft line schedule
+line_reported : (draft : Draft) (line : List ℕ) (schedule : Schedule) → IsHeaderSoFar draft → 0 < length line → IsRead draft line schedule
     → HeaderLine draft line (Continues (InHeader (Begun schedule)))
-line_told Empty line schedule h some r = absurd h
-line_told (Named kind) line schedule h some r = named_told kind line schedule some r
-line_told (Begun before) line schedule h some r = begun_told before line schedule h.0 h.1 some r
+line_reported Empty line schedule h some r = absurd h
+line_reported (Named kind) line schedule h some r = named_reported kind line schedule some r
+line_reported (Begun before) line schedule h some r = begun_reported before line schedule h.0 h.1 some r
 
 -- the lines that may follow
 abbrev IsNext : Draft → Line → Type 0
@@ -396,7 +396,7 @@ header_given text start draft (Some schedule) long plain e h front =
     let taken : length (take (length line - 1) line) ≡ length line - 1 = omega (arith, e_taken) in
     let some : 0 < length line = omega (arith, len, long) in
     let clean : IsClean (take (length line - 1) line) = front_clean (take (length line - 1) line) (omega (arith, taken, len, long)) printable in
-    line_told draft line schedule h some (is_read draft line schedule h clean some (ap header_in (sym (text_is text start draft front)) ∙ sym e))
+    line_reported draft line schedule h some (is_read draft line schedule h clean some (ap header_in (sym (text_is text start draft front)) ∙ sym e))
 
 -- the service's line
 service_is : (kind : ServiceKind) → service_text_line kind ≡ canonical_line Empty (says.Service kind)
@@ -406,8 +406,8 @@ service_is services.Line = refl
 service_is services.Transfer = refl
 service_is services.Meter = refl
 
-service_told : (line : List ℕ) (kind : ServiceKind) → service_in line ≡ Some kind → line ≡ service_text_line kind
-service_told line kind e = among all_services e
+service_reported : (line : List ℕ) (kind : ServiceKind) → service_in line ≡ Some kind → line ≡ service_text_line kind
+service_reported line kind e = among all_services e
   where
     by_test : (first : ServiceKind) (more : List ServiceKind) (b : Bool) → bytes_eq line (service_text_line first) ≡ b → (if b then Some first else service_among more line) ≡ Some kind
         → (service_among more line ≡ Some kind → line ≡ service_text_line kind) → line ≡ service_text_line kind
@@ -427,7 +427,7 @@ service_shown services.Meter = refl
 pub service_given : (line : List ℕ) (result : Option ServiceKind) → result ≡ service_in line
     → MatchOption result (HeaderLine Empty line (Rejects law.Text)) (λ kind. HeaderLine Empty line (Continues (InHeader (Named kind))))
 service_given line (Some kind) e =
-    let is : line ≡ canonical_line Empty (says.Service kind) = service_told line kind (sym e) ∙ service_is kind in
+    let is : line ≡ canonical_line Empty (says.Service kind) = service_reported line kind (sym e) ∙ service_is kind in
     inl (kind, subst (IsCanonical Empty (says.Service kind)) (sym is) (service_follows kind), refl)
 service_given line None e =
     inr ((λ kind c. true≢false (ap is_some (sym (service_shown kind) ∙ ap service_in (service_is kind ∙ sym c.spelled)) ∙ ap is_some (sym e))), refl)

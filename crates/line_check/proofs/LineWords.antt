@@ -15,7 +15,7 @@ use Rattle.ft_model.specs.Texts.{line}
 use Rattle.ft_model.specs.Words.{is}
 use Rattle.schedule_text.proofs.RoundTrip.{spaced_joined}
 use Rattle.line_check.specs.Words.{number_word, is_numbered, ends_with_feed}
-use Rattle.line_check.proofs.Spelled.{same_bytes, number_told, number_shown}
+use Rattle.line_check.proofs.Spelled.{same_bytes, number_reported, number_shown}
 
 -- joined words are cut apart again
 no_space : (word : List ℕ) → IsWord word → All (λ c. is 32 c ≡ false) word
@@ -38,17 +38,17 @@ feed_shown front =
     let some : nat_lt 0 (length (front ++ 10 ∷ [])) ≡ true = grind (arith, more) in
     both_true some (ap (λ w. bytes_eq w (10 ∷ [])) (ap (λ k. drop k (front ++ 10 ∷ [])) len ∙ drop-append_seam front (10 ∷ [])))
 
-pub feed_told : (text : List ℕ) → ends_with_feed text ≡ true → text ≡ take (length text - 1) text ++ 10 ∷ []
-feed_told text e =
+pub feed_reported : (text : List ℕ) → ends_with_feed text ≡ true → text ≡ take (length text - 1) text ++ 10 ∷ []
+feed_reported text e =
     sym (take-append-drop (length text - 1) text) ∙ ap (λ t. take (length text - 1) text ++ t) (same_bytes (drop (length text - 1) text) (10 ∷ []) (right_true (nat_lt 0 (length text)) _ e))
 
 -- a line's number
-pub numbered_told : (n : ℕ) (word : List ℕ) → is_numbered n (number_word (2 ^ 32 - 1) word) ≡ true → word ≡ decimal n
-numbered_told n word e = by_number (number_word (2 ^ 32 - 1) word) refl e
+pub numbered_reported : (n : ℕ) (word : List ℕ) → is_numbered n (number_word (2 ^ 32 - 1) word) ≡ true → word ≡ decimal n
+numbered_reported n word e = by_number (number_word (2 ^ 32 - 1) word) refl e
   where
     by_number : (o : Option ℕ) → number_word (2 ^ 32 - 1) word ≡ o → is_numbered n o ≡ true → word ≡ decimal n
     by_number None f g = absurd (true≢false (sym g))
-    by_number (Some m) f g = let same : m ≡ n = grind (arith, g) in (number_told (2 ^ 32 - 1) m word f).1 ∙ ap decimal same
+    by_number (Some m) f g = let same : m ≡ n = grind (arith, g) in (number_reported (2 ^ 32 - 1) m word f).1 ∙ ap decimal same
 
 pub numbered_shown : (n : ℕ) → n ≤ 2 ^ 32 - 1 → is_numbered n (number_word (2 ^ 32 - 1) (decimal n)) ≡ true
 numbered_shown n below =

@@ -20,11 +20,11 @@ use Rattle.seq_arith.specs.declared.kinds.Kind.TheVariants as kinds
 use Rattle.seq_arith.proofs.MessageSpelling.{lens_back}
 use Rattle.ft_model.specs.Report.{name_of, field_words, message_words}
 use Rattle.ft_model.specs.Texts.{hex_text, list_text, bit_text, ending_text}
-use Rattle.ft_model.specs.Wire.{CanBeToldBy}
+use Rattle.ft_model.specs.Wire.{CanBeWrittenBy}
 use Rattle.ft_model.proofs.Wires.{bytes_of_lens, length_of_lens, lengths_low}
 use Rattle.line_check.specs.Words.{number_word, byte_count, lens_count, kind_name, kind_among, kind_named, columns_of, last_named, counted, nothing_more, behind_in, columns_fit, rest_fits, body_fits, is_message}
-use Rattle.line_check.proofs.Spelled.{same_bytes, bytes_same, number_told, number_shown, byte_count_told, byte_count_shown, lens_told, lens_shown, AreLengths}
-use Rattle.line_check.proofs.ColumnWords.{IsRead, column_fields, column_words, columns_told, columns_shown, behind_columns}
+use Rattle.line_check.proofs.Spelled.{same_bytes, bytes_same, number_reported, number_shown, byte_count_reported, byte_count_shown, lens_reported, lens_shown, AreLengths}
+use Rattle.line_check.proofs.ColumnWords.{IsRead, column_fields, column_words, columns_reported, columns_shown, behind_columns}
 
 fields_are : (kind : Kind) → column_fields (columns_of kind) ≡ fields_of kind
 fields_are kinds.Hello = refl
@@ -111,9 +111,9 @@ abbrev kind_or : Kind → Option Kind → Kind
 kind_or other (Some k) = k
 kind_or other None = other
 
-kind_told : (word : List ℕ) (kind : Kind) → kind_named word ≡ Some kind → word ≡ kind_name kind
+kind_reported : (word : List ℕ) (kind : Kind) → kind_named word ≡ Some kind → word ≡ kind_name kind
 unfolding kind_named
-kind_told word kind e = among all_kinds e
+kind_reported word kind e = among all_kinds e
   where
     by_test : (first : Kind) (more : List Kind) (b : Bool) → bytes_eq word (kind_name first) ≡ b → (if b then Some first else kind_among more word) ≡ Some kind
         → (kind_among more word ≡ Some kind → word ≡ kind_name kind) → word ≡ kind_name kind
@@ -136,12 +136,12 @@ flag_is (suc zero) h = refl
 flag_is (suc (suc n)) h = absurd (omega (arith, h))
 
 -- how a Data ends, as a number
-ending_told : (fin more : Bool) → ending_text fin more ≡ decimal (flag fin + (if more then 2 else 0))
+ending_reported : (fin more : Bool) → ending_text fin more ≡ decimal (flag fin + (if more then 2 else 0))
 unfolding ending_text bit_text
-ending_told true true = sym (decimal_digit 3 (omega arith))
-ending_told true false = sym (decimal_digit 1 (omega arith))
-ending_told false true = sym (decimal_digit 2 (omega arith))
-ending_told false false = sym (decimal_digit 0 (omega arith))
+ending_reported true true = sym (decimal_digit 3 (omega arith))
+ending_reported true false = sym (decimal_digit 1 (omega arith))
+ending_reported false true = sym (decimal_digit 2 (omega arith))
+ending_reported false false = sym (decimal_digit 0 (omega arith))
 
 ending_is : (n : ℕ) → n ≤ 2 → flag (nat_eq n 1) + (if nat_eq n 2 then 2 else 0) ≡ n
 ending_is zero h = refl
@@ -181,7 +181,7 @@ words_are (bodies.CutsMsg key first) = refl
 words_are (bodies.LensMsg key first lens) = refl
 words_are (bodies.OpenMsg numbers) = refl
 words_are (bodies.OpenedMsg numbers) = refl
-words_are (bodies.DataMsg part) = rw (ending_told part.fin part.more) refl
+words_are (bodies.DataMsg part) = rw (ending_reported part.fin part.more) refl
 words_are (bodies.StableMsg kept) = rw (flag_text kept.fin) refl
 words_are (bodies.ReadMsg key index len) = refl
 words_are (bodies.ReadsMsg kept) = rw (flag_text kept.fin) refl
@@ -355,11 +355,11 @@ lens_ranged kinds.Stale numbers bytes h = refl
 lens_ranged kinds.Full numbers bytes h = refl
 
 -- two words, by the name of the first
-last_told : (name : List ℕ) (count : List ℕ → Option ℕ) (n : ℕ) (words : List (List ℕ)) → counted count (last_named name words) ≡ Some n → (word : List ℕ) × (words ≡ name ∷ word ∷ []) × (count word ≡ Some n)
-last_told name count n [] e = absurd (true≢false (sym (ap is_some e)))
-last_told name count n (label ∷ []) e = absurd (true≢false (sym (ap is_some e)))
-last_told name count n (label ∷ word ∷ x ∷ more) e = absurd (true≢false (sym (ap is_some e)))
-last_told name count n (label ∷ word ∷ []) e = by_test (bytes_eq label name) refl e
+last_reported : (name : List ℕ) (count : List ℕ → Option ℕ) (n : ℕ) (words : List (List ℕ)) → counted count (last_named name words) ≡ Some n → (word : List ℕ) × (words ≡ name ∷ word ∷ []) × (count word ≡ Some n)
+last_reported name count n [] e = absurd (true≢false (sym (ap is_some e)))
+last_reported name count n (label ∷ []) e = absurd (true≢false (sym (ap is_some e)))
+last_reported name count n (label ∷ word ∷ x ∷ more) e = absurd (true≢false (sym (ap is_some e)))
+last_reported name count n (label ∷ word ∷ []) e = by_test (bytes_eq label name) refl e
   where
     by_test : (b : Bool) → bytes_eq label name ≡ b → counted count (if b then Some word else None) ≡ Some n → (w : List ℕ) × (label ∷ word ∷ [] ≡ name ∷ w ∷ []) × (count w ≡ Some n)
     by_test true same e = (word, ap (λ l. l ∷ word ∷ []) (same_bytes label name same), e)
@@ -372,66 +372,66 @@ abbrev number_or : Option ℕ → ℕ
 number_or (Some m) = m
 number_or None = 0
 
-none_told : (n : ℕ) (words : List (List ℕ)) → nothing_more words ≡ Some n → (words ≡ []) × (0 ≡ n)
-none_told n [] e = (refl, ap number_or e)
-none_told n (word ∷ more) e = absurd (true≢false (sym (ap is_some e)))
+none_reported : (n : ℕ) (words : List (List ℕ)) → nothing_more words ≡ Some n → (words ≡ []) × (0 ≡ n)
+none_reported n [] e = (refl, ap number_or e)
+none_reported n (word ∷ more) e = absurd (true≢false (sym (ap is_some e)))
 
-doubled_told : (o : Option ℕ) (n : ℕ) → option_map (λ k. 2 * k) o ≡ Some n → (k : ℕ) × (o ≡ Some k) × (2 * k ≡ n)
-doubled_told None n e = absurd (true≢false (sym (ap is_some e)))
-doubled_told (Some k) n e = (k, refl, ap number_or e)
+doubled_reported : (o : Option ℕ) (n : ℕ) → option_map (λ k. 2 * k) o ≡ Some n → (k : ℕ) × (o ≡ Some k) × (2 * k ≡ n)
+doubled_reported None n e = absurd (true≢false (sym (ap is_some e)))
+doubled_reported (Some k) n e = (k, refl, ap number_or e)
 
 -- what follows the fields, and the words that tell it
 pub record Behind (kind : Kind) (words : List (List ℕ)) (n : ℕ) : Type 0 where
   pub bytes : List ℕ
   pub follows : Follows kind bytes
   pub count : length bytes ≡ n
-  pub told : (numbers : List ℕ) → words ≡ tail_words (body_in kind numbers bytes)
+  pub reported : (numbers : List ℕ) → words ≡ tail_words (body_in kind numbers bytes)
 
 by_bytes : (n : ℕ) (words : List (List ℕ)) → counted byte_count (last_named (codes "bytes") words) ≡ Some n → (bytes : List ℕ) × AreBytes bytes × (length bytes ≡ n) × (words ≡ codes "bytes" ∷ hex_text bytes ∷ [])
 by_bytes n words e =
-    let last = last_told (codes "bytes") byte_count n words e in
-    let told = byte_count_told n last.0 last.2 in
-    (told.0, told.1, told.2, last.1 ∙ ap (λ w. codes "bytes" ∷ w ∷ []) told.3)
+    let last = last_reported (codes "bytes") byte_count n words e in
+    let reported = byte_count_reported n last.0 last.2 in
+    (reported.0, reported.1, reported.2, last.1 ∙ ap (λ w. codes "bytes" ∷ w ∷ []) reported.3)
 
 by_lens : (n : ℕ) (words : List (List ℕ)) → option_map (λ k. 2 * k) (counted lens_count (last_named (codes "lens") words)) ≡ Some n
     → (lens : List ℕ) × AreLengths lens × (length (lens_bytes lens) ≡ n) × (words ≡ codes "lens" ∷ list_text lens ∷ [])
 by_lens n words e =
-    let twice = doubled_told (counted lens_count (last_named (codes "lens") words)) n e in
-    let last = last_told (codes "lens") lens_count twice.0 words twice.1 in
-    let told = lens_told twice.0 last.0 last.2 in
-    let len : length (lens_bytes told.0) ≡ 2 * length told.0 = length_of_lens told.0 in
-    let count : length (lens_bytes told.0) ≡ n = len ∙ (ap (λ k. 2 * k) told.2 ∙ twice.2) in
-    (told.0, told.1, count, last.1 ∙ ap (λ w. codes "lens" ∷ w ∷ []) told.3)
+    let twice = doubled_reported (counted lens_count (last_named (codes "lens") words)) n e in
+    let last = last_reported (codes "lens") lens_count twice.0 words twice.1 in
+    let reported = lens_reported twice.0 last.0 last.2 in
+    let len : length (lens_bytes reported.0) ≡ 2 * length reported.0 = length_of_lens reported.0 in
+    let count : length (lens_bytes reported.0) ≡ n = len ∙ (ap (λ k. 2 * k) reported.2 ∙ twice.2) in
+    (reported.0, reported.1, count, last.1 ∙ ap (λ w. codes "lens" ∷ w ∷ []) reported.3)
 
-behind_told : (kind : Kind) (words : List (List ℕ)) (n : ℕ) → behind_in kind words ≡ Some n → Behind kind words n
-behind_told kinds.Hello words n e = let t = none_told n words e in record { bytes = []; follows = refl; count = t.1; told = λ numbers. t.0 }
-behind_told kinds.Summary words n e = let t = none_told n words e in record { bytes = []; follows = refl; count = t.1; told = λ numbers. t.0 }
-behind_told kinds.List words n e = let t = none_told n words e in record { bytes = []; follows = refl; count = t.1; told = λ numbers. t.0 }
-behind_told kinds.Entry words n e = let t = none_told n words e in record { bytes = []; follows = refl; count = t.1; told = λ numbers. t.0 }
-behind_told kinds.Bytes words n e = let t = none_told n words e in record { bytes = []; follows = refl; count = t.1; told = λ numbers. t.0 }
-behind_told kinds.Part words n e = let t = by_bytes n words e in record { bytes = t.0; follows = t.1; count = t.2; told = λ numbers. t.3 }
-behind_told kinds.Cuts words n e = let t = none_told n words e in record { bytes = []; follows = refl; count = t.1; told = λ numbers. t.0 }
-behind_told kinds.Lens words n e =
+behind_reported : (kind : Kind) (words : List (List ℕ)) (n : ℕ) → behind_in kind words ≡ Some n → Behind kind words n
+behind_reported kinds.Hello words n e = let t = none_reported n words e in record { bytes = []; follows = refl; count = t.1; reported = λ numbers. t.0 }
+behind_reported kinds.Summary words n e = let t = none_reported n words e in record { bytes = []; follows = refl; count = t.1; reported = λ numbers. t.0 }
+behind_reported kinds.List words n e = let t = none_reported n words e in record { bytes = []; follows = refl; count = t.1; reported = λ numbers. t.0 }
+behind_reported kinds.Entry words n e = let t = none_reported n words e in record { bytes = []; follows = refl; count = t.1; reported = λ numbers. t.0 }
+behind_reported kinds.Bytes words n e = let t = none_reported n words e in record { bytes = []; follows = refl; count = t.1; reported = λ numbers. t.0 }
+behind_reported kinds.Part words n e = let t = by_bytes n words e in record { bytes = t.0; follows = t.1; count = t.2; reported = λ numbers. t.3 }
+behind_reported kinds.Cuts words n e = let t = none_reported n words e in record { bytes = []; follows = refl; count = t.1; reported = λ numbers. t.0 }
+behind_reported kinds.Lens words n e =
     let t = by_lens n words e in
-    record { bytes = lens_bytes t.0; follows = (t.0, t.1, refl); count = t.2; told = λ numbers. t.3 ∙ ap (λ ls. codes "lens" ∷ list_text ls ∷ []) (sym (lens_again (lens_bytes t.0) t.0 t.1 refl)) }
-behind_told kinds.Open words n e = let t = none_told n words e in record { bytes = []; follows = refl; count = t.1; told = λ numbers. t.0 }
-behind_told kinds.Opened words n e = let t = none_told n words e in record { bytes = []; follows = refl; count = t.1; told = λ numbers. t.0 }
-behind_told kinds.Data words n e = let t = by_bytes n words e in record { bytes = t.0; follows = t.1; count = t.2; told = λ numbers. t.3 }
-behind_told kinds.Stable words n e = let t = none_told n words e in record { bytes = []; follows = refl; count = t.1; told = λ numbers. t.0 }
-behind_told kinds.Read words n e = let t = none_told n words e in record { bytes = []; follows = refl; count = t.1; told = λ numbers. t.0 }
-behind_told kinds.Reads words n e = let t = none_told n words e in record { bytes = []; follows = refl; count = t.1; told = λ numbers. t.0 }
-behind_told kinds.Done words n e = let t = none_told n words e in record { bytes = []; follows = refl; count = t.1; told = λ numbers. t.0 }
-behind_told kinds.Ended words n e = let t = none_told n words e in record { bytes = []; follows = refl; count = t.1; told = λ numbers. t.0 }
-behind_told kinds.Stale words n e = let t = none_told n words e in record { bytes = []; follows = refl; count = t.1; told = λ numbers. t.0 }
-behind_told kinds.Full words n e = let t = none_told n words e in record { bytes = []; follows = refl; count = t.1; told = λ numbers. t.0 }
+    record { bytes = lens_bytes t.0; follows = (t.0, t.1, refl); count = t.2; reported = λ numbers. t.3 ∙ ap (λ ls. codes "lens" ∷ list_text ls ∷ []) (sym (lens_again (lens_bytes t.0) t.0 t.1 refl)) }
+behind_reported kinds.Open words n e = let t = none_reported n words e in record { bytes = []; follows = refl; count = t.1; reported = λ numbers. t.0 }
+behind_reported kinds.Opened words n e = let t = none_reported n words e in record { bytes = []; follows = refl; count = t.1; reported = λ numbers. t.0 }
+behind_reported kinds.Data words n e = let t = by_bytes n words e in record { bytes = t.0; follows = t.1; count = t.2; reported = λ numbers. t.3 }
+behind_reported kinds.Stable words n e = let t = none_reported n words e in record { bytes = []; follows = refl; count = t.1; reported = λ numbers. t.0 }
+behind_reported kinds.Read words n e = let t = none_reported n words e in record { bytes = []; follows = refl; count = t.1; reported = λ numbers. t.0 }
+behind_reported kinds.Reads words n e = let t = none_reported n words e in record { bytes = []; follows = refl; count = t.1; reported = λ numbers. t.0 }
+behind_reported kinds.Done words n e = let t = none_reported n words e in record { bytes = []; follows = refl; count = t.1; reported = λ numbers. t.0 }
+behind_reported kinds.Ended words n e = let t = none_reported n words e in record { bytes = []; follows = refl; count = t.1; reported = λ numbers. t.0 }
+behind_reported kinds.Stale words n e = let t = none_reported n words e in record { bytes = []; follows = refl; count = t.1; reported = λ numbers. t.0 }
+behind_reported kinds.Full words n e = let t = none_reported n words e in record { bytes = []; follows = refl; count = t.1; reported = λ numbers. t.0 }
 
 -- a message by its kind, its boot and what follows
 sound_message : (grammar : Grammar) (kind : Kind) (boot : ℕ) (words : List (List ℕ)) (n : ℕ) → boot < 256 ^ 8 → nat_le 1 boot ≡ true → Behind kind (drop (2 * length (columns_of kind)) words) n
     → has_length kind (behind_at kind + n) ≡ true → columns_fit grammar boot n (columns_of kind) words ≡ true
-    → (m : Message) × CanBeToldBy grammar m × (kind_of m.body ≡ kind) × (m.boot ≡ boot) × (words ≡ field_words m.body)
+    → (m : Message) × CanBeWrittenBy grammar m × (kind_of m.body ≡ kind) × (m.boot ≡ boot) × (words ≡ field_words m.body)
 unfolding is_sound_by
 sound_message grammar kind boot words n small least b size fit =
-    let read : (numbers : List ℕ) × IsRead grammar boot n (columns_of kind) words numbers = columns_told grammar boot n (columns_of kind) words fit in
+    let read : (numbers : List ℕ) × IsRead grammar boot n (columns_of kind) words numbers = columns_reported grammar boot n (columns_of kind) words fit in
     let numbers : List ℕ = read.0 in
     let fits : AllFit (fields_of kind) numbers = subst (λ fs. AllFit fs numbers) (fields_are kind) read.1.fit in
     let ranged : all_in_range_by grammar boot n (fields_of kind) numbers ≡ true = ap (λ fs. all_in_range_by grammar boot n fs numbers) (sym (fields_are kind)) ∙ read.1.ranged in
@@ -440,9 +440,9 @@ sound_message grammar kind boot words n small least b size fit =
     let same_numbers : numbers_of body ≡ numbers = numbers_in_body grammar kind boot n numbers b.bytes fits ranged in
     let same_behind : behind_of body ≡ b.bytes = behind_again kind numbers b.bytes b.follows in
     let len : length (behind_of body) ≡ n = ap length same_behind ∙ b.count in
-    let told : field_words body ≡ column_words (columns_of kind) numbers ++ tail_words body =
+    let reported : field_words body ≡ column_words (columns_of kind) numbers ++ tail_words body =
     words_are body ∙ ap₂ (λ k ns. column_words (columns_of k) ns ++ tail_words body) same_kind same_numbers in
-    let words_told : words ≡ field_words body = read.1.words_are ∙ (ap (λ t. column_words (columns_of kind) numbers ++ t) (b.told numbers) ∙ sym told) in
+    let words_reported : words ≡ field_words body = read.1.words_are ∙ (ap (λ t. column_words (columns_of kind) numbers ++ t) (b.reported numbers) ∙ sym reported) in
     let fit_body : AllFit (fields_of (kind_of body)) (numbers_of body) =
     subst (λ k. AllFit (fields_of k) (numbers_of body)) (sym same_kind) (subst (λ ns. AllFit (fields_of kind) ns) (sym same_numbers) fits) in
     let range_body : all_in_range_by grammar boot (length (behind_of body)) (fields_of (kind_of body)) (numbers_of body) ≡ true =
@@ -456,33 +456,33 @@ sound_message grammar kind boot words n small least b size fit =
       ),
       same_kind,
       refl,
-      words_told,
+      words_reported,
     )
 
-pub message_told : (grammar : Grammar) (words : List (List ℕ)) → is_message grammar words ≡ true → (m : Message) × CanBeToldBy grammar m × (words ≡ message_words m)
+pub message_reported : (grammar : Grammar) (words : List (List ℕ)) → is_message grammar words ≡ true → (m : Message) × CanBeWrittenBy grammar m × (words ≡ message_words m)
 unfolding is_message message_words
-message_told grammar [] e = absurd (true≢false (sym e))
-message_told grammar (name ∷ []) e = absurd (true≢false (sym e))
-message_told grammar (name ∷ label ∷ []) e = absurd (true≢false (sym e))
-message_told grammar (name ∷ label ∷ number ∷ words) e =
+message_reported grammar [] e = absurd (true≢false (sym e))
+message_reported grammar (name ∷ []) e = absurd (true≢false (sym e))
+message_reported grammar (name ∷ label ∷ []) e = absurd (true≢false (sym e))
+message_reported grammar (name ∷ label ∷ number ∷ words) e =
     by_kind (kind_named name) (number_word (2 ^ 64 - 1) number) refl refl (right_true (bytes_eq label (codes "boot")) _ e)
   where
     by_count : (kind : Kind) (boot : ℕ) (o : Option ℕ) → kind_named name ≡ Some kind → number_word (2 ^ 64 - 1) number ≡ Some boot → nat_le 1 boot ≡ true
         → behind_in kind (drop (2 * length (columns_of kind)) words) ≡ o → rest_fits grammar kind boot o words ≡ true
-        → (m : Message) × CanBeToldBy grammar m × (name ∷ label ∷ number ∷ words ≡ name_of m.body ∷ codes "boot" ∷ decimal m.boot ∷ field_words m.body)
+        → (m : Message) × CanBeWrittenBy grammar m × (name ∷ label ∷ number ∷ words ≡ name_of m.body ∷ codes "boot" ∷ decimal m.boot ∷ field_words m.body)
     by_count kind boot None k b least h f = absurd (true≢false (sym f))
     by_count kind boot (Some n) k b least h f =
-        let t : (boot ≤ 2 ^ 64 - 1) × (number ≡ decimal boot) = number_told (2 ^ 64 - 1) boot number b in
+        let t : (boot ≤ 2 ^ 64 - 1) × (number ≡ decimal boot) = number_reported (2 ^ 64 - 1) boot number b in
         let small : boot < 256 ^ 8 = omega (arith, t.0) in
         let size : has_length kind (behind_at kind + n) ≡ true = left_true (has_length kind (behind_at kind + n)) _ f in
-        let m = sound_message grammar kind boot words n small least (behind_told kind (drop (2 * length (columns_of kind)) words) n h) size (right_true (has_length kind (behind_at kind + n)) _ f) in
-        let first : name ≡ name_of m.0.body = kind_told name kind k ∙ (ap kind_name (sym m.2) ∙ sym (name_is m.0.body)) in
+        let m = sound_message grammar kind boot words n small least (behind_reported kind (drop (2 * length (columns_of kind)) words) n h) size (right_true (has_length kind (behind_at kind + n)) _ f) in
+        let first : name ≡ name_of m.0.body = kind_reported name kind k ∙ (ap kind_name (sym m.2) ∙ sym (name_is m.0.body)) in
         let second : label ≡ codes "boot" = same_bytes label (codes "boot") (left_true (bytes_eq label (codes "boot")) _ e) in
         let third : number ≡ decimal m.0.boot = t.1 ∙ ap decimal (sym m.3) in
         (m.0, m.1, ap₂ (λ x y. x ∷ y) first (ap₂ (λ x y. x ∷ y) second (ap₂ (λ x y. x ∷ y) third m.4)))
 
     by_kind : (k : Option Kind) (b : Option ℕ) → kind_named name ≡ k → number_word (2 ^ 64 - 1) number ≡ b → body_fits grammar k b words ≡ true
-        → (m : Message) × CanBeToldBy grammar m × (name ∷ label ∷ number ∷ words ≡ name_of m.body ∷ codes "boot" ∷ decimal m.boot ∷ field_words m.body)
+        → (m : Message) × CanBeWrittenBy grammar m × (name ∷ label ∷ number ∷ words ≡ name_of m.body ∷ codes "boot" ∷ decimal m.boot ∷ field_words m.body)
     by_kind None b ek eb f = absurd (true≢false (sym f))
     by_kind (Some kind) None ek eb f = absurd (true≢false (sym f))
     by_kind (Some kind) (Some boot) ek eb f =
@@ -525,7 +525,7 @@ behind_shown (bodies.EndedMsg key) ls bs size = refl
 behind_shown (bodies.StaleMsg newer) ls bs size = refl
 behind_shown (bodies.FullMsg key) ls bs size = refl
 
-pub message_shown : (grammar : Grammar) (m : Message) → CanBeToldBy grammar m → is_message grammar (message_words m) ≡ true
+pub message_shown : (grammar : Grammar) (m : Message) → CanBeWrittenBy grammar m → is_message grammar (message_words m) ≡ true
 unfolding is_message message_words is_sound_by
 message_shown grammar m h =
     let kind : Kind = kind_of m.body in

@@ -31,7 +31,7 @@ use Rattle.ft_model.specs.Readable.{IsWord, FitsU64, FitsKey, FitsClient, FitsSc
 use Rattle.ft_model.specs.Report.{segment_words, timestamps_words, message_words, content_words, packet_line, number_of_client, way_of}
 use Rattle.ft_model.specs.Schedule.{clients_of}
 use Rattle.ft_model.specs.Texts.{way_text, flags_text, mss_text, hex_text}
-use Rattle.ft_model.specs.Wire.{CanBeSent, CanBeToldBy, HasWireBy}
+use Rattle.ft_model.specs.Wire.{CanBeSent, CanBeWrittenBy, HasWireBy}
 use Rattle.ft_model.specs.Words.{is}
 use Rattle.ft_model.specs.World.{is_apart, are_apart}
 use Rattle.ft_model.specs.declared.schedule.ClientLine.{ClientLine}
@@ -48,12 +48,12 @@ use Rattle.report_laws.specs.Transitions.{clients_in, grammar_in, IsPacketLine}
 use Rattle.line_check.specs.declared.direction.Direction.{Direction}
 use Rattle.line_check.specs.declared.direction.Direction.TheVariants.{FromClient, ToClient, WithLogger}
 use Rattle.line_check.specs.Words.{number_word, is_number, byte_count, option_size, timestamps_size, are_flags, columns_fit, segment_columns, sizes_fit, last_fits, text_fits, is_segment, ends_with, direction_of, is_client, content_fits, is_numbered, packet_words_fit, ends_with_feed, is_packet_text}
-use Rattle.line_check.proofs.Spelled.{decide, same_bytes, bytes_same, value_or, number_told, number_shown, is_number_told, is_number_shown, byte_count_told, byte_count_shown, size_of, option_told, option_shown}
-use Rattle.line_check.proofs.Flags.{flags_told, flags_shown}
+use Rattle.line_check.proofs.Spelled.{decide, same_bytes, bytes_same, value_or, number_reported, number_shown, is_number_reported, is_number_shown, byte_count_reported, byte_count_shown, size_of, option_reported, option_shown}
+use Rattle.line_check.proofs.Flags.{flags_reported, flags_shown}
 use Rattle.report_laws.proofs.Fronts.{cut_last}
-use Rattle.line_check.proofs.LineWords.{numbered_told, numbered_shown, joined_cut, line_joined, feed_shown, feed_told}
-use Rattle.line_check.proofs.ColumnWords.{IsRead, column_fields, column_words, columns_told, columns_shown}
-use Rattle.line_check.proofs.Messages.{message_told, message_shown}
+use Rattle.line_check.proofs.LineWords.{numbered_reported, numbered_shown, joined_cut, line_joined, feed_shown, feed_reported}
+use Rattle.line_check.proofs.ColumnWords.{IsRead, column_fields, column_words, columns_reported, columns_shown}
+use Rattle.line_check.proofs.Messages.{message_reported, message_shown}
 
 -- how many bytes timestamps take in the header
 abbrev pub bytes_of : Option Timestamps → ℕ
@@ -80,21 +80,21 @@ pub record Said (words : List (List ℕ)) : Type 0 where
   pub timestamps_fit : AreShort timestamps
   pub bytes : AreBytes payload
   pub size : 40 + size_of mss + bytes_of timestamps + length payload ≤ 1500
-  pub told : words ≡ flags_text flags ∷ codes "seq" ∷ decimal seq ∷ codes "ack" ∷ decimal ack ∷ codes "window" ∷ decimal window ∷ codes "mss" ∷ mss_text mss ∷ codes "data" ∷ hex_text payload ∷ timestamps_words timestamps
+  pub reported : words ≡ flags_text flags ∷ codes "seq" ∷ decimal seq ∷ codes "ack" ∷ decimal ack ∷ codes "window" ∷ decimal window ∷ codes "mss" ∷ mss_text mss ∷ codes "data" ∷ hex_text payload ∷ timestamps_words timestamps
 
 -- the timestamps that a segment's last words say
 record Stamps (words : List (List ℕ)) (size : ℕ) : Type 0 where
   timestamps : Option Timestamps
   fit : AreShort timestamps
   takes : size ≡ bytes_of timestamps
-  told : words ≡ timestamps_words timestamps
+  reported : words ≡ timestamps_words timestamps
 
-stamps_told : (words : List (List ℕ)) (size : ℕ) → timestamps_size words ≡ Some size → Stamps words size
-stamps_told [] size e = record { timestamps = None; fit = tt; takes = sym (ap (value_or 0) e); told = refl }
-stamps_told (name ∷ []) size e = absurd (true≢false (sym (ap is_some e)))
-stamps_told (name ∷ value ∷ []) size e = absurd (true≢false (sym (ap is_some e)))
-stamps_told (name ∷ value ∷ echo ∷ x ∷ more) size e = absurd (true≢false (sym (ap is_some e)))
-stamps_told (name ∷ value ∷ echo ∷ []) size e =
+stamps_reported : (words : List (List ℕ)) (size : ℕ) → timestamps_size words ≡ Some size → Stamps words size
+stamps_reported [] size e = record { timestamps = None; fit = tt; takes = sym (ap (value_or 0) e); reported = refl }
+stamps_reported (name ∷ []) size e = absurd (true≢false (sym (ap is_some e)))
+stamps_reported (name ∷ value ∷ []) size e = absurd (true≢false (sym (ap is_some e)))
+stamps_reported (name ∷ value ∷ echo ∷ x ∷ more) size e = absurd (true≢false (sym (ap is_some e)))
+stamps_reported (name ∷ value ∷ echo ∷ []) size e =
     by_test (bytes_eq name (codes "ts") && (is_number (2 ^ 32 - 1) value && is_number (2 ^ 32 - 1) echo)) refl e
   where
     by_test : (b : Bool) → bytes_eq name (codes "ts") && (is_number (2 ^ 32 - 1) value && is_number (2 ^ 32 - 1) echo) ≡ b
@@ -102,13 +102,13 @@ stamps_told (name ∷ value ∷ echo ∷ []) size e =
     by_test false passed f = absurd (true≢false (sym (ap is_some f)))
     by_test true passed f =
         let both : is_number (2 ^ 32 - 1) value && is_number (2 ^ 32 - 1) echo ≡ true = right_true (bytes_eq name (codes "ts")) _ passed in
-        let v : (n : ℕ) × (n ≤ 2 ^ 32 - 1) × (value ≡ decimal n) = is_number_told (2 ^ 32 - 1) value (left_true (is_number (2 ^ 32 - 1) value) _ both) in
-        let w : (n : ℕ) × (n ≤ 2 ^ 32 - 1) × (echo ≡ decimal n) = is_number_told (2 ^ 32 - 1) echo (right_true (is_number (2 ^ 32 - 1) value) _ both) in
+        let v : (n : ℕ) × (n ≤ 2 ^ 32 - 1) × (value ≡ decimal n) = is_number_reported (2 ^ 32 - 1) value (left_true (is_number (2 ^ 32 - 1) value) _ both) in
+        let w : (n : ℕ) × (n ≤ 2 ^ 32 - 1) × (echo ≡ decimal n) = is_number_reported (2 ^ 32 - 1) echo (right_true (is_number (2 ^ 32 - 1) value) _ both) in
         record {
           timestamps = Some (record { value = v.0; echo = w.0 });
           fit = (omega (arith, v.1), omega (arith, w.1));
           takes = sym (ap (value_or 0) f);
-          told = ap₂ (λ x y. x ∷ y) (same_bytes name (codes "ts") (left_true (bytes_eq name (codes "ts")) _ passed)) (ap₂ (λ x y. x ∷ y) v.2 (ap (λ x. x ∷ []) w.2));
+          reported = ap₂ (λ x y. x ∷ y) (same_bytes name (codes "ts") (left_true (bytes_eq name (codes "ts")) _ passed)) (ap₂ (λ x y. x ∷ y) v.2 (ap (λ x. x ∷ []) w.2));
         }
 
 stamps_shown : (timestamps : Option Timestamps) → AreShort timestamps → timestamps_size (timestamps_words timestamps) ≡ Some (bytes_of timestamps)
@@ -126,14 +126,14 @@ record Tail (words : List (List ℕ)) : Type 0 where
   timestamps_fit : AreShort timestamps
   bytes : AreBytes payload
   size : 40 + size_of mss + bytes_of timestamps + length payload ≤ 1500
-  told : words ≡ codes "mss" ∷ mss_text mss ∷ codes "data" ∷ hex_text payload ∷ timestamps_words timestamps
+  reported : words ≡ codes "mss" ∷ mss_text mss ∷ codes "data" ∷ hex_text payload ∷ timestamps_words timestamps
 
-tail_told : (words : List (List ℕ)) → text_fits words ≡ true → Tail words
-tail_told [] e = absurd (true≢false (sym e))
-tail_told (a ∷ []) e = absurd (true≢false (sym e))
-tail_told (a ∷ b ∷ []) e = absurd (true≢false (sym e))
-tail_told (a ∷ b ∷ c ∷ []) e = absurd (true≢false (sym e))
-tail_told (a ∷ b ∷ c ∷ d ∷ more) e = by_names (bytes_eq c (codes "data")) (bytes_eq a (codes "mss")) refl refl e
+tail_reported : (words : List (List ℕ)) → text_fits words ≡ true → Tail words
+tail_reported [] e = absurd (true≢false (sym e))
+tail_reported (a ∷ []) e = absurd (true≢false (sym e))
+tail_reported (a ∷ b ∷ []) e = absurd (true≢false (sym e))
+tail_reported (a ∷ b ∷ c ∷ []) e = absurd (true≢false (sym e))
+tail_reported (a ∷ b ∷ c ∷ d ∷ more) e = by_names (bytes_eq c (codes "data")) (bytes_eq a (codes "mss")) refl refl e
   where
     by_sizes : (o s p : Option ℕ) → option_size b ≡ o → timestamps_size more ≡ s → byte_count d ≡ p → a ≡ codes "mss" → c ≡ codes "data"
         → sizes_fit o s p ≡ true → Tail (a ∷ b ∷ c ∷ d ∷ more)
@@ -141,9 +141,9 @@ tail_told (a ∷ b ∷ c ∷ d ∷ more) e = by_names (bytes_eq c (codes "data")
     by_sizes (Some n) None p eo es ep ea ec f = absurd (true≢false (sym f))
     by_sizes (Some n) (Some t) None eo es ep ea ec f = absurd (true≢false (sym f))
     by_sizes (Some n) (Some t) (Some k) eo es ep ea ec f =
-        let m = option_told n b eo in
-        let stamps : Stamps more t = stamps_told more t es in
-        let p = byte_count_told k d ep in
+        let m = option_reported n b eo in
+        let stamps : Stamps more t = stamps_reported more t es in
+        let p = byte_count_reported k d ep in
         let within : 40 + n + t + k ≤ 1500 = leb-true (40 + n + t + k) 1500 f in
         let size : 40 + size_of m.0 + bytes_of stamps.timestamps + length p.0 ≤ 1500 = omega (arith, within, m.2, stamps.takes, p.2) in
         record {
@@ -154,7 +154,7 @@ tail_told (a ∷ b ∷ c ∷ d ∷ more) e = by_names (bytes_eq c (codes "data")
           timestamps_fit = stamps.fit;
           bytes = p.1;
           size = size;
-          told = ap₂ (λ x y. x ∷ y) ea (ap₂ (λ x y. x ∷ y) m.3 (ap₂ (λ x y. x ∷ y) ec (ap₂ (λ x y. x ∷ y) p.3 stamps.told)));
+          reported = ap₂ (λ x y. x ∷ y) ea (ap₂ (λ x y. x ∷ y) m.3 (ap₂ (λ x y. x ∷ y) ec (ap₂ (λ x y. x ∷ y) p.3 stamps.reported)));
         }
 
     by_names : (second first : Bool) → bytes_eq c (codes "data") ≡ second → bytes_eq a (codes "mss") ≡ first
@@ -164,13 +164,13 @@ tail_told (a ∷ b ∷ c ∷ d ∷ more) e = by_names (bytes_eq c (codes "data")
     by_names true true ec ea f =
         by_sizes (option_size b) (timestamps_size more) (byte_count d) refl refl refl (same_bytes a (codes "mss") ea) (same_bytes c (codes "data") ec) f
 
-segment_told : (words : List (List ℕ)) → is_segment words ≡ true → Said words
+segment_reported : (words : List (List ℕ)) → is_segment words ≡ true → Said words
 unfolding is_segment
-segment_told [] e = absurd (true≢false (sym e))
-segment_told (first ∷ words) e =
+segment_reported [] e = absurd (true≢false (sym e))
+segment_reported (first ∷ words) e =
     let rest : columns_fit Plain 0 0 segment_columns words && text_fits (drop 6 words) ≡ true = right_true (are_flags first) _ e in
-    by_numbers (flags_told first (left_true (are_flags first) _ e)) (columns_told Plain 0 0 segment_columns words (left_true (columns_fit Plain 0 0 segment_columns words) _ rest))
-    (tail_told (drop 6 words) (right_true (columns_fit Plain 0 0 segment_columns words) _ rest))
+    by_numbers (flags_reported first (left_true (are_flags first) _ e)) (columns_reported Plain 0 0 segment_columns words (left_true (columns_fit Plain 0 0 segment_columns words) _ rest))
+    (tail_reported (drop 6 words) (right_true (columns_fit Plain 0 0 segment_columns words) _ rest))
   where
     by_numbers : (flags : ℕ) × (flags < 256) × (first ≡ flags_text flags) → (numbers : List ℕ) × IsRead Plain 0 0 segment_columns words numbers → Tail (drop 6 words) → Said (first ∷ words)
     by_numbers f ([], read) t = absurd read.fit
@@ -193,7 +193,7 @@ segment_told (first ∷ words) e =
       timestamps_fit = t.timestamps_fit;
       bytes = t.bytes;
       size = t.size;
-      told = ap₂ (λ x y. x ∷ y) f.2 (read.words_are ∙ ap (λ ws. column_words segment_columns (seq ∷ ack ∷ window ∷ []) ++ ws) t.told);
+      reported = ap₂ (λ x y. x ∷ y) f.2 (read.words_are ∙ ap (λ ws. column_words segment_columns (seq ∷ ack ∷ window ∷ []) ++ ws) t.reported);
     }
 
 option_length : (mss : Option ℕ) → length (mss_option mss) ≡ size_of mss
@@ -301,8 +301,8 @@ record HasNumber (schedule : Schedule) (n : ℕ) : Type 0 where
   fits : FitsKey key
   number : number_of_client (clients_in schedule) key ≡ n
 
-client_told : (schedule : Schedule) (n : ℕ) → FitsSchedule schedule → are_apart schedule.server (clients_in schedule) ≡ true → is_client (length schedule.clients) n ≡ true → HasNumber schedule n
-client_told schedule n fits apart e =
+client_reported : (schedule : Schedule) (n : ℕ) → FitsSchedule schedule → are_apart schedule.server (clients_in schedule) ≡ true → is_client (length schedule.clients) n ≡ true → HasNumber schedule n
+client_reported schedule n fits apart e =
     let least : 1 ≤ n = leb-true 1 n (left_true (nat_le 1 n) _ e) in
     let most : n ≤ length schedule.clients = leb-true n (length schedule.clients) (right_true (nat_le 1 n) _ e) in
     let below : n - 1 < length schedule.clients = omega (arith, least, most) in
@@ -340,12 +340,12 @@ abbrev direction_or : Direction → Option Direction → Direction
 direction_or other (Some d) = d
 direction_or other None = other
 
-mapped_told : (make : ℕ → Direction) (most : ℕ) (word : List ℕ) (d : Direction) → most < 2 ^ 64 → option_map make (number_word most word) ≡ Some d → (n : ℕ) × (n < 2 ^ 64) × (make n ≡ d) × (word ≡ decimal n)
-mapped_told make most word d small e = by_number (number_word most word) refl e
+mapped_reported : (make : ℕ → Direction) (most : ℕ) (word : List ℕ) (d : Direction) → most < 2 ^ 64 → option_map make (number_word most word) ≡ Some d → (n : ℕ) × (n < 2 ^ 64) × (make n ≡ d) × (word ≡ decimal n)
+mapped_reported make most word d small e = by_number (number_word most word) refl e
   where
     by_number : (o : Option ℕ) → number_word most word ≡ o → option_map make o ≡ Some d → (n : ℕ) × (n < 2 ^ 64) × (make n ≡ d) × (word ≡ decimal n)
     by_number None f g = absurd (true≢false (sym (ap is_some g)))
-    by_number (Some n) f g = let t : (n ≤ most) × (word ≡ decimal n) = number_told most n word f in (n, omega (arith, small, t.0), ap (direction_or (make n)) g, t.1)
+    by_number (Some n) f g = let t : (n ≤ most) × (word ≡ decimal n) = number_reported most n word f in (n, omega (arith, small, t.0), ap (direction_or (make n)) g, t.1)
 
 abbrev from_end : Bool → List ℕ → Option Direction
 from_end b word = if b then option_map FromClient (number_word (2 ^ 64 - 1) (take (length word - 2) word)) else None
@@ -353,9 +353,9 @@ from_end b word = if b then option_map FromClient (number_word (2 ^ 64 - 1) (tak
 abbrev from_start : Bool → List ℕ → Option Direction
 from_start b word = if b then option_map ToClient (number_word (2 ^ 64 - 1) (drop 2 word)) else from_end (ends_with (codes ">S") word) word
 
-direction_told : (word : List ℕ) (d : Direction) → direction_of word ≡ Some d → IsDirected d word
+direction_reported : (word : List ℕ) (d : Direction) → direction_of word ≡ Some d → IsDirected d word
 unfolding direction_of
-direction_told word d e = by_cases (bytes_eq word (codes "S>L") || bytes_eq word (codes "L>S"))
+direction_reported word d e = by_cases (bytes_eq word (codes "S>L") || bytes_eq word (codes "L>S"))
     (λ t. let f : Some WithLogger ≡ Some d = sym (ap (λ b. if b then Some WithLogger else from_start (starts_with nat_eq word (codes "S>")) word) t) ∙ e in
     subst (λ x. IsDirected x word) (ap (direction_or WithLogger) f) (by_cases (bytes_eq word (codes "S>L")) (λ s. inl (same_bytes word (codes "S>L") s))
     (λ s. inr (same_bytes word (codes "L>S") (ap (λ b. b || bytes_eq word (codes "L>S")) (sym s) ∙ t)))))
@@ -363,13 +363,13 @@ direction_told word d e = by_cases (bytes_eq word (codes "S>L") || bytes_eq word
     sym (ap (λ b. if b then Some WithLogger else from_start (starts_with nat_eq word (codes "S>")) word) t) ∙ e in
     by_cases (starts_with nat_eq word (codes "S>"))
     (λ s. let g : option_map ToClient (number_word (2 ^ 64 - 1) (drop 2 word)) ≡ Some d = sym (ap (λ b. from_start b word) s) ∙ f in
-    let m = mapped_told ToClient (2 ^ 64 - 1) (drop 2 word) d (omega arith) g in
+    let m = mapped_reported ToClient (2 ^ 64 - 1) (drop 2 word) d (omega arith) g in
     let begins : word ≡ codes "S>" ++ drop 2 word = (starts_is Decides-eqb word (codes "S>") (starts_with nat_eq word (codes "S>")) refl).0 s in
     subst (λ x. IsDirected x word) m.2 (m.1, begins ∙ ap (λ t. codes "S>" ++ t) m.3))
     (λ s. let g : from_end (ends_with (codes ">S") word) word ≡ Some d = sym (ap (λ b. from_start b word) s) ∙ f in
     by_cases (ends_with (codes ">S") word)
     (λ r. let h : option_map FromClient (number_word (2 ^ 64 - 1) (take (length word - 2) word)) ≡ Some d = sym (ap (λ b. from_end b word) r) ∙ g in
-    let m = mapped_told FromClient (2 ^ 64 - 1) (take (length word - 2) word) d (omega arith) h in
+    let m = mapped_reported FromClient (2 ^ 64 - 1) (take (length word - 2) word) d (omega arith) h in
     let ends : drop (length word - 2) word ≡ codes ">S" = same_bytes (drop (length word - 2) word) (codes ">S") r in
     subst (λ x. IsDirected x word) m.2 (m.1, sym (take-append-drop (length word - 2) word) ∙ ap₂ ◌++◌ m.3 ends))
     (λ r. absurd (true≢false (ap is_some (sym g ∙ ap (λ b. from_end b word) r))))))
@@ -440,10 +440,10 @@ record Packeted (schedule : Schedule) (direction : List ℕ) (words : List (List
 server_key : Schedule → Key
 server_key schedule = record { ip = schedule.server.ip; port = schedule.server.port }
 
-content_told : (schedule : Schedule) (direction : List ℕ) (words : List (List ℕ)) → FitsSchedule schedule → are_apart schedule.server (clients_in schedule) ≡ true
+content_reported : (schedule : Schedule) (direction : List ℕ) (words : List (List ℕ)) → FitsSchedule schedule → are_apart schedule.server (clients_in schedule) ≡ true
     → content_fits (grammar_in schedule) (length schedule.clients) (direction_of direction) words ≡ true → Packeted schedule direction words
 unfolding content_words way_text server_key
-content_told schedule direction words fits apart e = by_direction (direction_of direction) refl e
+content_reported schedule direction words fits apart e = by_direction (direction_of direction) refl e
   where
     few : (n : ℕ) → is_client (length schedule.clients) n ≡ true → 0 < n
     few n c = let least : 1 ≤ n = leb-true 1 n (left_true (nat_le 1 n) _ c) in omega (arith, least)
@@ -453,16 +453,16 @@ content_told schedule direction words fits apart e = by_direction (direction_of 
 
     by_direction : (o : Option Direction) → direction_of direction ≡ o → content_fits (grammar_in schedule) (length schedule.clients) o words ≡ true → Packeted schedule direction words
     by_direction None f g = absurd (true≢false (sym g))
-    by_direction (Some WithLogger) f g = by_logger (direction_told direction WithLogger f) (message_told (grammar_in schedule) words g)
+    by_direction (Some WithLogger) f g = by_logger (direction_reported direction WithLogger f) (message_reported (grammar_in schedule) words g)
       where
-        by_logger : (direction ≡ codes "S>L") ⊎ (direction ≡ codes "L>S") → (m : Message) × CanBeToldBy (grammar_in schedule) m × (words ≡ message_words m) → Packeted schedule direction words
+        by_logger : (direction ≡ codes "S>L") ⊎ (direction ≡ codes "L>S") → (m : Message) × CanBeWrittenBy (grammar_in schedule) m × (words ≡ message_words m) → Packeted schedule direction words
         by_logger (inl s) m = record { packet = To_logger m.0; readable = (tt, grammar_in schedule, m.1); written = m.1; way = s; content = m.2 }
         by_logger (inr s) m = record { packet = From_logger m.0; readable = (tt, grammar_in schedule, m.1); written = m.1; way = s; content = m.2 }
     by_direction (Some (FromClient n)) f g =
-        let t : (n < 2 ^ 64) × (direction ≡ decimal n ++ codes ">S") = direction_told direction (FromClient n) f in
+        let t : (n < 2 ^ 64) × (direction ≡ decimal n ++ codes ">S") = direction_reported direction (FromClient n) f in
         let c : is_client (length schedule.clients) n ≡ true = left_true (is_client (length schedule.clients) n) _ g in
-        let k : HasNumber schedule n = client_told schedule n fits apart c in
-        let said : Said words = segment_told words (right_true (is_client (length schedule.clients) n) _ g) in
+        let k : HasNumber schedule n = client_reported schedule n fits apart c in
+        let said : Said words = segment_reported words (right_true (is_client (length schedule.clients) n) _ g) in
         let known : 0 < number_of_client (clients_in schedule) k.key = subst (λ m. 0 < m) (sym k.number) (few n c) in
         let small : FitsU64 (number_of_client (clients_in schedule) k.key) = subst FitsU64 (sym k.number) t.0 in
         record {
@@ -470,13 +470,13 @@ content_told schedule direction words fits apart e = by_direction (direction_of 
           readable = (((known, small), (refl, refl)), Plain, sendable said k.key (server_key schedule) k.fits server_fits);
           written = sendable said k.key (server_key schedule) k.fits server_fits;
           way = t.1 ∙ ap (λ m. decimal m ++ codes ">S") (sym k.number);
-          content = said.told;
+          content = said.reported;
         }
     by_direction (Some (ToClient n)) f g =
-        let t : (n < 2 ^ 64) × (direction ≡ codes "S>" ++ decimal n) = direction_told direction (ToClient n) f in
+        let t : (n < 2 ^ 64) × (direction ≡ codes "S>" ++ decimal n) = direction_reported direction (ToClient n) f in
         let c : is_client (length schedule.clients) n ≡ true = left_true (is_client (length schedule.clients) n) _ g in
-        let k : HasNumber schedule n = client_told schedule n fits apart c in
-        let said : Said words = segment_told words (right_true (is_client (length schedule.clients) n) _ g) in
+        let k : HasNumber schedule n = client_reported schedule n fits apart c in
+        let said : Said words = segment_reported words (right_true (is_client (length schedule.clients) n) _ g) in
         let known : 0 < number_of_client (clients_in schedule) k.key = subst (λ m. 0 < m) (sym k.number) (few n c) in
         let small : FitsU64 (number_of_client (clients_in schedule) k.key) = subst FitsU64 (sym k.number) t.0 in
         record {
@@ -484,31 +484,31 @@ content_told schedule direction words fits apart e = by_direction (direction_of 
           readable = (((known, small), (refl, refl)), Plain, sendable said (server_key schedule) k.key server_fits k.fits);
           written = sendable said (server_key schedule) k.key server_fits k.fits;
           way = t.1 ∙ ap (λ m. codes "S>" ++ decimal m) (sym k.number);
-          content = said.told;
+          content = said.reported;
         }
 
-words_told : (schedule : Schedule) (n : ℕ) (words : List (List ℕ)) → FitsSchedule schedule → are_apart schedule.server (clients_in schedule) ≡ true
+words_reported : (schedule : Schedule) (n : ℕ) (words : List (List ℕ)) → FitsSchedule schedule → are_apart schedule.server (clients_in schedule) ≡ true
     → packet_words_fit (grammar_in schedule) (length schedule.clients) n words ≡ true
     → (packet : Packet) × IsReadable schedule.server (clients_in schedule) packet × HasWireBy (grammar_in schedule) packet
     × (words ≡ codes "packet" ∷ decimal n ∷ way_text (way_of (clients_in schedule) packet) ∷ content_words packet)
 unfolding packet_words_fit
-words_told schedule n [] fits apart e = absurd (true≢false (sym e))
-words_told schedule n (a ∷ []) fits apart e = absurd (true≢false (sym e))
-words_told schedule n (a ∷ b ∷ []) fits apart e = absurd (true≢false (sym e))
-words_told schedule n (a ∷ b ∷ c ∷ words) fits apart e =
+words_reported schedule n [] fits apart e = absurd (true≢false (sym e))
+words_reported schedule n (a ∷ []) fits apart e = absurd (true≢false (sym e))
+words_reported schedule n (a ∷ b ∷ []) fits apart e = absurd (true≢false (sym e))
+words_reported schedule n (a ∷ b ∷ c ∷ words) fits apart e =
     let rest : is_numbered n (number_word (2 ^ 32 - 1) b) && content_fits (grammar_in schedule) (length schedule.clients) (direction_of c) words ≡ true = right_true (bytes_eq a (codes "packet")) _ e in
-    let p : Packeted schedule c words = content_told schedule c words fits apart (right_true (is_numbered n (number_word (2 ^ 32 - 1) b)) _ rest) in
+    let p : Packeted schedule c words = content_reported schedule c words fits apart (right_true (is_numbered n (number_word (2 ^ 32 - 1) b)) _ rest) in
     let first : a ≡ codes "packet" = same_bytes a (codes "packet") (left_true (bytes_eq a (codes "packet")) _ e) in
-    let second : b ≡ decimal n = numbered_told n b (left_true (is_numbered n (number_word (2 ^ 32 - 1) b)) _ rest) in
+    let second : b ≡ decimal n = numbered_reported n b (left_true (is_numbered n (number_word (2 ^ 32 - 1) b)) _ rest) in
     (p.packet, p.readable, p.written, ap₂ (λ x y. x ∷ y) first (ap₂ (λ x y. x ∷ y) second (ap₂ (λ x y. x ∷ y) p.way p.content)))
 
-pub line_told : (schedule : Schedule) (n : ℕ) (line : List ℕ) → FitsSchedule schedule → are_apart schedule.server (clients_in schedule) ≡ true → n ≤ 200000
+pub line_reported : (schedule : Schedule) (n : ℕ) (line : List ℕ) → FitsSchedule schedule → are_apart schedule.server (clients_in schedule) ≡ true → n ≤ 200000
     → is_packet_text (grammar_in schedule) (length schedule.clients) n line ≡ true → (packet : Packet) × IsPacketLine schedule n packet line
 unfolding is_packet_text packet_line
-line_told schedule n line fits apart few e =
+line_reported schedule n line fits apart few e =
     let front : List ℕ = take (length line - 1) line in
-    let p = words_told schedule n (slice_split (is 32) front) fits apart (right_true (ends_with_feed line) _ e) in
-    let whole : line ≡ front ++ 10 ∷ [] = feed_told line (left_true (ends_with_feed line) _ e) in
+    let p = words_reported schedule n (slice_split (is 32) front) fits apart (right_true (ends_with_feed line) _ e) in
+    let whole : line ≡ front ++ 10 ∷ [] = feed_reported line (left_true (ends_with_feed line) _ e) in
     let joined : front ≡ join_with_byte 32 (codes "packet" ∷ decimal n ∷ way_text (way_of (clients_in schedule) p.0) ∷ content_words p.0) =
     sym (join_with_byte-slice_split 32 front) ∙ ap (join_with_byte 32) p.3 in (
       p.0,
@@ -552,6 +552,6 @@ pub line_iff : (schedule : Schedule) (grammar : Grammar) (clients n : ℕ) (line
 line_iff schedule grammar clients n line result fits apart written count is = (
   λ e. let passed : nat_le n 200000 && is_packet_text grammar clients n line ≡ true = sym is ∙ e in
       let few : n ≤ 200000 = leb-true n 200000 (left_true (nat_le n 200000) _ passed) in
-      line_told schedule n line fits apart few (ap₂ (λ g k. is_packet_text g k n line) (sym written) (sym count) ∙ right_true (nat_le n 200000) _ passed),
+      line_reported schedule n line fits apart few (ap₂ (λ g k. is_packet_text g k n line) (sym written) (sym count) ∙ right_true (nat_le n 200000) _ passed),
   λ p. is ∙ both_true (le-leb n 200000 p.1.number) (ap₂ (λ g k. is_packet_text g k n line) written count ∙ line_shown schedule n line p.0 p.1),
 )

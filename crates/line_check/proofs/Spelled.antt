@@ -54,9 +54,9 @@ within_most most (Some m) n e =
     let below : m ≤ most = leb-true m most (right_true (nat_le 0 m) (nat_le m most) c.0) in
     omega (arith, same, below)
 
-pub number_told : (most n : ℕ) (word : List ℕ) → number_word most word ≡ Some n → (n ≤ most) × (word ≡ decimal n)
+pub number_reported : (most n : ℕ) (word : List ℕ) → number_word most word ≡ Some n → (n ≤ most) × (word ≡ decimal n)
 unfolding number_word number_of
-number_told most n word e = by_number (option_and_then (within 0 most) (numeral 20 word)) refl e
+number_reported most n word e = by_number (option_and_then (within 0 most) (numeral 20 word)) refl e
   where
     by_number : (o : Option ℕ) → option_and_then (within 0 most) (numeral 20 word) ≡ o → as_printed o word ≡ Some n → (n ≤ most) × (word ≡ decimal n)
     by_number None f e = absurd (cc)
@@ -76,12 +76,12 @@ number_shown most n high fits =
     let again : bytes_eq (decimal n) (decimal n) ≡ true = bytes_same (decimal n) in
     rw (some, few, digits, value, above, below, again) refl
 
-pub is_number_told : (most : ℕ) (word : List ℕ) → is_number most word ≡ true → (n : ℕ) × (n ≤ most) × (word ≡ decimal n)
-is_number_told most word e = by_number (number_word most word) refl e
+pub is_number_reported : (most : ℕ) (word : List ℕ) → is_number most word ≡ true → (n : ℕ) × (n ≤ most) × (word ≡ decimal n)
+is_number_reported most word e = by_number (number_word most word) refl e
   where
     by_number : (o : Option ℕ) → number_word most word ≡ o → is_some o ≡ true → (n : ℕ) × (n ≤ most) × (word ≡ decimal n)
     by_number None f e = absurd (true≢false (sym e))
-    by_number (Some n) f e = let t : (n ≤ most) × (word ≡ decimal n) = number_told most n word f in (n, t.0, t.1)
+    by_number (Some n) f e = let t : (n ≤ most) × (word ≡ decimal n) = number_reported most n word f in (n, t.0, t.1)
 
 pub is_number_shown : (most n : ℕ) → n ≤ most → n < 2 ^ 64 → is_number most (decimal n) ≡ true
 is_number_shown most n high fits = ap is_some (number_shown most n high fits)
@@ -125,8 +125,8 @@ glyph_lower (suc (suc (suc (suc (suc (suc (suc (suc (suc (suc (suc (suc (suc (su
 glyph_lower (suc (suc (suc (suc (suc (suc (suc (suc (suc (suc (suc (suc (suc (suc (suc zero))))))))))))))) h = refl
 glyph_lower (suc (suc (suc (suc (suc (suc (suc (suc (suc (suc (suc (suc (suc (suc (suc (suc k)))))))))))))))) h = absurd (omega (arith, h))
 
-digit_told : (c : ℕ) → is_lower_digit c ≡ true → (k : ℕ) × (k < 16) × (slice_index lower_digits k ≡ c)
-digit_told c e = by_cases (nat_le 48 c && nat_le c 57)
+digit_reported : (c : ℕ) → is_lower_digit c ≡ true → (k : ℕ) × (k < 16) × (slice_index lower_digits k ≡ c)
+digit_reported c e = by_cases (nat_le 48 c && nat_le c 57)
     (λ d. let low : 48 ≤ c = leb-true 48 c (left_true (nat_le 48 c) (nat_le c 57) d) in
     let high : c ≤ 57 = leb-true c 57 (right_true (nat_le 48 c) (nat_le c 57) d) in
     let small : c - 48 < 16 = omega (arith, low, high) in
@@ -141,17 +141,17 @@ digit_told c e = by_cases (nat_le 48 c && nat_le c 57)
     let value : 87 + (c - 87) ≡ c = omega (arith, low) in
     (c - 87, small, table (c - 87) small ∙ (ap (λ b. if b then 48 + (c - 87) else 87 + (c - 87)) later ∙ value)))
 
-hex_told : (word : List ℕ) → list_all is_lower_digit word ≡ true → length word % 2 ≡ 0
+hex_reported : (word : List ℕ) → list_all is_lower_digit word ≡ true → length word % 2 ≡ 0
     → (bytes : List ℕ) × AreBytes bytes × (2 * length bytes ≡ length word) × (encode_lower bytes ≡ word)
 unfolding encode_with
-hex_told [] e even = ([], tt, refl, refl)
-hex_told (c ∷ []) e even = absurd (omega (arith, even))
-hex_told (high ∷ low ∷ rest) e even =
+hex_reported [] e even = ([], tt, refl, refl)
+hex_reported (c ∷ []) e even = absurd (omega (arith, even))
+hex_reported (high ∷ low ∷ rest) e even =
     let more : is_lower_digit low && list_all is_lower_digit rest ≡ true = right_true (is_lower_digit high) _ e in
-    let a : (k : ℕ) × (k < 16) × (slice_index lower_digits k ≡ high) = digit_told high (left_true (is_lower_digit high) _ e) in
-    let b : (k : ℕ) × (k < 16) × (slice_index lower_digits k ≡ low) = digit_told low (left_true (is_lower_digit low) _ more) in
+    let a : (k : ℕ) × (k < 16) × (slice_index lower_digits k ≡ high) = digit_reported high (left_true (is_lower_digit high) _ e) in
+    let b : (k : ℕ) × (k < 16) × (slice_index lower_digits k ≡ low) = digit_reported low (left_true (is_lower_digit low) _ more) in
     let less : length rest % 2 ≡ 0 = omega (arith, even) in
-    let others : (bytes : List ℕ) × AreBytes bytes × (2 * length bytes ≡ length rest) × (encode_lower bytes ≡ rest) = hex_told rest (right_true (is_lower_digit low) _ more) less in
+    let others : (bytes : List ℕ) × AreBytes bytes × (2 * length bytes ≡ length rest) × (encode_lower bytes ≡ rest) = hex_reported rest (right_true (is_lower_digit low) _ more) less in
     let byte : ℕ = 16 * a.0 + b.0 in
     let small : byte < 256 = omega (arith, a.1, b.1) in
     let first : byte / 16 ≡ a.0 = omega (arith, b.1) in
@@ -177,9 +177,9 @@ hex_text_some : (b : ℕ) (bytes : List ℕ) → hex_text (b ∷ bytes) ≡ enco
 unfolding hex_text encode_with
 hex_text_some b bytes = or_dash_cons _ _
 
-pub byte_count_told : (n : ℕ) (word : List ℕ) → byte_count word ≡ Some n → (bytes : List ℕ) × AreBytes bytes × (length bytes ≡ n) × (word ≡ hex_text bytes)
+pub byte_count_reported : (n : ℕ) (word : List ℕ) → byte_count word ≡ Some n → (bytes : List ℕ) × AreBytes bytes × (length bytes ≡ n) × (word ≡ hex_text bytes)
 unfolding byte_count is_hex_word hex_text encode_with
-byte_count_told n word e = by_cases (bytes_eq word (codes "-"))
+byte_count_reported n word e = by_cases (bytes_eq word (codes "-"))
     (λ d. let f : Some 0 ≡ Some n = sym (ap (λ b. if b then Some 0 else (if (nat_lt 0 (length word) && (length word % 2 == 0) && list_all is_lower_digit word) then Some (length word / 2) else None)) d) ∙ e in
     let zero_is : 0 ≡ n = (chosen_is true 0 n f).1 in
     ([], tt, zero_is, same_bytes word (codes "-") d))
@@ -189,11 +189,11 @@ byte_count_told n word e = by_cases (bytes_eq word (codes "-"))
     let front : nat_lt 0 (length word) && (length word % 2 == 0) ≡ true = left_true (nat_lt 0 (length word) && (length word % 2 == 0)) (list_all is_lower_digit word) c.0 in
     let even : length word % 2 ≡ 0 = grind (arith, right_true (nat_lt 0 (length word)) (length word % 2 == 0) front) in
     let some : 0 < length word = ltb-true 0 (length word) (left_true (nat_lt 0 (length word)) (length word % 2 == 0) front) in
-    let told : (bytes : List ℕ) × AreBytes bytes × (2 * length bytes ≡ length word) × (encode_lower bytes ≡ word) =
-    hex_told word (right_true (nat_lt 0 (length word) && (length word % 2 == 0)) (list_all is_lower_digit word) c.0) even in
+    let reported : (bytes : List ℕ) × AreBytes bytes × (2 * length bytes ≡ length word) × (encode_lower bytes ≡ word) =
+    hex_reported word (right_true (nat_lt 0 (length word) && (length word % 2 == 0)) (list_all is_lower_digit word) c.0) even in
     let half : length word / 2 ≡ n = c.1 in
-    let count : length told.0 ≡ n = omega (arith, told.2, half) in
-    (told.0, told.1, count, sym told.3 ∙ shown told.0 (omega (arith, told.2, some))))
+    let count : length reported.0 ≡ n = omega (arith, reported.2, half) in
+    (reported.0, reported.1, count, sym reported.3 ∙ shown reported.0 (omega (arith, reported.2, some))))
   where
     shown : (bytes : List ℕ) → 0 < length bytes → encode_lower bytes ≡ hex_text bytes
     shown [] h = absurd (omega (arith, h))
@@ -235,11 +235,11 @@ number_last mark n low small = slice_split_none (is mark) (decimal n) (no_mark m
 abbrev pub AreLengths : List ℕ → Type 0
 AreLengths lens = AllByRecursion (λ len. len ≤ 2048) lens
 
-pieces_told : (pieces : List (List ℕ)) → list_all (is_number 2048) pieces ≡ true → (lens : List ℕ) × AreLengths lens × (pieces ≡ map decimal lens)
-pieces_told [] e = ([], tt, refl)
-pieces_told (piece ∷ pieces) e =
-    let first : (n : ℕ) × (n ≤ 2048) × (piece ≡ decimal n) = is_number_told 2048 piece (left_true (is_number 2048 piece) _ e) in
-    let others : (lens : List ℕ) × AreLengths lens × (pieces ≡ map decimal lens) = pieces_told pieces (right_true (is_number 2048 piece) _ e) in
+pieces_reported : (pieces : List (List ℕ)) → list_all (is_number 2048) pieces ≡ true → (lens : List ℕ) × AreLengths lens × (pieces ≡ map decimal lens)
+pieces_reported [] e = ([], tt, refl)
+pieces_reported (piece ∷ pieces) e =
+    let first : (n : ℕ) × (n ≤ 2048) × (piece ≡ decimal n) = is_number_reported 2048 piece (left_true (is_number 2048 piece) _ e) in
+    let others : (lens : List ℕ) × AreLengths lens × (pieces ≡ map decimal lens) = pieces_reported pieces (right_true (is_number 2048 piece) _ e) in
     (first.0 ∷ others.0, (first.1, others.1), ap₂ (λ x y. x ∷ y) first.2 others.2)
 
 pieces_shown : (lens : List ℕ) → AreLengths lens → list_all (is_number 2048) (map decimal lens) ≡ true
@@ -261,17 +261,17 @@ length_map (len ∷ lens) = let more : length (map decimal lens) ≡ length lens
 pieces_some : (p : ℕ → Bool) (word : List ℕ) → 0 < length (slice_split p word)
 pieces_some p word = let count = length-slice_split p word in omega (arith, count)
 
-pub lens_told : (n : ℕ) (word : List ℕ) → lens_count word ≡ Some n → (lens : List ℕ) × AreLengths lens × (length lens ≡ n) × (word ≡ list_text lens)
+pub lens_reported : (n : ℕ) (word : List ℕ) → lens_count word ≡ Some n → (lens : List ℕ) × AreLengths lens × (length lens ≡ n) × (word ≡ list_text lens)
 unfolding lens_count
-lens_told n word e =
+lens_reported n word e =
     let c : (list_all (is_number 2048) (slice_split (is 44) word) && nat_le (length (slice_split (is 44) word)) 512 ≡ true) × (length (slice_split (is 44) word) ≡ n) =
     chosen_is (list_all (is_number 2048) (slice_split (is 44) word) && nat_le (length (slice_split (is 44) word)) 512) (length (slice_split (is 44) word)) n e in
-    let told : (lens : List ℕ) × AreLengths lens × (slice_split (is 44) word ≡ map decimal lens) =
-    pieces_told (slice_split (is 44) word) (left_true (list_all (is_number 2048) (slice_split (is 44) word)) _ c.0) in
-    let count : length (slice_split (is 44) word) ≡ length told.0 = ap length told.2 ∙ length_map told.0 in
-    let same : length told.0 ≡ n = sym count ∙ c.1 in
-    let some : 0 < length told.0 = omega (arith, count, pieces_some (is 44) word) in
-    (told.0, told.1, same, sym (join_with_byte-slice_split 44 word) ∙ (ap (join_with_byte 44) told.2 ∙ listed told.0 told.1 some))
+    let reported : (lens : List ℕ) × AreLengths lens × (slice_split (is 44) word ≡ map decimal lens) =
+    pieces_reported (slice_split (is 44) word) (left_true (list_all (is_number 2048) (slice_split (is 44) word)) _ c.0) in
+    let count : length (slice_split (is 44) word) ≡ length reported.0 = ap length reported.2 ∙ length_map reported.0 in
+    let same : length reported.0 ≡ n = sym count ∙ c.1 in
+    let some : 0 < length reported.0 = omega (arith, count, pieces_some (is 44) word) in
+    (reported.0, reported.1, same, sym (join_with_byte-slice_split 44 word) ∙ (ap (join_with_byte 44) reported.2 ∙ listed reported.0 reported.1 some))
   where
     listed : (lens : List ℕ) → AreLengths lens → 0 < length lens → join_with_byte 44 (map decimal lens) ≡ list_text lens
     listed [] h some = absurd (omega (arith, some))
@@ -288,28 +288,28 @@ lens_shown (len ∷ lens) h some few =
     rw (cut, pieces_shown (len ∷ lens) h, length_map (len ∷ lens), within_room) refl
 
 -- addresses
-four_told : (pieces : List (List ℕ)) → are_octets pieces ≡ true
+four_reported : (pieces : List (List ℕ)) → are_octets pieces ≡ true
     → (a b c d : ℕ) × (a ≤ 255) × (b ≤ 255) × (c ≤ 255) × (d ≤ 255) × (pieces ≡ decimal a ∷ decimal b ∷ decimal c ∷ decimal d ∷ [])
-four_told [] e = absurd (true≢false (sym e))
-four_told (a ∷ []) e = absurd (true≢false (sym e))
-four_told (a ∷ b ∷ []) e = absurd (true≢false (sym e))
-four_told (a ∷ b ∷ c ∷ []) e = absurd (true≢false (sym e))
-four_told (a ∷ b ∷ c ∷ d ∷ x ∷ more) e = absurd (true≢false (sym e))
-four_told (a ∷ b ∷ c ∷ d ∷ []) e =
+four_reported [] e = absurd (true≢false (sym e))
+four_reported (a ∷ []) e = absurd (true≢false (sym e))
+four_reported (a ∷ b ∷ []) e = absurd (true≢false (sym e))
+four_reported (a ∷ b ∷ c ∷ []) e = absurd (true≢false (sym e))
+four_reported (a ∷ b ∷ c ∷ d ∷ x ∷ more) e = absurd (true≢false (sym e))
+four_reported (a ∷ b ∷ c ∷ d ∷ []) e =
     let two : is_number 255 b && (is_number 255 c && is_number 255 d) ≡ true = right_true (is_number 255 a) _ e in
     let three : is_number 255 c && is_number 255 d ≡ true = right_true (is_number 255 b) _ two in
-    let na : (n : ℕ) × (n ≤ 255) × (a ≡ decimal n) = is_number_told 255 a (left_true (is_number 255 a) _ e) in
-    let nb : (n : ℕ) × (n ≤ 255) × (b ≡ decimal n) = is_number_told 255 b (left_true (is_number 255 b) _ two) in
-    let nc : (n : ℕ) × (n ≤ 255) × (c ≡ decimal n) = is_number_told 255 c (left_true (is_number 255 c) _ three) in
-    let nd : (n : ℕ) × (n ≤ 255) × (d ≡ decimal n) = is_number_told 255 d (right_true (is_number 255 c) _ three) in
+    let na : (n : ℕ) × (n ≤ 255) × (a ≡ decimal n) = is_number_reported 255 a (left_true (is_number 255 a) _ e) in
+    let nb : (n : ℕ) × (n ≤ 255) × (b ≡ decimal n) = is_number_reported 255 b (left_true (is_number 255 b) _ two) in
+    let nc : (n : ℕ) × (n ≤ 255) × (c ≡ decimal n) = is_number_reported 255 c (left_true (is_number 255 c) _ three) in
+    let nd : (n : ℕ) × (n ≤ 255) × (d ≡ decimal n) = is_number_reported 255 d (right_true (is_number 255 c) _ three) in
     (na.0, nb.0, nc.0, nd.0, na.1, nb.1, nc.1, nd.1, ap₂ (λ x y. x ∷ y) na.2 (ap₂ (λ x y. x ∷ y) nb.2 (ap₂ (λ x y. x ∷ y) nc.2 (ap (λ x. x ∷ []) nd.2))))
 
-two_told : (pieces : List (List ℕ)) → are_address pieces ≡ true
+two_reported : (pieces : List (List ℕ)) → are_address pieces ≡ true
     → (host port : List ℕ) × (pieces ≡ host ∷ port ∷ []) × (are_octets (slice_split (is 46) host) ≡ true) × (is_number 65535 port ≡ true)
-two_told [] e = absurd (true≢false (sym e))
-two_told (host ∷ []) e = absurd (true≢false (sym e))
-two_told (host ∷ port ∷ x ∷ more) e = absurd (true≢false (sym e))
-two_told (host ∷ port ∷ []) e = (host, port, refl, left_true (are_octets (slice_split (is 46) host)) _ e, right_true (are_octets (slice_split (is 46) host)) _ e)
+two_reported [] e = absurd (true≢false (sym e))
+two_reported (host ∷ []) e = absurd (true≢false (sym e))
+two_reported (host ∷ port ∷ x ∷ more) e = absurd (true≢false (sym e))
+two_reported (host ∷ port ∷ []) e = (host, port, refl, left_true (are_octets (slice_split (is 46) host)) _ e, right_true (are_octets (slice_split (is 46) host)) _ e)
 
 octets_of : (a b c d ip : ℕ) → a ≤ 255 → b ≤ 255 → c ≤ 255 → d ≤ 255 → ip ≡ 16777216 * a + 65536 * b + 256 * c + d → octets ip ≡ a ∷ b ∷ c ∷ d ∷ []
 octets_of a b c d ip ha hb hc hd e =
@@ -319,14 +319,14 @@ octets_of a b c d ip ha hb hc hd e =
     let four : ip % 256 ≡ d = omega (arith, e, hd) in
     ap₂ (λ x y. x ∷ y) one (ap₂ (λ x y. x ∷ y) two (ap₂ (λ x y. x ∷ y) three (ap (λ x. x ∷ []) four)))
 
-pub address_told : (word : List ℕ) → is_address word ≡ true → (key : Key) × FitsKey key × (word ≡ key_text key)
+pub address_reported : (word : List ℕ) → is_address word ≡ true → (key : Key) × FitsKey key × (word ≡ key_text key)
 unfolding is_address address_text
-address_told word e =
-    let parts = two_told (slice_split (is 58) word) e in
+address_reported word e =
+    let parts = two_reported (slice_split (is 58) word) e in
     let host : List ℕ = parts.0 in
     let port : List ℕ = parts.1 in
-    let four = four_told (slice_split (is 46) host) parts.3 in
-    let door : (n : ℕ) × (n ≤ 65535) × (port ≡ decimal n) = is_number_told 65535 port parts.4 in
+    let four = four_reported (slice_split (is 46) host) parts.3 in
+    let door : (n : ℕ) × (n ≤ 65535) × (port ≡ decimal n) = is_number_reported 65535 port parts.4 in
     let ip : ℕ = 16777216 * four.0 + 65536 * four.1 + 256 * four.2 + four.3 in
     let ip_fits : ip < 2 ^ 32 = omega (arith, four.4, four.5, four.6, four.7) in
     let port_fits : door.0 < 2 ^ 16 = omega (arith, door.1) in
@@ -384,15 +384,15 @@ abbrev pub size_of : Option ℕ → ℕ
 size_of None = 0
 size_of (Some mss) = 4
 
-pub option_told : (n : ℕ) (word : List ℕ) → option_size word ≡ Some n → (mss : Option ℕ) × ((m : ℕ) → mss ≡ Some m → m < 2 ^ 16) × (size_of mss ≡ n) × (word ≡ mss_text mss)
+pub option_reported : (n : ℕ) (word : List ℕ) → option_size word ≡ Some n → (mss : Option ℕ) × ((m : ℕ) → mss ≡ Some m → m < 2 ^ 16) × (size_of mss ≡ n) × (word ≡ mss_text mss)
 unfolding option_size mss_text
-option_told n word e = by_cases (bytes_eq word (codes "-"))
+option_reported n word e = by_cases (bytes_eq word (codes "-"))
     (λ d. let f : Some 0 ≡ Some n = sym (ap (λ b. if b then Some 0 else (if is_number 65535 word then Some 4 else None)) d) ∙ e in
     (None, (λ m g. absurd (none_some m g)), (chosen_is true 0 n f).1, same_bytes word (codes "-") d))
     (λ d. let f : (if is_number 65535 word then Some 4 else None) ≡ Some n = sym (ap (λ b. if b then Some 0 else (if is_number 65535 word then Some 4 else None)) d) ∙ e in
     let c : (is_number 65535 word ≡ true) × (4 ≡ n) = chosen_is (is_number 65535 word) 4 n f in
-    let told : (m : ℕ) × (m ≤ 65535) × (word ≡ decimal m) = is_number_told 65535 word c.0 in
-    (Some told.0, (λ m g. let same : told.0 ≡ m = (chosen_is true told.0 m g).1 in omega (arith, same, told.1)), c.1, told.2))
+    let reported : (m : ℕ) × (m ≤ 65535) × (word ≡ decimal m) = is_number_reported 65535 word c.0 in
+    (Some reported.0, (λ m g. let same : reported.0 ≡ m = (chosen_is true reported.0 m g).1 in omega (arith, same, reported.1)), c.1, reported.2))
   where
     none_some : (m : ℕ) → None ≡ Some m → ⊥
     none_some m g = true≢false (sym (ap is_some g))

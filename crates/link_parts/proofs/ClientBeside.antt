@@ -12,8 +12,8 @@ use Rattle.ft_model.specs.Client.{Client, IsMove, is_opening, is_open, next_of, 
 use Rattle.ft_model.specs.declared.phase.Phase.TheVariants as phases
 use Rattle.ft_model.specs.Client as machine
 use Rattle.peer_client.specs.Live.{LiveState, is_of, unread, sent_by, turned}
-use Rattle.peer_client.specs.Refinement.{AreMoves, IsBetween, IsDue, HasHeard, AcksNear, receiving, handed_out, Moves}
-use Rattle.peer_client.proofs.Whole.{due_handed, flush_moves, unread_is, due_outcome, heard_of}
+use Rattle.peer_client.specs.Refinement.{AreMoves, IsBetween, IsDue, HasReceived, AcksNear, receiving, handed_out, Moves}
+use Rattle.peer_client.proofs.Whole.{due_handed, flush_moves, unread_is, due_outcome, received_of}
 use Rattle.link_parts.specs.Receipt.{Received, datagram, silence, failure}
 use Rattle.link_parts.specs.ClientTurns.{ClientTurn, after_receive, emptied, due_at, accepted_in}
 use Rattle.link_parts.specs.ClientMachine.{IsNear, machine_then, GoesBeside, HasMachine}
@@ -122,7 +122,7 @@ steps : (isn : ℕ) (l : LiveState) (first c : Client) (r : Received) → IsLimi
     → ((d : Client) → IsBetween (turned l) d → (turned l).outcome ≡ None → IsNear d r → IsDue (after_receive (turned l) r) (machine_then (turned l) d r)) → Steps l first c r
 steps isn l first c r limited one none due all near goes =
     let m : Moves (turned l) (sent_by l) c = flush_moves l c due in
-    let between : IsBetween (turned l) m.later = m.goes_on none in
+    let between : IsBetween (turned l) m.later = m.proceeds none in
     let t : IsLimited isn (turned l) = turned_limited isn l limited in
     let left = moves_stay (sent_by l) c m.later m.moves in
     let same : IsOne first m.later = one_on first c m.later one left.0 in
@@ -130,9 +130,9 @@ steps isn l first c r limited one none due all near goes =
     let d : Client = machine_then (turned l) m.later r in
     let due_then : IsDue after d = goes m.later between none (near_same first m.later r same near) in
     let reads = receive_reads isn (turned l) r t in
-    let heard : HasHeard l.tcb.receiving c = heard_of l c due in
+    let receipt : HasReceived l.tcb.receiving c = received_of l c due in
     let seen : after.seen ≡ 0 = reads.1 in
-    let count : handed_out after ≡ length c.accepted = omega (arith, reads.0, seen, turned_read isn l limited, all, heard.count) in
+    let count : handed_out after ≡ length c.accepted = omega (arith, reads.0, seen, turned_read isn l limited, all, receipt.count) in
     let grows : Grows m.later d = then_grows (turned l) m.later r in
     let accepted : d.accepted ≡ c.accepted ++ grows.more = grows.accepted ∙ ap (λ xs. xs ++ grows.more) left.1 in
     let rest : unread after ≡ grows.more =
@@ -158,8 +158,8 @@ pub record Beside (start : LiveState) (first : Client) (turns : List ClientTurn)
 pub beside_none : (start : LiveState) (first : Client) → BeginsBeside start first → Beside start first []
 unfolding due_at accepted_in GoesBeside
 beside_none start first h =
-    let heard : HasHeard start.tcb.receiving first = heard_of start first h.due in
-    let count : length start.tcb.receiving.unread ≡ 0 = omega (arith, heard.count, ap length h.nothing) in
+    let receipt : HasReceived start.tcb.receiving first = received_of start first h.due in
+    let count : length start.tcb.receiving.unread ≡ 0 = omega (arith, receipt.count, ap length h.nothing) in
     record { machine = first; one = is_one first; goes = refl; due = h.due; accepted = sym h.nothing; all = h.unseen ∙ sym count }
 
 pub beside_on : (isn : ℕ) (start : LiveState) (first : Client) (turn : ClientTurn) (earlier : List ClientTurn) → IsLimited isn start

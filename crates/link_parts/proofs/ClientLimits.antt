@@ -23,7 +23,7 @@ use Rattle.tcp_endpoint.specs.Output.{probes_text, probes_fin, with_probe, with_
 use Rattle.tcp_endpoint.specs.UserCalls.{after_tick, timer_ticked, waited, after_read, after_write, closing, write_room}
 use Rattle.endpoint_laws.proofs.Bounding.{text_facts, new_within}
 use Rattle.endpoint_laws.proofs.SendingLaw.{held_field}
-use Rattle.peer_client.specs.Live.{LiveState, new_live_in, is_of, met, hearing, ticked, unread, given_up, supplied, next_part, closes, before_flush, turned}
+use Rattle.peer_client.specs.Live.{LiveState, new_live_in, is_of, met, arrivals, ticked, unread, given_up, supplied, next_part, closes, before_flush, turned}
 use Rattle.peer_client.proofs.TurnEnds.{read_behind}
 use Rattle.link_parts.specs.Receipt.{Received, datagram, silence, failure}
 use Rattle.link_parts.specs.ClientTurns.{ClientTurn, after_receive, emptied, due_at}
@@ -356,16 +356,16 @@ met_limited : (isn : ℕ) (l : LiveState) (p : Segment) → IsLimited isn l → 
 met_limited isn l p h =
     record { tcb = own_read isn l.written _ (received l.tcb p) (received_limited isn l.written l.tcb.receiving.read p l.tcb h.tcb); written = h.written; script = h.script }
 
-hearing_limited : (isn : ℕ) (l : LiveState) (r : Result Segment BadPacket) → IsLimited isn l → IsLimited isn (hearing l r)
-hearing_limited isn l (Ok p) h = holds_either_way (IsLimited isn) (is_of l.local l.server p) (met l p) l (met_limited isn l p h) h
-hearing_limited isn l (Err bad) h = h
+arrivals_limited : (isn : ℕ) (l : LiveState) (r : Result Segment BadPacket) → IsLimited isn l → IsLimited isn (arrivals l r)
+arrivals_limited isn l (Ok p) h = holds_either_way (IsLimited isn) (is_of l.local l.server p) (met l p) l (met_limited isn l p h) h
+arrivals_limited isn l (Err bad) h = h
 
 ticked_limited : (isn : ℕ) (l : LiveState) → IsLimited isn l → IsLimited isn (ticked l)
 ticked_limited isn l h =
     record { tcb = own_read isn l.written _ (after_tick l.tcb) (tick_limited isn l.written l.tcb.receiving.read l.tcb h.tcb); written = h.written; script = h.script }
 
 pub receive_limited : (isn : ℕ) (l : LiveState) (r : Received) → IsLimited isn l → IsLimited isn (after_receive l r)
-receive_limited isn l (datagram from bytes) h = hearing_limited isn l (reading bytes) h
+receive_limited isn l (datagram from bytes) h = arrivals_limited isn l (reading bytes) h
 receive_limited isn l silence h = ticked_limited isn l h
 receive_limited isn l failure h = ticked_limited isn l h
 
@@ -422,11 +422,11 @@ met_read isn l p h = (received_limited isn l.written l.tcb.receiving.read p l.tc
 abbrev HandsNothing : LiveState → LiveState → Type 0
 HandsNothing l m = (m.tcb.receiving.read ≡ l.tcb.receiving.read) × (m.seen ≡ l.seen)
 
-hearing_reads : (isn : ℕ) (l : LiveState) (r : Result Segment BadPacket) → IsLimited isn l → HandsNothing l (hearing l r)
-hearing_reads isn l (Ok p) h = holds_either_way (HandsNothing l) (is_of l.local l.server p) (met l p) l (met_read isn l p h, refl) (refl, refl)
-hearing_reads isn l (Err bad) h = (refl, refl)
+arrivals_reads : (isn : ℕ) (l : LiveState) (r : Result Segment BadPacket) → IsLimited isn l → HandsNothing l (arrivals l r)
+arrivals_reads isn l (Ok p) h = holds_either_way (HandsNothing l) (is_of l.local l.server p) (met l p) l (met_read isn l p h, refl) (refl, refl)
+arrivals_reads isn l (Err bad) h = (refl, refl)
 
 pub receive_reads : (isn : ℕ) (l : LiveState) (r : Received) → IsLimited isn l → HandsNothing l (after_receive l r)
-receive_reads isn l (datagram from bytes) h = hearing_reads isn l (reading bytes) h
+receive_reads isn l (datagram from bytes) h = arrivals_reads isn l (reading bytes) h
 receive_reads isn l silence h = ((tick_limited isn l.written l.tcb.receiving.read l.tcb h.tcb).read_is, refl)
 receive_reads isn l failure h = ((tick_limited isn l.written l.tcb.receiving.read l.tcb h.tcb).read_is, refl)

@@ -9,10 +9,10 @@ use Rattle.ft_io.specs.declared.Addr.{Addr}
 use Rattle.ft_io.specs.declared.link_call.LinkCall.{LinkCall}
 use Rattle.ft_io.specs.declared.link_call.LinkCall.TheVariants.{Bound, Handed}
 use Rattle.ft_io.specs.declared.Failed.{Failed}
-use Rattle.ft_io.specs.Link.{send_told}
-use Rattle.ft_io.specs.Told.{Tells}
+use Rattle.ft_io.specs.Link.{send_reported}
+use Rattle.ft_io.specs.Reported.{Reports}
 use Rattle.ft_io.specs.Sink.{AppendsFront}
-use Rattle.ft_io.proofs.Tellings.{tells_on, none_told}
+use Rattle.ft_io.proofs.Recordings.{reports_on, none_reported}
 use Rattle.tcp_endpoint.specs.Output.{packets}
 use Rattle.ft_model.specs.Client.{Client, new_client}
 use Rattle.ft_model.specs.Client.ClientKind.{Live}
@@ -48,10 +48,10 @@ handings_more to packet (p ∷ others) (l ∷ losses) is_lost e =
 pub record Hands (to : Addr) (count : ℕ) (all : List (List ℕ)) (old now : Option (List LinkCall)) : Type 0 where
   pub losses : List Bool
   pub each : length losses ≡ count
-  pub tells : Tells old now (handings to (take count all) losses)
+  pub reports : Reports old now (handings to (take count all) losses)
 
 call_more : (to : Addr) (packet : List ℕ) (all : List (List ℕ)) (i : ℕ) (old mid new : Option (List LinkCall)) (is_lost : Bool) → slice_get all i ≡ Some packet
-    → Hands to i all old mid → Tells mid new (Handed to packet is_lost ∷ []) → Hands to (i + 1) all old new
+    → Hands to i all old mid → Reports mid new (Handed to packet is_lost ∷ []) → Hands to (i + 1) all old new
 call_more to packet all i old mid new is_lost at h t =
     let within : i < length all = slice_get_within all i packet at in
     let one_more : take (i + 1) all ≡ take i all ++ packet ∷ [] =
@@ -62,21 +62,21 @@ call_more to packet all i old mid new is_lost at h t =
     record {
       losses = h.losses ++ is_lost ∷ [];
       each = length-append h.losses (is_lost ∷ []) ∙ ap (λ n. n + 1) h.each;
-      tells = subst (Tells old new) (sym calls) (tells_on old mid new (handings to (take i all) h.losses) (Handed to packet is_lost ∷ []) h.tells t);
+      reports = subst (Reports old new) (sym calls) (reports_on old mid new (handings to (take i all) h.losses) (Handed to packet is_lost ∷ []) h.reports t);
     }
 
 pub hands_more : (to : Addr) (packet : List ℕ) (all : List (List ℕ)) (i : ℕ) (old mid new : Option (List LinkCall)) (sent : Result (Unit {0}) Failed)
-    → slice_get all i ≡ Some packet → Hands to i all old mid → Tells mid new (send_told to packet sent) → Hands to (i + 1) all old new
+    → slice_get all i ≡ Some packet → Hands to i all old mid → Reports mid new (send_reported to packet sent) → Hands to (i + 1) all old new
 hands_more to packet all i old mid new (Ok done) at h t = call_more to packet all i old mid new false at h t
 hands_more to packet all i old mid new (Err failed) at h t = call_more to packet all i old mid new true at h t
 
 pub hands_all : (to : Addr) (i : ℕ) (all : List (List ℕ)) (old new : Option (List LinkCall)) → i ≡ length all → Hands to i all old new → AreHanded to all old new
 hands_all to i all old new e h =
     let whole : take i all ≡ all = ap (λ n. take n all) e ∙ take-length all in
-    record { losses = h.losses; tells = subst (λ xs. Tells old new (handings to xs h.losses)) whole h.tells }
+    record { losses = h.losses; reports = subst (λ xs. Reports old new (handings to xs h.losses)) whole h.reports }
 
-pub hands_none : (to : Addr) (all : List (List ℕ)) (told : Option (List LinkCall)) → Hands to 0 all told told
-hands_none to all told = record { losses = []; each = refl; tells = none_told told }
+pub hands_none : (to : Addr) (all : List (List ℕ)) (reported : Option (List LinkCall)) → Hands to 0 all reported reported
+hands_none to all reported = record { losses = []; each = refl; reports = none_reported reported }
 
 -- one turn
 module _ (isn : ℕ) (server : Addr) where
@@ -98,8 +98,8 @@ module _ (isn : ℕ) (server : Addr) where
       ∙ ap unread r.state in
       record {
         turn = record { received = r.received; losses = sent.losses };
-        tells = tells_on old between new (received_as r.received ∷ []) (flush_calls server (emptied m) sent.losses) r.tells
-            (subst (λ (l : LiveState). Tells between new (flush_calls server l sent.losses)) due sent.tells);
+        reports = reports_on old between new (received_as r.received ∷ []) (flush_calls server (emptied m) sent.losses) r.reports
+            (subst (λ (l : LiveState). Reports between new (flush_calls server l sent.losses)) due sent.reports);
         state = after_is ∙ ap turned due;
         written = subst Writes front written;
         beside = λ c standing none near. subst (λ (l : LiveState). IsDue l (machine_then before c r.received)) r.state (r.beside c standing none near);
@@ -110,7 +110,7 @@ pub record RunsTo (start : LiveState) (count : ℕ) (old now : Option (List Link
   pub first : List Bool
   pub turns : List ClientTurn
   pub count_is : length turns ≡ count
-  pub tells : Tells old now (client_calls start.server start first turns)
+  pub reports : Reports old now (client_calls start.server start first turns)
   pub written : Writes (accepted_in start turns)
   pub state : client ≡ turned (due_at start turns)
   pub open_before : WasOpen start turns
@@ -123,7 +123,7 @@ runs_none start client server old now out same sent state = record {
   first = sent.losses;
   turns = [];
   count_is = refl;
-  tells = subst (λ (to : Addr). Tells old now (flush_calls to start sent.losses)) (sym same) sent.tells;
+  reports = subst (λ (to : Addr). Reports old now (flush_calls to start sent.losses)) (sym same) sent.reports;
   written = Appends-nil out;
   state = state;
   open_before = tt;
@@ -146,9 +146,9 @@ runs_on isn start client after server i old mid new Writes More Both limited sam
       first = r.first;
       turns = t.turn ∷ r.turns;
       count_is = ap suc r.count_is ∙ sym (add-one i);
-      tells = tells_on old mid new (client_calls start.server start r.first r.turns) _ r.tells
-          (subst (λ (x : LiveState). Tells mid new (received_as received ∷ flush_calls start.server (emptied (after_receive x received)) t.turn.losses)) r.state
-          (subst (λ (to : Addr). Tells mid new (received_as received ∷ flush_calls to (emptied (after_receive client received)) t.turn.losses)) (sym same) t.tells));
+      reports = reports_on old mid new (client_calls start.server start r.first r.turns) _ r.reports
+          (subst (λ (x : LiveState). Reports mid new (received_as received ∷ flush_calls start.server (emptied (after_receive x received)) t.turn.losses)) r.state
+          (subst (λ (to : Addr). Reports mid new (received_as received ∷ flush_calls to (emptied (after_receive client received)) t.turn.losses)) (sym same) t.reports));
       written = both _ _ r.written (subst (λ (x : LiveState). More (unread (after_receive x received))) r.state t.written);
       state = t.state ∙ ap (λ (x : LiveState). turned (emptied (after_receive x received))) r.state;
       open_before = open_now;
@@ -189,7 +189,7 @@ runs_end start client machine count most old new Writes Ends begins within ends 
   first = r.first;
   turns = r.turns;
   within = omega (arith, r.count_is);
-  tells = r.tells;
+  reports = r.reports;
   written = r.written;
   open_before = r.open_before;
   ends = subst (λ (n : ℕ). Ends (due_at start r.turns).outcome n) (sym r.count_is) (subst (λ (o : Option ClientEnd). Ends o count) (outcome_at start client r.turns r.state) ends);
@@ -198,12 +198,12 @@ runs_end start client machine count most old new Writes Ends begins within ends 
 
 -- a run comes after its bind
 pub runs_behind : (start : LiveState) (machine : Client) (most : ℕ) (bound : List LinkCall) (before old new : Option (List LinkCall)) (Writes : List ℕ → Type 0)
-    (Ends : Option ClientEnd → ℕ → Type 0) → Tells before old bound → Runs start machine most [] old new Writes Ends → Runs start machine most bound before new Writes Ends
+    (Ends : Option ClientEnd → ℕ → Type 0) → Reports before old bound → Runs start machine most [] old new Writes Ends → Runs start machine most bound before new Writes Ends
 runs_behind start machine most bound before old new Writes Ends b r = record {
   first = r.first;
   turns = r.turns;
   within = r.within;
-  tells = tells_on before old new bound (client_calls start.server start r.first r.turns) b r.tells;
+  reports = reports_on before old new bound (client_calls start.server start r.first r.turns) b r.reports;
   written = r.written;
   open_before = r.open_before;
   ends = r.ends;
@@ -234,7 +234,7 @@ begins_beside role script client made due = record {
 }
 
 module _ (role : ClientRole) (script : List ℕ) (client : LiveState) (before mid new : Option (List LinkCall))
-    (made : client ≡ first_state role script) (due : IsDue client (first_machine role script)) (bound : Tells before mid (Bound role.local ∷ [])) where
+    (made : client ≡ first_state role script) (due : IsDue client (first_machine role script)) (bound : Reports before mid (Bound role.local ∷ [])) where
   pub script_runs : (Writes : List ℕ → Type 0) (Ends : Option ClientEnd → ℕ → Type 0)
       → ((machine : Client) → BeginsBeside client machine → Runs client machine role.turns [] mid new Writes Ends) → IsClient role script before new Writes Ends
   script_runs Writes Ends runs =
@@ -256,12 +256,12 @@ module _ (role : ClientRole) (script : List ℕ) (client : LiveState) (before mi
   script_stops out_old out_new ends.ChildFault runs = absurd (runs (first_machine role script) (begins_beside role script client made due))
 
 -- nothing was done
-pub does_nothing : (told : Option (List LinkCall)) (out : Option (List ℕ)) → DoesNothing told told out out
-does_nothing told out = (none_told told, refl)
+pub does_nothing : (reported : Option (List LinkCall)) (out : Option (List ℕ)) → DoesNothing reported reported out out
+does_nothing reported out = (none_reported reported, refl)
 
-pub without_memory : (role : ClientRole) (script : List ℕ) (told : Option (List LinkCall)) (out : Option (List ℕ)) (end : NodeEnd) → end ≡ ends.NoMemory
-    → ScriptRunStops role script told told out out end
-without_memory role script told out end is = subst (λ (e : NodeEnd). ScriptRunStops role script told told out out e) (sym is) (does_nothing told out)
+pub without_memory : (role : ClientRole) (script : List ℕ) (reported : Option (List LinkCall)) (out : Option (List ℕ)) (end : NodeEnd) → end ≡ ends.NoMemory
+    → ScriptRunStops role script reported reported out out end
+without_memory role script reported out end is = subst (λ (e : NodeEnd). ScriptRunStops role script reported reported out out e) (sym is) (does_nothing reported out)
 
 -- a script is short, be it given or read
 pub script_short : (given : Option Script) (left_old left_new : Option (List ℕ)) (script : List ℕ) → IfSome given (λ s. length (bytes_of s) ≤ 2 ^ 24)

@@ -3,7 +3,7 @@ use Rattle.std.proofs.Common.{◌≡◌, ◌∙◌, inl, inr, ℕ, Bool, true, f
 use Rattle.ft_io.specs.declared.Addr.{Addr}
 use Rattle.ft_io.specs.declared.link_call.LinkCall.{LinkCall}
 use Rattle.ft_io.specs.declared.link_call.LinkCall.TheVariants.{Bound, Came}
-use Rattle.ft_io.specs.Told.{Tells}
+use Rattle.ft_io.specs.Reported.{Reports}
 use Rattle.seq_arith.specs.Message.{Message}
 use Rattle.seq_arith.specs.declared.kinds.Grammar.{Grammar}
 use Rattle.seq_arith.specs.MessageGrammar.{reading_by, spelled, header, spelling_by}
@@ -14,11 +14,11 @@ use Rattle.link_parts.specs.declared.role.LoggerRole.{LoggerRole}
 use Rattle.link_parts.specs.declared.status.NodeEnd.{NodeEnd}
 use Rattle.link_parts.specs.declared.status.NodeEnd.TheVariants as ends
 use Rattle.ft_io.specs.Sink.{AppendsFront}
-use Rattle.ft_io.proofs.Tellings.{tells_on, none_told}
+use Rattle.ft_io.proofs.Recordings.{reports_on, none_reported}
 use Rattle.link_parts.specs.Counts.{count_line, counts_of, plus, with_calls, HasRoom}
 use Rattle.link_parts.specs.LoggerTurns.{LoggerTurn, answer_for, wants_in, log_with, log_then, handing, turn_calls, log_at, calls_of}
 use Rattle.link_parts.specs.Receipt.{Received, datagram, silence, failure, received_as, IsQuiet}
-use Rattle.link_parts.specs.LineOutput.{TellStops}
+use Rattle.link_parts.specs.LineOutput.{ReportStops}
 use Rattle.link_parts.specs.LoggerParts.{IsLogger, IsCutLogger, LoggerStops, handing_bytes, Replies, HasTurned, HasServed, HasCounted, IsStarved, IsCutServing, grammar_for}
 use Rattle.link_parts.proofs.Calls.{counts_on, with_both, IsFew}
 use Rattle.link_parts.specs.Ranges.{most_turns}
@@ -88,10 +88,10 @@ pub room_after : (c counts : Counts) (r : Received) → HasRoom 2 c → counts �
 room_after c counts r room is = subst (HasRoom 1) (sym is) (room_behind c (counts_of (received_as r ∷ [])) room (few_received r))
 
 -- a turn in which no datagram came
-pub quiet : (grammar : Grammar) (log : Log) (old new : Option (List LinkCall)) (c counts : Counts) (r : Received) → Tells old new (received_as r ∷ []) → counts ≡ with_calls c (received_as r ∷ [])
+pub quiet : (grammar : Grammar) (log : Log) (old new : Option (List LinkCall)) (c counts : Counts) (r : Received) → Reports old new (received_as r ∷ []) → counts ≡ with_calls c (received_as r ∷ [])
     → IsQuiet r → HasTurned grammar log log old new c counts
-quiet grammar log old new c counts silence t k q = record { turn = record { received = silence; is_lost = false }; tells = t; log = refl; counts_are = k }
-quiet grammar log old new c counts failure t k q = record { turn = record { received = failure; is_lost = false }; tells = t; log = refl; counts_are = k }
+quiet grammar log old new c counts silence t k q = record { turn = record { received = silence; is_lost = false }; reports = t; log = refl; counts_are = k }
+quiet grammar log old new c counts failure t k q = record { turn = record { received = failure; is_lost = false }; reports = t; log = refl; counts_are = k }
 quiet grammar log old new c counts (datagram from bytes) t k (inl e) = cc
 quiet grammar log old new c counts (datagram from bytes) t k (inr e) = cc
 
@@ -111,13 +111,13 @@ wants grammar log bytes message is not = ap (wants_in log) is ∙ must (wants_me
     must true f = refl
     must false f = f refl
 
-pub starved : (grammar : Grammar) (log : Log) (old new : Option (List LinkCall)) (r : Received) (from : Addr) (bytes : List ℕ) → Tells old new (received_as r ∷ []) → r ≡ datagram from bytes
-    → wants_in log (reading_by grammar bytes) ≡ true → (calls : List LinkCall) × IsStarved grammar log calls × Tells old new calls
-starved grammar log old new r from bytes t is want = (Came from bytes ∷ [], (from, bytes, refl, want), subst (λ x. Tells old new (received_as x ∷ [])) is t)
+pub starved : (grammar : Grammar) (log : Log) (old new : Option (List LinkCall)) (r : Received) (from : Addr) (bytes : List ℕ) → Reports old new (received_as r ∷ []) → r ≡ datagram from bytes
+    → wants_in log (reading_by grammar bytes) ≡ true → (calls : List LinkCall) × IsStarved grammar log calls × Reports old new calls
+starved grammar log old new r from bytes t is want = (Came from bytes ∷ [], (from, bytes, refl, want), subst (λ x. Reports old new (received_as x ∷ [])) is t)
 
 -- a turn in which one came
 pub replied : (grammar : Grammar) (log after : Log) (old mid new : Option (List LinkCall)) (c between counts : Counts) (r : Received) (from : Addr) (bytes answer : List ℕ)
-    → Tells old mid (received_as r ∷ []) → between ≡ with_calls c (received_as r ∷ []) → r ≡ datagram from bytes → after ≡ log_with log (reading_by grammar bytes)
+    → Reports old mid (received_as r ∷ []) → between ≡ with_calls c (received_as r ∷ []) → r ≡ datagram from bytes → after ≡ log_with log (reading_by grammar bytes)
     → answer ≡ answer_bytes_by grammar (answer_for log (reading_by grammar bytes)) → Replies from answer mid new between counts → HasTurned grammar log after old new c counts
 replied grammar log after old mid new c between counts r from bytes answer t k e next is reply =
     let answered : List LinkCall = handing grammar from reply.is_lost (answer_for log (reading_by grammar bytes)) in
@@ -125,14 +125,14 @@ replied grammar log after old mid new c between counts r from bytes answer t k e
     let came : received_as r ∷ [] ≡ Came from bytes ∷ [] = ap (λ x. received_as x ∷ []) e in
     record {
       turn = record { received = datagram from bytes; is_lost = reply.is_lost };
-      tells = tells_on old mid new (Came from bytes ∷ []) answered (subst (Tells old mid) came t) (subst (Tells mid new) calls reply.tells);
+      reports = reports_on old mid new (Came from bytes ∷ []) answered (subst (Reports old mid) came t) (subst (Reports mid new) calls reply.reports);
       log = next;
       counts_are = reply.counts ∙ (ap₂ (λ x ys. with_calls x ys) (k ∙ ap (with_calls c) came) calls ∙ with_both c (Came from bytes ∷ []) answered);
     }
 
 -- turns so far
-pub served_none : (grammar : Grammar) (told : Option (List LinkCall)) (log : Log) (counts : Counts) → log ≡ empty_log → counts ≡ counts_of [] → HasServed grammar 0 told told log counts
-served_none grammar told log counts l c = record { turns = []; count_is = refl; tells = none_told told; log_is = l; counts_are = c }
+pub served_none : (grammar : Grammar) (reported : Option (List LinkCall)) (log : Log) (counts : Counts) → log ≡ empty_log → counts ≡ counts_of [] → HasServed grammar 0 reported reported log counts
+served_none grammar reported log counts l c = record { turns = []; count_is = refl; reports = none_reported reported; log_is = l; counts_are = c }
 
 pub served_on : (grammar : Grammar) (i : ℕ) (old mid new : Option (List LinkCall)) (log after : Log) (c counts : Counts) → HasServed grammar i old mid log c → HasTurned grammar log after mid new c counts
     → HasServed grammar (i + 1) old new after counts
@@ -141,51 +141,51 @@ served_on grammar i old mid new log after c counts s t =
     record {
       turns = t.turn ∷ s.turns;
       count_is = ap suc s.count_is ∙ sym (add-one i);
-      tells = tells_on old mid new (calls_of grammar s.turns) (turn_calls grammar (log_at grammar s.turns) t.turn) s.tells (subst (Tells mid new) calls t.tells);
+      reports = reports_on old mid new (calls_of grammar s.turns) (turn_calls grammar (log_at grammar s.turns) t.turn) s.reports (subst (Reports mid new) calls t.reports);
       log_is = t.log ∙ ap (λ l. log_then grammar l t.turn.received) s.log_is;
       counts_are = t.counts_are ∙ (ap₂ (λ x ys. with_calls x ys) s.counts_are calls ∙ sym (counts_on (calls_of grammar s.turns) (turn_calls grammar (log_at grammar s.turns) t.turn)));
     }
 
 pub served_all : (grammar : Grammar) (i most : ℕ) (old new : Option (List LinkCall)) (log : Log) (counts : Counts) → i ≡ most → HasServed grammar i old new log counts → HasCounted grammar most old new counts
-served_all grammar i most old new log counts e s = record { turns = s.turns; count_is = s.count_is ∙ e; tells = s.tells; counts_are = s.counts_are }
+served_all grammar i most old new log counts e s = record { turns = s.turns; count_is = s.count_is ∙ e; reports = s.reports; counts_are = s.counts_are }
 
 pub cut_serving : (grammar : Grammar) (i most : ℕ) (old mid new : Option (List LinkCall)) (log : Log) (counts : Counts) (cut : List LinkCall) → i < most → HasServed grammar i old mid log counts → IsStarved grammar log cut
-    → Tells mid new cut → IsCutServing grammar most old new
+    → Reports mid new cut → IsCutServing grammar most old new
 cut_serving grammar i most old mid new log counts cut lt s off t =
-    record { turns = s.turns; cut = cut; within = omega (arith, s.count_is); cut_off = inr (subst (λ l. IsStarved grammar l cut) s.log_is off); tells = tells_on old mid new (calls_of grammar s.turns) cut s.tells t }
+    record { turns = s.turns; cut = cut; within = omega (arith, s.count_is); cut_off = inr (subst (λ l. IsStarved grammar l cut) s.log_is off); reports = reports_on old mid new (calls_of grammar s.turns) cut s.reports t }
 
 -- a whole life
-pub logger_done : (role : LoggerRole) (before mid new : Option (List LinkCall)) (counts : Counts) (Writes : List ℕ → Type 0) → Tells before mid (Bound role.local ∷ [])
+pub logger_done : (role : LoggerRole) (before mid new : Option (List LinkCall)) (counts : Counts) (Writes : List ℕ → Type 0) → Reports before mid (Bound role.local ∷ [])
     → HasCounted (grammar_for role) role.turns mid new counts → Writes (count_line counts) → IsLogger role before new Writes
 logger_done role before mid new counts Writes b s w = record {
   turns = s.turns;
   count_is = s.count_is;
-  tells = tells_on before mid new (Bound role.local ∷ []) (calls_of (grammar_for role) s.turns) b s.tells;
+  reports = reports_on before mid new (Bound role.local ∷ []) (calls_of (grammar_for role) s.turns) b s.reports;
   written = subst (λ c. Writes (count_line c)) s.counts_are w;
 }
 
-pub logger_cut : (role : LoggerRole) (before mid new : Option (List LinkCall)) → Tells before mid (Bound role.local ∷ []) → IsCutServing (grammar_for role) role.turns mid new → IsCutLogger role before new
+pub logger_cut : (role : LoggerRole) (before mid new : Option (List LinkCall)) → Reports before mid (Bound role.local ∷ []) → IsCutServing (grammar_for role) role.turns mid new → IsCutLogger role before new
 logger_cut role before mid new b s = record {
   turns = s.turns;
   cut = s.cut;
   within = s.within;
   cut_off = s.cut_off;
-  tells = tells_on before mid new (Bound role.local ∷ []) (calls_of (grammar_for role) s.turns ++ s.cut) b s.tells;
+  reports = reports_on before mid new (Bound role.local ∷ []) (calls_of (grammar_for role) s.turns ++ s.cut) b s.reports;
 }
 
 -- a whole life whose line has no memory
-untold : (role : LoggerRole) (before mid new : Option (List LinkCall)) (counts : Counts) → Tells before mid (Bound role.local ∷ []) → HasCounted (grammar_for role) role.turns mid new counts → IsCutLogger role before new
-untold role before mid new counts b s = logger_cut role before mid new b (record {
+unreported : (role : LoggerRole) (before mid new : Option (List LinkCall)) (counts : Counts) → Reports before mid (Bound role.local ∷ []) → HasCounted (grammar_for role) role.turns mid new counts → IsCutLogger role before new
+unreported role before mid new counts b s = logger_cut role before mid new b (record {
   turns = s.turns;
   cut = [];
   within = omega (arith, s.count_is);
   cut_off = inl (refl, s.count_is);
-  tells = subst (Tells mid new) (sym (append-nil (calls_of (grammar_for role) s.turns))) s.tells;
+  reports = subst (Reports mid new) (sym (append-nil (calls_of (grammar_for role) s.turns))) s.reports;
 })
 
-pub logger_stops : (role : LoggerRole) (before mid new : Option (List LinkCall)) (counts : Counts) (out_old out_new : Option (List ℕ)) (end : NodeEnd) → Tells before mid (Bound role.local ∷ [])
-    → HasCounted (grammar_for role) role.turns mid new counts → TellStops (count_line counts) out_old out_new end → LoggerStops role before new out_old out_new end
-logger_stops role before mid new counts out_old out_new ends.NoMemory b s t = (untold role before mid new counts b s, t)
+pub logger_stops : (role : LoggerRole) (before mid new : Option (List LinkCall)) (counts : Counts) (out_old out_new : Option (List ℕ)) (end : NodeEnd) → Reports before mid (Bound role.local ∷ [])
+    → HasCounted (grammar_for role) role.turns mid new counts → ReportStops (count_line counts) out_old out_new end → LoggerStops role before new out_old out_new end
+logger_stops role before mid new counts out_old out_new ends.NoMemory b s t = (unreported role before mid new counts b s, t)
 logger_stops role before mid new counts out_old out_new ends.WriteFault b s t = logger_done role before mid new counts (AppendsFront out_old out_new) b s t
 logger_stops role before mid new counts out_old out_new ends.LinkFault b s t = absurd t
 logger_stops role before mid new counts out_old out_new ends.Usage b s t = absurd t

@@ -5,9 +5,9 @@ use Rattle.std.proofs.KnownBytes.{Appends-nil, Appends-trans}
 use Rattle.std.specs.Io.KnownBytes.{Appends}
 use Rattle.ft_io.specs.declared.spawn_call.SpawnCall.{SpawnCall}
 use Rattle.ft_io.specs.declared.spawn_call.SpawnCall.TheVariants.{Started, Ended}
-use Rattle.ft_io.specs.Told.{Tells}
+use Rattle.ft_io.specs.Reported.{Reports}
 use Rattle.ft_io.specs.Sink.{AppendsFront}
-use Rattle.ft_io.proofs.Tellings.{tells_on, none_told}
+use Rattle.ft_io.proofs.Recordings.{reports_on, none_reported}
 use Rattle.link_parts.specs.declared.pair.Children.{Children}
 use Rattle.link_parts.specs.declared.pair.ChildName.{ChildName}
 use Rattle.link_parts.specs.declared.role.PairRole.{PairRole}
@@ -15,7 +15,7 @@ use Rattle.link_parts.specs.declared.pair.PairStep.{PairStep}
 use Rattle.link_parts.specs.declared.pair.PairStep.TheVariants.{Start, Wait}
 use Rattle.link_parts.specs.declared.pair.PairFault.{PairFault}
 use Rattle.link_parts.specs.declared.pair.PairFault.TheVariants as faults
-use Rattle.link_parts.specs.Pair.{status_line, steps_of, StepsTell, IsPair, StepsStop}
+use Rattle.link_parts.specs.Pair.{status_line, steps_of, StepsReport, IsPair, StepsStop}
 use Rattle.link_parts.specs.PairParts.{StartDone, IsCounted, FitsStep, count_after, FitSteps, WaitDone, WaitStops, StepDone, StepStops}
 use Rattle.link_parts.proofs.ClientRunning.{front_more}
 
@@ -23,10 +23,10 @@ pub two_more : {X : Type 0} (f : X → List ℕ) (xs : List X) (a b : X) → map
 two_more f [] a b = refl
 two_more f (x ∷ xs) a b = ap (λ l. f x ∷ l) (two_more f xs a b)
 
-steps_more : (before : ℕ) (xs ys : List PairStep) (calls later : List SpawnCall) (lines more : List ℕ) → StepsTell before xs calls lines → StepsTell before ys later more
-    → StepsTell before (xs ++ ys) (calls ++ later) (lines ++ more)
+steps_more : (before : ℕ) (xs ys : List PairStep) (calls later : List SpawnCall) (lines more : List ℕ) → StepsReport before xs calls lines → StepsReport before ys later more
+    → StepsReport before (xs ++ ys) (calls ++ later) (lines ++ more)
 steps_more before [] ys calls later lines more h k =
-    subst (λ (c : List SpawnCall). StepsTell before ys (c ++ later) (lines ++ more)) (sym h.0) (subst (λ (l : List ℕ). StepsTell before ys later (l ++ more)) (sym h.1) k)
+    subst (λ (c : List SpawnCall). StepsReport before ys (c ++ later) (lines ++ more)) (sym h.0) (subst (λ (l : List ℕ). StepsReport before ys later (l ++ more)) (sym h.1) k)
 steps_more before (x ∷ xs) ys calls later lines more h k = (
   h.0,
   h.1,
@@ -43,8 +43,8 @@ pair_more : (xs ys : List PairStep) (before : ℕ) (old mid new : Option (List S
 pair_more xs ys before old mid new Writes More Both both p q = record {
   calls = p.calls ++ q.calls;
   lines = p.lines ++ q.lines;
-  steps_tell = steps_more before xs ys p.calls q.calls p.lines q.lines p.steps_tell q.steps_tell;
-  tells = tells_on old mid new p.calls q.calls p.tells q.tells;
+  steps_report = steps_more before xs ys p.calls q.calls p.lines q.lines p.steps_report q.steps_report;
+  reports = reports_on old mid new p.calls q.calls p.reports q.reports;
   written = both p.lines q.lines p.written q.written;
 }
 
@@ -56,10 +56,10 @@ pub record Goes (steps : List PairStep) (count before : ℕ) (children : Childre
   pub counted : IsCounted children started
   pub few : children.count ≤ count
 
-pub goes_none : (steps : List PairStep) (children : Children) (started : ℕ) (told : Option (List SpawnCall)) (out : Option (List ℕ)) → children.count ≡ 0 → FitSteps 0 steps
-    → Goes steps 0 started children started told told out out
-goes_none steps children started told out none fit = record {
-  pair = record { calls = []; lines = []; steps_tell = (refl, refl); tells = none_told told; written = Appends-nil out };
+pub goes_none : (steps : List PairStep) (children : Children) (started : ℕ) (reported : Option (List SpawnCall)) (out : Option (List ℕ)) → children.count ≡ 0 → FitSteps 0 steps
+    → Goes steps 0 started children started reported reported out out
+goes_none steps children started reported out none fit = record {
+  pair = record { calls = []; lines = []; steps_report = (refl, refl); reports = none_reported reported; written = Appends-nil out };
   fit = subst (λ (n : ℕ). FitSteps n steps) (sym none) fit;
   started_is = omega arith;
   counted = record { among = omega arith; last = λ some. absurd (omega (arith, some, none)) };
@@ -90,9 +90,9 @@ module _ (steps : List PairStep) (i before : ℕ) (step : PairStep) (children : 
       (pair_more (take i steps) (step ∷ []) before old mid new (Appends out_old out_mid) More Both both g.pair
       (subst (λ (n : ℕ). IsPair (step ∷ []) n mid new More) before_is p))
 
-  pub goes_on : (after : Children) (started_new : ℕ) (new : Option (List SpawnCall)) (out_new : Option (List ℕ))
+  pub proceeds : (after : Children) (started_new : ℕ) (new : Option (List SpawnCall)) (out_new : Option (List ℕ))
       → StepDone step children after started started_new mid new (Appends out_mid out_new) → Goes steps (i + 1) before after started_new old new out_old out_new
-  goes_on after started_new new out_new d = record {
+  proceeds after started_new new out_new d = record {
     pair = later_pair new (Appends out_mid out_new) (Appends out_old out_new) (λ l m h k. Appends-trans out_old out_mid out_new l m h k) d.pair;
     fit = subst (λ (n : ℕ). FitSteps n (drop (i + 1) steps)) (sym d.count) fit_next.1;
     started_is = omega (arith, d.started, before_is);
@@ -112,8 +112,8 @@ module _ (steps : List PairStep) (i before : ℕ) (step : PairStep) (children : 
     record {
       calls = g.pair.calls;
       lines = g.pair.lines;
-      steps_tell = g.pair.steps_tell;
-      tells = subst (Tells old new) (append-nil g.pair.calls) (tells_on old mid new g.pair.calls [] g.pair.tells h.0);
+      steps_report = g.pair.steps_report;
+      reports = subst (Reports old new) (append-nil g.pair.calls) (reports_on old mid new g.pair.calls [] g.pair.reports h.0);
       written = subst (λ (o : Option (List ℕ)). Appends out_old o g.pair.lines) (sym h.1) g.pair.written;
     },
   )
@@ -123,13 +123,13 @@ module _ (steps : List PairStep) (i before : ℕ) (step : PairStep) (children : 
   )
 
 -- one step
-start_pair : (words : List (List ℕ)) (before : ℕ) (old new : Option (List SpawnCall)) (out : Option (List ℕ)) → Tells old new (Started words ∷ [])
+start_pair : (words : List (List ℕ)) (before : ℕ) (old new : Option (List SpawnCall)) (out : Option (List ℕ)) → Reports old new (Started words ∷ [])
     → IsPair (Start words ∷ []) before old new (Appends out out)
 start_pair words before old new out t = record {
   calls = Started words ∷ [];
   lines = [];
-  steps_tell = (Started words ∷ [], [], [], [], (refl, refl), (refl, refl), refl, refl);
-  tells = t;
+  steps_report = (Started words ∷ [], [], [], [], (refl, refl), (refl, refl), refl, refl);
+  reports = t;
   written = Appends-nil out;
 }
 
@@ -138,7 +138,7 @@ wait_pair : (child number before : ℕ) (name : ChildName) (old new : Option (Li
 wait_pair child number before name old new Writes e w = record {
   calls = Ended number w.status ∷ [];
   lines = status_line name w.status;
-  steps_tell = (
+  steps_report = (
     Ended number w.status ∷ [],
     status_line name w.status,
     [],
@@ -148,7 +148,7 @@ wait_pair child number before name old new Writes e w = record {
     refl,
     sym (append-nil (status_line name w.status)),
   );
-  tells = w.tells;
+  reports = w.reports;
   written = w.written;
 }
 
@@ -157,7 +157,7 @@ pub start_done : (step : PairStep) (words : List (List ℕ)) (children after : C
     → StepDone step children after started started_new old new (Appends out out)
 start_done step words children after started started_new old new out is c d =
     subst (λ (s : PairStep). StepDone s children after started started_new old new (Appends out out)) (sym is) (record {
-      pair = start_pair words (started - children.count) old new out d.tells;
+      pair = start_pair words (started - children.count) old new out d.reports;
       count = d.count;
       started = omega (arith, c.among, d.next, d.count);
       counted = record { among = omega (arith, c.among, d.next, d.count); last = λ some. d.last };

@@ -5,7 +5,7 @@ use Rattle.tcp_rules.specs.Coming.{Early, StandsBehind}
 use Rattle.seq_arith.specs.Offset.{one_if}
 use Rattle.ft_io.specs.declared.Addr.{Addr}
 use Rattle.ft_io.specs.declared.link_call.LinkCall.{LinkCall}
-use Rattle.ft_io.specs.Told.{Tells}
+use Rattle.ft_io.specs.Reported.{Reports}
 use Rattle.ft_io.specs.Sink.{AppendsFront}
 use Rattle.std.specs.Io.KnownBytes.{Appends}
 use Rattle.tcp_endpoint.specs.ReceiveHalf.{Receiving}
@@ -26,19 +26,19 @@ use Rattle.link_parts.specs.ClientRuns.{Runs, IsEndedBy, IsSpent, IsCutShort}
 -- packets are handed to send, whichever of these calls fail
 pub record AreHanded (to : Addr) (packets : List (List ℕ)) (old new : Option (List LinkCall)) : Type 0 where
   pub losses : List Bool
-  pub tells : Tells old new (handings to packets losses)
+  pub reports : Reports old new (handings to packets losses)
 
 -- one receive
 pub record HasReceived (before after : LiveState) (old new : Option (List LinkCall)) : Type 0 where
   pub received : Received
-  pub tells : Tells old new (received_as received ∷ [])
+  pub reports : Reports old new (received_as received ∷ [])
   pub state : after ≡ after_receive before received
   pub beside : (c : Client) → IsBetween before c → before.outcome ≡ None → IsNear c received → IsDue after (machine_then before c received)
 
 -- one turn
 pub record HasTurned (server : Addr) (before after : LiveState) (old new : Option (List LinkCall)) (Writes : List ℕ → Type 0) : Type 0 where
   pub turn : ClientTurn
-  pub tells : Tells old new (received_as turn.received ∷ flush_calls server (emptied (after_receive before turn.received)) turn.losses)
+  pub reports : Reports old new (received_as turn.received ∷ flush_calls server (emptied (after_receive before turn.received)) turn.losses)
   pub state : after ≡ turned (emptied (after_receive before turn.received))
   pub written : Writes (unread (after_receive before turn.received))
   pub beside : (c : Client) → IsBetween before c → before.outcome ≡ None → IsNear c turn.received

@@ -4,7 +4,7 @@ use Rattle.std.specs.Prelude.{◌≡◌, ◌⊎◌, ℕ, ◌^◌, ◌≤◌, ◌
 use Rattle.std.specs.Io.KnownBytes.{Appends, IsAtEnd}
 use Rattle.ft_io.specs.declared.link_call.LinkCall.{LinkCall}
 use Rattle.ft_io.specs.declared.link_call.LinkCall.TheVariants.{Bound}
-use Rattle.ft_io.specs.Told.{Tells}
+use Rattle.ft_io.specs.Reported.{Reports}
 use Rattle.ft_io.specs.Sink.{AppendsFront}
 use Rattle.ft_model.specs.Client.{Client, new_client}
 use Rattle.ft_model.specs.Client.ClientKind.{Live}
@@ -37,7 +37,7 @@ pub record Runs (start : LiveState) (machine : Client) (most : ℕ) (calls : Lis
   pub first : List Bool  -- which sends of the first flush fail
   pub turns : List ClientTurn  -- the newest first
   pub within : length turns ≤ most
-  pub tells : Tells old new (calls ++ client_calls start.server start first turns)
+  pub reports : Reports old new (calls ++ client_calls start.server start first turns)
   pub written : Writes (accepted_in start turns)
   pub open_before : WasOpen start turns
   pub ends : Ends (due_at start turns).outcome (length turns)
@@ -69,7 +69,7 @@ ScriptStops script left_old _ = ⊥
 
 -- no call is made, and nothing is written
 abbrev pub DoesNothing : (old new : Option (List LinkCall)) → (out_old out_new : Option (List ℕ)) → Type 0
-DoesNothing old new out_old out_new = Tells old new [] × (out_new ≡ out_old)
+DoesNothing old new out_old out_new = Reports old new [] × (out_new ≡ out_old)
 
 -- how a client with a script stops without both ends closed: before it is bound, or as its run ends
 abbrev pub ScriptRunStops : ClientRole → (script : List ℕ) → (old new : Option (List LinkCall)) → (out_old out_new : Option (List ℕ)) → NodeEnd → Type 0

@@ -50,13 +50,13 @@ text_of ReadFault = codes "ftnode: read fault\n"
 text_of ChildFault = codes "ftnode: child fault\n"
 
 -- the line is written whole and the status is the end's; or that write failed, and the status is 5
-abbrev pub TellsEnd : NodeEnd → (err_old err_new : Option (List ℕ)) → (faults_old faults_new : ℕ) → (code : ℕ) → Type 0
-TellsEnd end err_old err_new faults_old faults_new code =
+abbrev pub ReportsEnd : NodeEnd → (err_old err_new : Option (List ℕ)) → (faults_old faults_new : ℕ) → (code : ℕ) → Type 0
+ReportsEnd end err_old err_new faults_old faults_new code =
     ((code ≡ code_of end) × Appends err_old err_new (text_of end))
     ⊎ ((code ≡ 5) × AppendsFront err_old err_new (text_of end) × Rose faults_old faults_new)
 
 -- the status of an end, and what is written to err: the whole line, or a prefix of it at status 5
-abbrev pub IsTold : Result (Unit {0}) NodeEnd → (err_old err_new : Option (List ℕ)) → (code : ℕ) → Type 0
-IsTold (Ok _) err_old err_new code = (code ≡ 0) × (err_new ≡ err_old)
-IsTold (Err end) err_old err_new code =
+abbrev pub IsReported : Result (Unit {0}) NodeEnd → (err_old err_new : Option (List ℕ)) → (code : ℕ) → Type 0
+IsReported (Ok _) err_old err_new code = (code ≡ 0) × (err_new ≡ err_old)
+IsReported (Err end) err_old err_new code =
     ((code ≡ code_of end) × Appends err_old err_new (text_of end)) ⊎ ((code ≡ 5) × AppendsFront err_old err_new (text_of end))

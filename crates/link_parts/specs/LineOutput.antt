@@ -5,7 +5,7 @@ use Rattle.link_parts.specs.declared.status.NodeEnd.{NodeEnd}
 use Rattle.link_parts.specs.declared.status.NodeEnd.TheVariants.{NoMemory, WriteFault}
 
 -- how a line ends early: an allocation failed before the first byte, or a prefix of it was written
-abbrev pub TellStops : List ℕ → (out_old out_new : Option (List ℕ)) → NodeEnd → Type 0
-TellStops line out_old out_new NoMemory = out_new ≡ out_old
-TellStops line out_old out_new WriteFault = AppendsFront out_old out_new line
-TellStops line out_old out_new _ = ⊥
+abbrev pub ReportStops : List ℕ → (out_old out_new : Option (List ℕ)) → NodeEnd → Type 0
+ReportStops line out_old out_new NoMemory = out_new ≡ out_old
+ReportStops line out_old out_new WriteFault = AppendsFront out_old out_new line
+ReportStops line out_old out_new _ = ⊥

@@ -3,7 +3,7 @@ use Rattle.std.specs.Prelude.{◌≡◌, ◌⊎◌, ℕ, Bool, true, Option, Lis
 use Rattle.ft_io.specs.declared.Addr.{Addr}
 use Rattle.ft_io.specs.declared.link_call.LinkCall.{LinkCall}
 use Rattle.ft_io.specs.declared.link_call.LinkCall.TheVariants.{Bound, Came, Handed}
-use Rattle.ft_io.specs.Told.{Tells}
+use Rattle.ft_io.specs.Reported.{Reports}
 use Rattle.ft_model.specs.Log.{Log}
 use Rattle.seq_arith.specs.MessageGrammar.{reading_by}
 use Rattle.seq_arith.specs.declared.kinds.Grammar.{Grammar}
@@ -24,7 +24,7 @@ handing_bytes to is_lost (b ∷ bytes) = Handed to (b ∷ bytes) is_lost ∷ []
 
 pub record Replies (to : Addr) (bytes : List ℕ) (old new : Option (List LinkCall)) (before after : Counts) : Type 0 where
   pub is_lost : Bool
-  pub tells : Tells old new (handing_bytes to is_lost bytes)
+  pub reports : Reports old new (handing_bytes to is_lost bytes)
   pub counts : after ≡ with_calls before (handing_bytes to is_lost bytes)
 
 -- a turn that was cut off because an allocation failed: its datagram came, and no answer was sent
@@ -38,7 +38,7 @@ IsStarved grammar log calls = (from : Addr) × (bytes : List ℕ) × (calls ≡ 
 -- a whole turn
 pub record HasTurned (grammar : Grammar) (before after : Log) (old new : Option (List LinkCall)) (counted counts : Counts) : Type 0 where
   pub turn : LoggerTurn
-  pub tells : Tells old new (turn_calls grammar before turn)
+  pub reports : Reports old new (turn_calls grammar before turn)
   pub log : after ≡ log_then grammar before turn.received
   pub counts_are : counts ≡ with_calls counted (turn_calls grammar before turn)
 
@@ -46,7 +46,7 @@ pub record HasTurned (grammar : Grammar) (before after : Log) (old new : Option 
 pub record HasServed (grammar : Grammar) (count : ℕ) (old new : Option (List LinkCall)) (log : Log) (counts : Counts) : Type 0 where
   pub turns : List LoggerTurn  -- the newest first
   pub count_is : length turns ≡ count
-  pub tells : Tells old new (calls_of grammar turns)
+  pub reports : Reports old new (calls_of grammar turns)
   pub log_is : log ≡ log_at grammar turns
   pub counts_are : counts ≡ counts_of (calls_of grammar turns)
 
@@ -54,7 +54,7 @@ pub record HasServed (grammar : Grammar) (count : ℕ) (old new : Option (List L
 pub record HasCounted (grammar : Grammar) (count : ℕ) (old new : Option (List LinkCall)) (counts : Counts) : Type 0 where
   pub turns : List LoggerTurn
   pub count_is : length turns ≡ count
-  pub tells : Tells old new (calls_of grammar turns)
+  pub reports : Reports old new (calls_of grammar turns)
   pub counts_are : counts ≡ counts_of (calls_of grammar turns)
 
 -- at most so many turns were done, and then one was cut off; or all were done, and there was no memory for the line of their counts
@@ -63,7 +63,7 @@ pub record IsCutServing (grammar : Grammar) (most : ℕ) (old new : Option (List
   pub cut : List LinkCall
   pub within : length turns ≤ most
   pub cut_off : ((cut ≡ []) × (length turns ≡ most)) ⊎ IsStarved grammar (log_at grammar turns) cut
-  pub tells : Tells old new (calls_of grammar turns ++ cut)
+  pub reports : Reports old new (calls_of grammar turns ++ cut)
 
 -- the grammar of a logger's messages and answers, by its server's profile
 abbrev pub grammar_for : LoggerRole → Grammar
@@ -73,7 +73,7 @@ grammar_for role = grammar_of (profile_of role.profile)
 pub record IsLogger (role : LoggerRole) (old new : Option (List LinkCall)) (Writes : List ℕ → Type 0) : Type 0 where
   pub turns : List LoggerTurn
   pub count_is : length turns ≡ role.turns
-  pub tells : Tells old new (Bound role.local ∷ calls_of (grammar_for role) turns)
+  pub reports : Reports old new (Bound role.local ∷ calls_of (grammar_for role) turns)
   pub written : Writes (count_line (counts_of (calls_of (grammar_for role) turns)))
 
 -- a life that ended because an allocation failed
@@ -82,11 +82,11 @@ pub record IsCutLogger (role : LoggerRole) (old new : Option (List LinkCall)) : 
   pub cut : List LinkCall
   pub within : length turns ≤ role.turns
   pub cut_off : ((cut ≡ []) × (length turns ≡ role.turns)) ⊎ IsStarved (grammar_for role) (log_at (grammar_for role) turns) cut
-  pub tells : Tells old new (Bound role.local ∷ (calls_of (grammar_for role) turns ++ cut))
+  pub reports : Reports old new (Bound role.local ∷ (calls_of (grammar_for role) turns ++ cut))
 
 -- how a logger stops early: nothing was written where the bind failed, and a prefix of the line where a write did
 abbrev pub LoggerStops : LoggerRole → (old new : Option (List LinkCall)) → (out_old out_new : Option (List ℕ)) → NodeEnd → Type 0
-LoggerStops role old new out_old out_new LinkFault = Tells old new [] × (out_new ≡ out_old)
+LoggerStops role old new out_old out_new LinkFault = Reports old new [] × (out_new ≡ out_old)
 LoggerStops role old new out_old out_new NoMemory = IsCutLogger role old new × (out_new ≡ out_old)
 LoggerStops role old new out_old out_new WriteFault = IsLogger role old new (AppendsFront out_old out_new)
 LoggerStops role old new out_old out_new _ = ⊥

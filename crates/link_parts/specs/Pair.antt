@@ -4,7 +4,7 @@ use Rattle.std.specs.Fmt.{decimal, signed_decimal}
 use Rattle.std.specs.Io.KnownBytes.{Appends}
 use Rattle.ft_io.specs.declared.spawn_call.SpawnCall.{SpawnCall}
 use Rattle.ft_io.specs.declared.spawn_call.SpawnCall.TheVariants.{Started, Ended}
-use Rattle.ft_io.specs.Told.{Tells}
+use Rattle.ft_io.specs.Reported.{Reports}
 use Rattle.ft_io.specs.Sink.{AppendsFront}
 use Rattle.link_parts.specs.declared.role.PairRole.{PairRole}
 use Rattle.link_parts.specs.declared.pair.ChildName.{ChildName}
@@ -52,23 +52,23 @@ abbrev pub status_line : ChildName → ℤ → List ℕ
 status_line name status = status_text name ++ (signed_decimal status ++ codes "\n")
 
 -- the calls of a step and the line that it writes, where so many children were started before all steps
-abbrev pub StepTells : ℕ → PairStep → List SpawnCall → List ℕ → Type 0
-StepTells before (Start words) calls line = (calls ≡ Started words ∷ []) × (line ≡ [])
-StepTells before (Wait child name) calls line = (status : ℤ) × (calls ≡ Ended (before + child) status ∷ []) × (line ≡ status_line name status)
+abbrev pub StepReports : ℕ → PairStep → List SpawnCall → List ℕ → Type 0
+StepReports before (Start words) calls line = (calls ≡ Started words ∷ []) × (line ≡ [])
+StepReports before (Wait child name) calls line = (status : ℤ) × (calls ≡ Ended (before + child) status ∷ []) × (line ≡ status_line name status)
 
 -- and these steps, one after another
-abbrev pub StepsTell : ℕ → List PairStep → List SpawnCall → List ℕ → Type 0
-StepsTell before [] calls lines = (calls ≡ []) × (lines ≡ [])
-StepsTell before (step ∷ steps) calls lines =
+abbrev pub StepsReport : ℕ → List PairStep → List SpawnCall → List ℕ → Type 0
+StepsReport before [] calls lines = (calls ≡ []) × (lines ≡ [])
+StepsReport before (step ∷ steps) calls lines =
     (first : List SpawnCall) × (line : List ℕ) × (later : List SpawnCall) × (more : List ℕ)
-    × StepTells before step first line × StepsTell before steps later more × (calls ≡ first ++ later) × (lines ≡ line ++ more)
+    × StepReports before step first line × StepsReport before steps later more × (calls ≡ first ++ later) × (lines ≡ line ++ more)
 
 -- these steps were done
 pub record IsPair (steps : List PairStep) (before : ℕ) (old new : Option (List SpawnCall)) (Writes : List ℕ → Type 0) : Type 0 where
   pub calls : List SpawnCall
   pub lines : List ℕ
-  pub steps_tell : StepsTell before steps calls lines
-  pub tells : Tells old new calls
+  pub steps_report : StepsReport before steps calls lines
+  pub reports : Reports old new calls
   pub written : Writes lines
 
 -- how steps stop early: the first ones were done, and the next call failed; or only a prefix of their lines was written
@@ -79,7 +79,7 @@ StepsStop steps before old new out_old out_new Write = (count : ℕ) × IsPair (
 
 -- how a pair stops early: where memory runs out, before the first start
 abbrev pub PairStops : PairRole → ℕ → (old new : Option (List SpawnCall)) → (out_old out_new : Option (List ℕ)) → NodeEnd → Type 0
-PairStops role before old new out_old out_new NoMemory = Tells old new [] × (out_new ≡ out_old)
+PairStops role before old new out_old out_new NoMemory = Reports old new [] × (out_new ≡ out_old)
 PairStops role before old new out_old out_new ChildFault = StepsStop (steps_of role) before old new out_old out_new Child
 PairStops role before old new out_old out_new WriteFault = StepsStop (steps_of role) before old new out_old out_new Write
 PairStops role before old new out_old out_new _ = ⊥

@@ -2,7 +2,7 @@
 use Rattle.std.specs.Prelude.{◌≡◌, ℕ, ◌+◌, ◌-◌, ◌<◌, ◌≤◌, ℤ, Option, List, [], ◌∷◌}
 use Rattle.ft_io.specs.declared.spawn_call.SpawnCall.{SpawnCall}
 use Rattle.ft_io.specs.declared.spawn_call.SpawnCall.TheVariants.{Started, Ended}
-use Rattle.ft_io.specs.Told.{Tells}
+use Rattle.ft_io.specs.Reported.{Reports}
 use Rattle.ft_io.specs.Sink.{AppendsFront}
 use Rattle.link_parts.specs.declared.pair.Children.{Children}
 use Rattle.link_parts.specs.declared.pair.ChildName.{ChildName}
@@ -33,7 +33,7 @@ FitSteps count (step ∷ steps) = FitsStep count step × FitSteps (count_after c
 -- a child was started
 pub record StartDone (words : List (List ℕ)) (children_old children_new : Children) (started_old started_new : ℕ)
     (old new : Option (List SpawnCall)) : Type 0 where
-  pub tells : Tells old new (Started words ∷ [])
+  pub reports : Reports old new (Started words ∷ [])
   pub next : started_new ≡ started_old + 1
   pub count : children_new.count ≡ children_old.count + 1
   pub last : children_new.last ≡ started_new
@@ -41,11 +41,11 @@ pub record StartDone (words : List (List ℕ)) (children_old children_new : Chil
 -- a child has ended, and its status was written
 pub record WaitDone (number : ℕ) (name : ChildName) (old new : Option (List SpawnCall)) (Writes : List ℕ → Type 0) : Type 0 where
   pub status : ℤ
-  pub tells : Tells old new (Ended number status ∷ [])
+  pub reports : Reports old new (Ended number status ∷ [])
   pub written : Writes (status_line name status)
 
 abbrev pub WaitStops : ℕ → ChildName → (old new : Option (List SpawnCall)) → (out_old out_new : Option (List ℕ)) → PairFault → Type 0
-WaitStops number name old new out_old out_new Child = Tells old new [] × (out_new ≡ out_old)
+WaitStops number name old new out_old out_new Child = Reports old new [] × (out_new ≡ out_old)
 WaitStops number name old new out_old out_new Write = WaitDone number name old new (AppendsFront out_old out_new)
 
 -- a step was done
@@ -57,5 +57,5 @@ pub record StepDone (step : PairStep) (children_old children_new : Children) (st
   pub counted : IsCounted children_new started_new
 
 abbrev pub StepStops : PairStep → Children → ℕ → (old new : Option (List SpawnCall)) → (out_old out_new : Option (List ℕ)) → PairFault → Type 0
-StepStops step children started old new out_old out_new Child = Tells old new [] × (out_new ≡ out_old)
+StepStops step children started old new out_old out_new Child = Reports old new [] × (out_new ≡ out_old)
 StepStops step children started old new out_old out_new Write = IsPair (step ∷ []) (started - children.count) old new (AppendsFront out_old out_new)

@@ -20,7 +20,7 @@ ghost use Rattle.link_parts.specs.ClientRuns.{Runs, IsEndedBy, IsClient, IsScrip
 use crate::receiving::DATAGRAM_ROOM;
 use crate::role::ClientRole;
 use crate::status::NodeEnd;
-use ft_io::{Addr, Failed, Heard, Link, NoMemory, ReadEnd, Sink, Source, read_to_limit, write_all};
+use ft_io::{Addr, Failed, Receipt, Link, NoMemory, ReadEnd, Sink, Source, read_to_limit, write_all};
 use ft_model::Script;
 use peer_client::{ClientEnd, LiveClient};
 use std::alloc::Global;
@@ -80,7 +80,7 @@ fn accept_room(alloc: Global) -> Result<Vec<u8>, NoMemory>
 
 /// Hands each packet to send, in order. One whose send fails is lost.
 fn send_all<L: Link>(link: &mut L, to: Addr, outbox: &Outbox)
-    ensures handed { AreHanded to outbox.now (L.told link.old) (L.told link.new) }
+    ensures handed { AreHanded to outbox.now (L.reported link.old) (L.reported link.new) }
     ensures no_bind_fault { L.bind_fault_count link.new ≡ L.bind_fault_count link.old }
 {
     for i in 0..outbox.len() {
@@ -90,7 +90,7 @@ fn send_all<L: Link>(link: &mut L, to: Addr, outbox: &Outbox)
 
 /// Ends a turn of the client by a flush, whose packets are handed to send.
 fn flush<L: Link>(link: &mut L, to: Addr, client: &mut LiveClient, outbox: &mut Outbox)
-    ensures sent { AreHanded to (packets_lem (sent_by client.old)) (L.told link.old) (L.told link.new) }
+    ensures sent { AreHanded to (packets_lem (sent_by client.old)) (L.reported link.old) (L.reported link.new) }
     ensures state { client.new ≡ turned client.old }
     ensures no_bind_fault { L.bind_fault_count link.new ≡ L.bind_fault_count link.old }
 {
@@ -102,13 +102,13 @@ fn flush<L: Link>(link: &mut L, to: Addr, client: &mut LiveClient, outbox: &mut 
 /// Receives once, and passes the datagram, or else a tick, to the client.
 fn receive<L: Link>(link: &mut L, client: &mut LiveClient)
     requires { IsShort client.old.tcb.sending }
-    ensures received { HasReceived client.old client.new (L.told link.old) (L.told link.new) }
+    ensures received { HasReceived client.old client.new (L.reported link.old) (L.reported link.new) }
     ensures no_bind_fault { L.bind_fault_count link.new ≡ L.bind_fault_count link.old }
 {
     let mut buffer = [0; DATAGRAM_ROOM];
     match link.recv(&mut buffer) {
-        Ok(Heard::Got { len, .. }) => client.on_packet(&buffer[..len]),
-        Ok(Heard::Nothing) | Err(Failed) => client.on_tick(),
+        Ok(Receipt::Got { len, .. }) => client.on_packet(&buffer[..len]),
+        Ok(Receipt::Nothing) | Err(Failed) => client.on_tick(),
     }
 }
 
@@ -123,10 +123,10 @@ fn take_turn<L: Link, O: Sink>(
 ) -> Result<(), Failed>
     requires limited { IsLimited role.now.isn client.old }
     requires room { ACCEPT_ROOM ≤ length room.old }
-    ensures turned { OnOk result (HasTurned role.now.server client.old client.new (L.told link.old) (L.told link.new)
+    ensures turned { OnOk result (HasTurned role.now.server client.old client.new (L.reported link.old) (L.reported link.new)
         (Appends (O.taken out.old) (O.taken out.new))) }
     ensures cut_short { OnErr result
-        (HasTurned role.now.server client.old client.new (L.told link.old) (L.told link.new) (AppendsFront (O.taken out.old) (O.taken out.new))) }
+        (HasTurned role.now.server client.old client.new (L.reported link.old) (L.reported link.new) (AppendsFront (O.taken out.old) (O.taken out.new))) }
     ensures cause { OnErr result (Rose (O.fault_count out.old) (O.fault_count out.new)) }
     ensures never_falls { O.fault_count out.old ≤ O.fault_count out.new }
     ensures no_write_fault { OnOk result (O.fault_count out.new ≡ O.fault_count out.old) }
@@ -150,10 +150,10 @@ fn take_turns<L: Link, O: Sink>(
     requires fresh { IsFresh role.now client.old }
     requires room { ACCEPT_ROOM ≤ length room.old }
     ensures done { OnOk result ((machine : Client) → BeginsBeside client.old machine
-        → Runs client.old machine role.now.turns [] (L.told link.old) (L.told link.new) (Appends (O.taken out.old) (O.taken out.new))
+        → Runs client.old machine role.now.turns [] (L.reported link.old) (L.reported link.new) (Appends (O.taken out.old) (O.taken out.new))
         (IsEndedBy ClientEnd.Closed)) }
     ensures stops { IfErr result (λ end. (machine : Client) → BeginsBeside client.old machine
-        → RunStops client.old machine role.now.turns [] (L.told link.old) (L.told link.new) (O.taken out.old) (O.taken out.new) end) }
+        → RunStops client.old machine role.now.turns [] (L.reported link.old) (L.reported link.new) (O.taken out.old) (O.taken out.new) end) }
     ensures cause { IsErrOf result NodeEnd.WriteFault → Rose (O.fault_count out.old) (O.fault_count out.new) }
     ensures no_bind { IsErrOf result NodeEnd.LinkFault → ⊥ }
     ensures no_read { IsErrOf result NodeEnd.ReadFault → ⊥ }
@@ -183,9 +183,9 @@ fn run_script<L: Link, O: Sink>(
     out: &mut O,
 ) -> Result<(), NodeEnd>
     requires { length script.items ≤ longest_stream }
-    ensures done { OnOk result (IsClient role.now script.items (L.told link.old) (L.told link.new) (Appends (O.taken out.old) (O.taken out.new))
+    ensures done { OnOk result (IsClient role.now script.items (L.reported link.old) (L.reported link.new) (Appends (O.taken out.old) (O.taken out.new))
         (IsEndedBy ClientEnd.Closed)) }
-    ensures stops { IfErr result (ScriptRunStops role.now script.items (L.told link.old) (L.told link.new) (O.taken out.old) (O.taken out.new)) }
+    ensures stops { IfErr result (ScriptRunStops role.now script.items (L.reported link.old) (L.reported link.new) (O.taken out.old) (O.taken out.new)) }
     ensures bind_cause { IsErrOf result NodeEnd.LinkFault → Rose (L.bind_fault_count link.old) (L.bind_fault_count link.new) }
     ensures write_cause { IsErrOf result NodeEnd.WriteFault → Rose (O.fault_count out.old) (O.fault_count out.new) }
     ensures no_read { IsErrOf result NodeEnd.ReadFault → ⊥ }
@@ -224,9 +224,9 @@ pub fn run_client<L: Link, I: Source, O: Sink>(
     out: &mut O,
 ) -> Result<(), NodeEnd>
     requires { IfSome role.now.script (λ script. length (bytes_lem script) ≤ longest_stream) }
-    ensures done { OnOk result (RunsScript role.now (I.left input.old) (I.left input.new) (L.told link.old) (L.told link.new)
+    ensures done { OnOk result (RunsScript role.now (I.left input.old) (I.left input.new) (L.reported link.old) (L.reported link.new)
         (Appends (O.taken out.old) (O.taken out.new)) (IsEndedBy ClientEnd.Closed)) }
-    ensures stops { IfErr result (ClientStops role.now (I.left input.old) (I.left input.new) (L.told link.old) (L.told link.new) (O.taken out.old)
+    ensures stops { IfErr result (ClientStops role.now (I.left input.old) (I.left input.new) (L.reported link.old) (L.reported link.new) (O.taken out.old)
         (O.taken out.new)) }
     ensures read_cause { IsErrOf result NodeEnd.ReadFault → Rose (I.fault_count input.old) (I.fault_count input.new) }
     ensures bind_cause { IsErrOf result NodeEnd.LinkFault → Rose (L.bind_fault_count link.old) (L.bind_fault_count link.new) }

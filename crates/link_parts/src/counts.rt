@@ -4,13 +4,13 @@ ghost use Rattle.std.specs.Prelude.{ℕ, List, ◌≡◌, ◌++◌, ◌<◌, ◌
 ghost use Rattle.std.specs.Io.KnownBytes.{Appends};
 ghost use Rattle.ft_io.specs.Faults.{Rose};
 ghost use Rattle.ft_io.specs.declared.Addr.{Addr};
-ghost use Rattle.ft_io.specs.Link.{recv_told, send_told};
+ghost use Rattle.ft_io.specs.Link.{recv_reported, send_reported};
 ghost use Rattle.link_parts.specs.Counts.{no_calls, with_calls, HasRoom, count_line};
 ghost use Rattle.link_parts.specs.Ends.{UnlessFault};
-ghost use Rattle.link_parts.specs.LineOutput.{TellStops};
+ghost use Rattle.link_parts.specs.LineOutput.{ReportStops};
 
 use crate::status::NodeEnd;
-use ft_io::{Failed, Heard, NoMemory, Sink, write_all};
+use ft_io::{Failed, Receipt, NoMemory, Sink, write_all};
 use itoa::Buffer;
 use std::alloc::Global;
 
@@ -44,14 +44,14 @@ impl Counts {
     }
 
     /// Counts a receive.
-    pub fn note_received(&mut self, heard: &Result<Heard, Failed>)
+    pub fn note_received(&mut self, receipt: &Result<Receipt, Failed>)
         requires { HasRoom 1 self.old }
-        ensures { (buffer : List ℕ) → self.new ≡ with_calls self.old (recv_told heard.now buffer) }
+        ensures { (buffer : List ℕ) → self.new ≡ with_calls self.old (recv_reported receipt.now buffer) }
     {
         self.turns += 1;
-        match heard {
-            Ok(Heard::Got { .. }) => self.datagrams += 1,
-            Ok(Heard::Nothing) => (),
+        match receipt {
+            Ok(Receipt::Got { .. }) => self.datagrams += 1,
+            Ok(Receipt::Nothing) => (),
             Err(Failed) => self.failed += 1,
         }
     }
@@ -59,7 +59,7 @@ impl Counts {
     /// Counts a send.
     pub fn note_sent(&mut self, sent: &Result<(), Failed>)
         requires { HasRoom 1 self.old }
-        ensures { (to : Addr) (bytes : List ℕ) → self.new ≡ with_calls self.old (send_told to bytes sent.now) }
+        ensures { (to : Addr) (bytes : List ℕ) → self.new ≡ with_calls self.old (send_reported to bytes sent.now) }
     {
         match sent {
             Ok(()) => self.sent += 1,
@@ -96,7 +96,7 @@ fn line_of(alloc: Global, counts: &Counts) -> Result<Vec<u8>, NoMemory>
 /// Writes the line of the counts.
 pub fn write_counts<O: Sink>(alloc: Global, counts: &Counts, out: &mut O) -> Result<(), NodeEnd>
     ensures written { OnOk result (Appends (O.taken out.old) (O.taken out.new) (count_line counts.now)) }
-    ensures stops { IfErr result (TellStops (count_line counts.now) (O.taken out.old) (O.taken out.new)) }
+    ensures stops { IfErr result (ReportStops (count_line counts.now) (O.taken out.old) (O.taken out.new)) }
     ensures cause { IsErrOf result NodeEnd.WriteFault → Rose (O.fault_count out.old) (O.fault_count out.new) }
     ensures no_fault { UnlessFault result (O.fault_count out.new ≡ O.fault_count out.old) }
 {

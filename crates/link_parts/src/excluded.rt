@@ -7,7 +7,7 @@ ghost use Rattle.seq_arith.specs.declared.kinds.BadMsg.{BadMsg};
 ghost use Rattle.seq_arith.specs.declared.kinds.Grammar.TheVariants as grammars;
 ghost use Rattle.tcp_rules.specs.declared.profile.Profile.TheVariants as profiles;
 ghost use Rattle.ft_io.specs.declared.link_call.LinkCall.TheVariants.{Bound};
-ghost use Rattle.ft_io.specs.Told.{Tells};
+ghost use Rattle.ft_io.specs.Reported.{Reports};
 ghost use Rattle.link_parts.specs.LoggerTurns.{LoggerTurn, calls_of};
 ghost use Rattle.link_parts.specs.Options.{Use, HasValues, value_of};
 ghost use Rattle.link_parts.specs.Roles.{turns_in, times_in};
@@ -36,7 +36,7 @@ fn always_faults_at_the_bind<L: Link, O: Sink>(
     requires turns { role.now.turns ≤ most_turns }
     requires countable { L.bind_fault_count link.old < 2 ^ 64 - 1 }
     ensures failed { IsErrOf result NodeEnd.LinkFault → L.bind_fault_count link.old < L.bind_fault_count link.new }
-    ensures untold { IsErrOf result NodeEnd.LinkFault → Tells (L.told link.old) (L.told link.new) [] }
+    ensures unreported { IsErrOf result NodeEnd.LinkFault → Reports (L.reported link.old) (L.reported link.new) [] }
 {
     run_logger(alloc, role, link, out)
 }
@@ -80,7 +80,7 @@ fn a_logger_ignores_the_profile<L: Link, O: Sink>(
     requires turns { role.now.turns ≤ most_turns }
     requires chosen { role.now.profile ≡ profiles.Wan }
     ensures { OnOk result ((turns : List LoggerTurn)
-        × Tells (L.told link.old) (L.told link.new) (Bound role.now.local ∷ calls_of grammars.Wide turns)) }
+        × Reports (L.reported link.old) (L.reported link.new) (Bound role.now.local ∷ calls_of grammars.Wide turns)) }
 {
     run_logger(alloc, role, link, out)
 }

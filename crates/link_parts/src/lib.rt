@@ -17,7 +17,7 @@ pub use role::{
     number_or, read_lasting_role, read_own_role, read_role,
 };
 pub use status::{NodeEnd, Status};
-pub use telling::report_end;
+pub use reporting::report_end;
 
 mod client;
 mod counts;
@@ -29,4 +29,4 @@ mod program;
 mod receiving;
 mod role;
 mod status;
-mod telling;
+mod reporting;

@@ -5,7 +5,7 @@ ghost use Rattle.std.specs.Prelude.{List, ◌≡◌, ◌≤◌, [], ◌∷◌, t
 ghost use Rattle.std.specs.Io.KnownBytes.{Appends};
 ghost use Rattle.ft_io.specs.Faults.{Rose};
 ghost use Rattle.seq_arith.specs.MessageGrammar.{reading_by};
-ghost use Rattle.ft_io.specs.Told.{Tells};
+ghost use Rattle.ft_io.specs.Reported.{Reports};
 ghost use Rattle.ft_io.specs.declared.link_call.LinkCall.{LinkCall};
 ghost use Rattle.ft_io.specs.declared.link_call.LinkCall.TheVariants.{Bound};
 ghost use Rattle.std.specs.declared.option.Option.{Option};
@@ -47,7 +47,7 @@ pub(crate) fn answer(
 /// Hands an answer to send, if it has bytes.
 fn reply<L: Link>(link: &mut L, to: Addr, answer: &MsgOut, counts: &mut Counts)
     requires { HasRoom 1 counts.old }
-    ensures replies { Replies to answer.now (L.told link.old) (L.told link.new) counts.old counts.new }
+    ensures replies { Replies to answer.now (L.reported link.old) (L.reported link.new) counts.old counts.new }
     ensures no_bind_fault { L.bind_fault_count link.new ≡ L.bind_fault_count link.old }
 {
     let bytes = answer.bytes();
@@ -67,8 +67,8 @@ fn take_turn<L: Link>(
     counts: &mut Counts,
 ) -> Result<(), NoMemory>
     requires { HasRoom 2 counts.old }
-    ensures turned { OnOk result (HasTurned grammar store.old store.new (L.told link.old) (L.told link.new) counts.old counts.new) }
-    ensures cut_off { OnErr result ((calls : List LinkCall) × IsStarved grammar store.old calls × Tells (L.told link.old) (L.told link.new) calls) }
+    ensures turned { OnOk result (HasTurned grammar store.old store.new (L.reported link.old) (L.reported link.new) counts.old counts.new) }
+    ensures cut_off { OnErr result ((calls : List LinkCall) × IsStarved grammar store.old calls × Reports (L.reported link.old) (L.reported link.new) calls) }
     ensures no_bind_fault { L.bind_fault_count link.new ≡ L.bind_fault_count link.old }
 {
     let mut buffer = [0; DATAGRAM_ROOM];
@@ -88,8 +88,8 @@ fn serve<L: Link>(
     turns: u64,
 ) -> Result<Counts, NoMemory>
     requires { turns ≤ most_turns }
-    ensures served { IfOk result (λ counts. HasCounted grammar turns (L.told link.old) (L.told link.new) counts) }
-    ensures cut_off { OnErr result (IsCutServing grammar turns (L.told link.old) (L.told link.new)) }
+    ensures served { IfOk result (λ counts. HasCounted grammar turns (L.reported link.old) (L.reported link.new) counts) }
+    ensures cut_off { OnErr result (IsCutServing grammar turns (L.reported link.old) (L.reported link.new)) }
     ensures no_bind_fault { L.bind_fault_count link.new ≡ L.bind_fault_count link.old }
 {
     let mut store = LogStore::new(alloc);
@@ -101,17 +101,17 @@ fn serve<L: Link>(
 }
 
 /// Runs a logger after its bind: takes its turns, and writes the line of the counts.
-fn serve_and_tell<L: Link, O: Sink>(
+fn serve_and_report<L: Link, O: Sink>(
     alloc: Global,
     role: &LoggerRole,
     link: &mut L,
     out: &mut O,
 ) -> Result<(), NodeEnd>
     requires { role.now.turns ≤ most_turns }
-    ensures done { OnOk result ((before : Option (List LinkCall)) → Tells before (L.told link.old) (Bound role.now.local ∷ [])
-        → IsLogger role.now before (L.told link.new) (Appends (O.taken out.old) (O.taken out.new))) }
-    ensures stops { IfErr result (λ end. (before : Option (List LinkCall)) → Tells before (L.told link.old) (Bound role.now.local ∷ [])
-        → LoggerStops role.now before (L.told link.new) (O.taken out.old) (O.taken out.new) end) }
+    ensures done { OnOk result ((before : Option (List LinkCall)) → Reports before (L.reported link.old) (Bound role.now.local ∷ [])
+        → IsLogger role.now before (L.reported link.new) (Appends (O.taken out.old) (O.taken out.new))) }
+    ensures stops { IfErr result (λ end. (before : Option (List LinkCall)) → Reports before (L.reported link.old) (Bound role.now.local ∷ [])
+        → LoggerStops role.now before (L.reported link.new) (O.taken out.old) (O.taken out.new) end) }
     ensures write_cause { IsErrOf result NodeEnd.WriteFault → Rose (O.fault_count out.old) (O.fault_count out.new) }
     ensures bound { IsErrOf result NodeEnd.LinkFault → ⊥ }
     ensures no_bind_fault { L.bind_fault_count link.new ≡ L.bind_fault_count link.old }
@@ -131,8 +131,8 @@ pub fn run_logger<L: Link, O: Sink>(
     out: &mut O,
 ) -> Result<(), NodeEnd>
     requires { role.now.turns ≤ most_turns }
-    ensures done { OnOk result (IsLogger role.now (L.told link.old) (L.told link.new) (Appends (O.taken out.old) (O.taken out.new))) }
-    ensures stops { IfErr result (LoggerStops role.now (L.told link.old) (L.told link.new) (O.taken out.old) (O.taken out.new)) }
+    ensures done { OnOk result (IsLogger role.now (L.reported link.old) (L.reported link.new) (Appends (O.taken out.old) (O.taken out.new))) }
+    ensures stops { IfErr result (LoggerStops role.now (L.reported link.old) (L.reported link.new) (O.taken out.old) (O.taken out.new)) }
     ensures bind_cause { IsErrOf result NodeEnd.LinkFault → Rose (L.bind_fault_count link.old) (L.bind_fault_count link.new) }
     ensures write_cause { IsErrOf result NodeEnd.WriteFault → Rose (O.fault_count out.old) (O.fault_count out.new) }
     ensures no_bind_fault { UnlessFault result (L.bind_fault_count link.new ≡ L.bind_fault_count link.old) }
@@ -140,6 +140,6 @@ pub fn run_logger<L: Link, O: Sink>(
 {
     match link.bind(role.local) {
         Err(Failed) => Err(NodeEnd::LinkFault),
-        Ok(()) => serve_and_tell(alloc, role, link, out),
+        Ok(()) => serve_and_report(alloc, role, link, out),
     }
 }

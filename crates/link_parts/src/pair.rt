@@ -6,7 +6,7 @@ ghost use Rattle.std.specs.Fmt.{signed_decimal};
 ghost use Rattle.std.specs.Io.KnownBytes.{Appends};
 ghost use Rattle.ft_io.specs.Faults.{Rose};
 ghost use Rattle.ft_io.specs.Sink.{AppendsFront};
-ghost use Rattle.ft_io.specs.Told.{Tells};
+ghost use Rattle.ft_io.specs.Reported.{Reports};
 ghost use Rattle.link_parts.specs.Pair.{name_of, status_text as text_lem, status_line, address_at, logger_start, server_start, client_start, steps_of};
 ghost use Rattle.link_parts.specs.Pair.{IsPair, StepsStop, PairStops};
 ghost use Rattle.link_parts.specs.Ends.{UnlessFault};
@@ -223,8 +223,8 @@ struct Children {
 /// Starts a child.
 fn start<P: Spawner>(words: &Words, children: &mut Children, kids: &mut P) -> Result<(), PairFault>
     requires { children.old.count ≤ 8 }
-    ensures done { OnOk result (StartDone words.now children.old children.new (P.started kids.old) (P.started kids.new) (P.told kids.old) (P.told kids.new)) }
-    ensures stops { IfErr result (λ end. (end ≡ PairFault.Child) × Tells (P.told kids.old) (P.told kids.new) []) }
+    ensures done { OnOk result (StartDone words.now children.old children.new (P.started kids.old) (P.started kids.new) (P.reported kids.old) (P.reported kids.new)) }
+    ensures stops { IfErr result (λ end. (end ≡ PairFault.Child) × Reports (P.reported kids.old) (P.reported kids.new) []) }
     ensures cause { OnErr result (Rose (P.fault_count kids.old) (P.fault_count kids.new)) }
     ensures never_falls { P.fault_count kids.old ≤ P.fault_count kids.new }
     ensures no_fault { OnOk result (P.fault_count kids.new ≡ P.fault_count kids.old) }
@@ -249,8 +249,8 @@ fn wait<P: Spawner, O: Sink>(
     requires from_one { 1 ≤ number }
     requires started { number ≤ P.started kids.old }
     ensures same_children { P.started kids.new ≡ P.started kids.old }
-    ensures done { OnOk result (WaitDone number name (P.told kids.old) (P.told kids.new) (Appends (O.taken out.old) (O.taken out.new))) }
-    ensures stops { IfErr result (WaitStops number name (P.told kids.old) (P.told kids.new) (O.taken out.old) (O.taken out.new)) }
+    ensures done { OnOk result (WaitDone number name (P.reported kids.old) (P.reported kids.new) (Appends (O.taken out.old) (O.taken out.new))) }
+    ensures stops { IfErr result (WaitStops number name (P.reported kids.old) (P.reported kids.new) (O.taken out.old) (O.taken out.new)) }
     ensures child_cause { IsErrOf result PairFault.Child → Rose (P.fault_count kids.old) (P.fault_count kids.new) }
     ensures write_cause { IsErrOf result PairFault.Write → Rose (O.fault_count out.old) (O.fault_count out.new) }
     ensures child_faults { P.fault_count kids.old ≤ P.fault_count kids.new }
@@ -277,9 +277,9 @@ fn take_step<P: Spawner, O: Sink>(
     requires counted { IsCounted children.old (P.started kids.old) }
     requires fits { FitsStep children.old.count step.now }
     requires few { children.old.count ≤ 8 }
-    ensures done { OnOk result (StepDone step.now children.old children.new (P.started kids.old) (P.started kids.new) (P.told kids.old) (P.told kids.new)
+    ensures done { OnOk result (StepDone step.now children.old children.new (P.started kids.old) (P.started kids.new) (P.reported kids.old) (P.reported kids.new)
         (Appends (O.taken out.old) (O.taken out.new))) }
-    ensures stops { IfErr result (StepStops step.now children.old (P.started kids.old) (P.told kids.old) (P.told kids.new)
+    ensures stops { IfErr result (StepStops step.now children.old (P.started kids.old) (P.reported kids.old) (P.reported kids.new)
         (O.taken out.old) (O.taken out.new)) }
     ensures child_cause { IsErrOf result PairFault.Child → Rose (P.fault_count kids.old) (P.fault_count kids.new) }
     ensures write_cause { IsErrOf result PairFault.Write → Rose (O.fault_count out.old) (O.fault_count out.new) }
@@ -307,8 +307,8 @@ fn take_steps<P: Spawner, O: Sink>(
 ) -> Result<(), PairFault>
     requires fit { FitSteps 0 steps.now }
     requires few { length steps.now ≤ 8 }
-    ensures done { OnOk result (IsPair steps.now (P.started kids.old) (P.told kids.old) (P.told kids.new) (Appends (O.taken out.old) (O.taken out.new))) }
-    ensures stops { IfErr result (StepsStop steps.now (P.started kids.old) (P.told kids.old) (P.told kids.new) (O.taken out.old) (O.taken out.new)) }
+    ensures done { OnOk result (IsPair steps.now (P.started kids.old) (P.reported kids.old) (P.reported kids.new) (Appends (O.taken out.old) (O.taken out.new))) }
+    ensures stops { IfErr result (StepsStop steps.now (P.started kids.old) (P.reported kids.old) (P.reported kids.new) (O.taken out.old) (O.taken out.new)) }
     ensures child_cause { IsErrOf result PairFault.Child → Rose (P.fault_count kids.old) (P.fault_count kids.new) }
     ensures write_cause { IsErrOf result PairFault.Write → Rose (O.fault_count out.old) (O.fault_count out.new) }
     ensures no_child_fault { OnOk result (P.fault_count kids.new ≡ P.fault_count kids.old) }
@@ -329,9 +329,9 @@ pub fn run_pair<P: Spawner, O: Sink>(
     out: &mut O,
 ) -> Result<(), NodeEnd>
     requires { role.now.base ≤ 65533 }
-    ensures done { OnOk result (IsPair (steps_of role.now) (P.started kids.old) (P.told kids.old) (P.told kids.new)
+    ensures done { OnOk result (IsPair (steps_of role.now) (P.started kids.old) (P.reported kids.old) (P.reported kids.new)
         (Appends (O.taken out.old) (O.taken out.new))) }
-    ensures stops { IfErr result (PairStops role.now (P.started kids.old) (P.told kids.old) (P.told kids.new) (O.taken out.old) (O.taken out.new)) }
+    ensures stops { IfErr result (PairStops role.now (P.started kids.old) (P.reported kids.old) (P.reported kids.new) (O.taken out.old) (O.taken out.new)) }
     ensures child_cause { IsErrOf result NodeEnd.ChildFault → Rose (P.fault_count kids.old) (P.fault_count kids.new) }
     ensures write_cause { IsErrOf result NodeEnd.WriteFault → Rose (O.fault_count out.old) (O.fault_count out.new) }
     ensures no_child_fault { UnlessFault result (P.fault_count kids.new ≡ P.fault_count kids.old) }

@@ -12,7 +12,7 @@
 //! - `own WORDS` is the same as `run`, with the service Counter, and `node WORDS` is the same for `node`;
 //! - `start WORDS` starts `ftnode` as a process, and prints its exit status and what it wrote to both outputs. Its shell's command is that of a line `shell
 //!   TEXT` before it, where `$0` is the program and `$@` are its words. `answer HEX` is what a peer at 127.0.0.1:7461 answers to the datagrams that reach it,
-//!   one after another, and `hold FILE` keeps this journal open meanwhile. Before that the peer says what lines `tell ADDRESS HEX` have, each until an answer
+//!   one after another, and `hold FILE` keeps this journal open meanwhile. Before that the peer says what lines `shown ADDRESS HEX` have, each until an answer
 //!   comes, which is printed, and once what lines `throw ADDRESS HEX` have.
 //!
 //! The program that calls `run` is `$0`. With the words of `ftnode` it must be `ftnode`, by `run_ftnode`.

@@ -2,7 +2,7 @@
 //! makes. So it starts itself again.
 
 use disk::FileDisk;
-use ft_io::{Addr, Heard, Link};
+use ft_io::{Addr, Receipt, Link};
 use ft_system::UdpLink;
 use std::alloc::Global;
 use std::fs::{File, Files};
@@ -171,7 +171,7 @@ fn ask<L: Link>(peer: &mut L, question: &Question, last: &mut [u8; 2048]) -> Opt
             let _ = peer.send(question.to, question.bytes.as_slice());
         }
         let mut came = [0u8; 2048];
-        if let Ok(Heard::Got { len, .. }) = peer.recv(&mut came)
+        if let Ok(Receipt::Got { len, .. }) = peer.recv(&mut came)
             && came != *last
         {
             *last = came;
@@ -190,7 +190,7 @@ fn answer_all<L: Link>(peer: &mut L, answers: &[Vec<u8>]) {
             return;
         }
         let mut came = [0u8; 2048];
-        if let Ok(Heard::Got { from, .. }) = peer.recv(&mut came) {
+        if let Ok(Receipt::Got { from, .. }) = peer.recv(&mut came) {
             if given == 0 || came != last {
                 given = given.saturating_add(1);
                 last = came;

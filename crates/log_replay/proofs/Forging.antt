@@ -14,7 +14,7 @@ use Rattle.endpoint_laws.specs.Turn.{turned}
 use Rattle.endpoint_laws.proofs.Bounding.{bounded_is_short}
 use Rattle.endpoint_laws.proofs.Listening.{listens_at_listen_measuring}
 use Rattle.endpoint_laws.proofs.FirstPoint.{begins_law}
-use Rattle.connection_laws.specs.Splice.{forged_syn, connected_measuring, GoesOnFrom}
+use Rattle.connection_laws.specs.Splice.{forged_syn, connected_measuring, ProceedsFrom}
 use Rattle.connection_laws.proofs.Spliced.{splices}
 use Rattle.log_replay.specs.LoggedHead.{IsSegmentSize}
 
@@ -60,7 +60,7 @@ pub connected_short : (measures : Bool) (key : Key) (local : Addr) (cisn fetched
 connected_short measures key local cisn fetched mss i h segments fits =
     let e : Entry = logged key cisn fetched mss in
     let size : length e.bytes ≡ fetched = length-replicate fetched 0 in
-    let g : GoesOnFrom idle e i = record {
+    let g : ProceedsFrom idle e i = record {
       least = segments.0;
       most = segments.1;
       short = omega (arith, size, h);

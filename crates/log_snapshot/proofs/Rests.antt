@@ -8,7 +8,7 @@ use Rattle.seq_arith.specs.Message.Body.{OpenMsg, DataMsg, DoneMsg}
 use Rattle.ft_model.specs.Log.{Entry, numbers_of_entry}
 use Rattle.long_laws.specs.Snapshot.{said, data_of, reads_of, done_of}
 use Rattle.log_snapshot.specs.Steps.{part_at, read_at, done_at, after_bytes, IsRest}
-use Rattle.log_snapshot.specs.declared.saying.Step.TheVariants.{Open, Bytes, State, Reads, Done}
+use Rattle.log_snapshot.specs.declared.writing_steps.Step.TheVariants.{Open, Bytes, State, Reads, Done}
 
 pub opening : (boot : ℕ) (e : Entry) (rest : List Message) → IsRest boot e (Some (Bytes 0)) rest → IsRest boot e (Some Open) (said boot (OpenMsg (numbers_of_entry e)) ∷ rest)
 opening boot e rest (pieces, all, is) = (pieces, all, ap (λ (l : List Message). said boot (OpenMsg (numbers_of_entry e)) ∷ l) is)

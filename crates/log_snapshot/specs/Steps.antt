@@ -6,8 +6,8 @@ use Rattle.seq_arith.specs.MessageGrammar.{reading_by}
 use Rattle.seq_arith.specs.declared.kinds.Grammar.{Grammar}
 use Rattle.ft_model.specs.Log.{Entry}
 use Rattle.long_laws.specs.Snapshot.{said, joined, data_of, last_data, reads_of, done_of, messages_of}
-use Rattle.log_snapshot.specs.declared.saying.Step.{Step}
-use Rattle.log_snapshot.specs.declared.saying.Step.TheVariants.{Open, Bytes, State, Reads, Done}
+use Rattle.log_snapshot.specs.declared.writing_steps.Step.{Step}
+use Rattle.log_snapshot.specs.declared.writing_steps.Step.TheVariants.{Open, Bytes, State, Reads, Done}
 
 -- a part of an entry's bytes
 abbrev pub part_at : Entry → (offset : ℕ) → Part

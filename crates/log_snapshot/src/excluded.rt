@@ -9,7 +9,7 @@ ghost use Rattle.seq_arith.specs.MessageGrammar.{reading_by};
 ghost use Rattle.long_laws.specs.Snapshot.{said, joined, messages_of};
 ghost use Rattle.log_snapshot.specs.Steps.{IsSaid, IsRest};
 
-use crate::saying::{Step, write_state, write_step};
+use crate::writing_steps::{Step, write_state, write_step};
 use logger_store::{MsgOut, StoredEntry};
 use logger_wire::Grammar;
 

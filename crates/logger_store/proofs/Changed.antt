@@ -49,13 +49,13 @@ nothing_new part e none =
       if_true (e.fin || nat_lt (length e.bytes) part.offset) e _ (or_left e.fin _ closed),
       holds_either_way (λ x. x ≡ e) (part.fin && part.offset + length part.bytes == length e.bytes) (record e { fin = true }) e (fin_stays e closed) refl,
     ))
-    (λ goes_on. by_cases (nat_le part.offset (length e.bytes))
+    (λ proceeds. by_cases (nat_le part.offset (length e.bytes))
     (λ meets.
     let within : part.offset ≤ length e.bytes = leb-true part.offset (length e.bytes) meets in
-    let both : (not e.fin && nat_le part.offset (length e.bytes)) ≡ true = and_from (not e.fin) _ (ap not goes_on) meets in
+    let both : (not e.fin && nat_le part.offset (length e.bytes)) ≡ true = and_from (not e.fin) _ (ap not proceeds) meets in
     let rest = or_parts (nat_lt (length e.bytes) (part.offset + length part.bytes)) _ (and_rest (not e.fin && nat_le part.offset (length e.bytes)) _ both none) in
     let few : part.offset + length part.bytes ≤ length e.bytes = ltb-false (length e.bytes) (part.offset + length part.bytes) rest.0 in (
-      if_false (e.fin || nat_lt (length e.bytes) part.offset) e _ (or_from e.fin _ goes_on (le-ltb (length e.bytes) part.offset within)) ∙ bytes_stay part e (omega (arith, few, within)),
+      if_false (e.fin || nat_lt (length e.bytes) part.offset) e _ (or_from e.fin _ proceeds (le-ltb (length e.bytes) part.offset within)) ∙ bytes_stay part e (omega (arith, few, within)),
       fin_alone part e rest.1,
     ))
     (λ apart.
@@ -79,10 +79,10 @@ bytes_kept false e = refl
 
 news_differ : (part : Part) (e : Entry) → e.fin ≡ false → part.offset ≤ length e.bytes → with_part part e ≡ e
     → (nat_lt (length e.bytes) (part.offset + length part.bytes) ≡ true) ⊎ ((part.fin && part.offset + length part.bytes == length e.bytes) ≡ true) → ⊥
-news_differ part e goes_on within same news =
+news_differ part e proceeds within same news =
     let added : List ℕ = drop (length e.bytes - part.offset) part.bytes in
     let taken : with_bytes part e ≡ record e { bytes = e.bytes ++ added } =
-    if_false (e.fin || nat_lt (length e.bytes) part.offset) e _ (or_from e.fin _ goes_on (le-ltb (length e.bytes) part.offset within)) in
+    if_false (e.fin || nat_lt (length e.bytes) part.offset) e _ (or_from e.fin _ proceeds (le-ltb (length e.bytes) part.offset within)) in
     let count : length (with_bytes part e).bytes ≡ length e.bytes + (length part.bytes - (length e.bytes - part.offset)) =
     ap (λ x. length x.bytes) taken ∙ (length-append e.bytes added ∙ ap (λ n. length e.bytes + n) (length-drop (length e.bytes - part.offset) part.bytes)) in
     let all : length (with_bytes part e).bytes ≡ length e.bytes =
@@ -93,7 +93,7 @@ news_differ part e goes_on within same news =
           let both = and_parts part.fin _ ends in
           let here : (part.fin && part.offset + length part.bytes == length (with_bytes part e).bytes) ≡ true =
           and_from part.fin _ both.0 (ap (λ n. part.offset + length part.bytes == n) all ∙ both.1) in
-          false≢true (sym goes_on ∙ (sym (ap (λ x. x.fin) same)
+          false≢true (sym proceeds ∙ (sym (ap (λ x. x.fin) same)
           ∙ ap (λ x. x.fin) (if_true (part.fin && part.offset + length part.bytes == length (with_bytes part e).bytes) (record (with_bytes part e) { fin = true }) (with_bytes part e) here)))
     ]
 
@@ -177,9 +177,9 @@ boot_differs boot log larger same =
     let is : boot ≡ log.boot = ap (λ l. l.boot) same in
     omega (arith, ltb-true log.boot boot larger, is)
 
-heard_differs : (message : Message) (log : Log) → (if is_hello message.body then nat_lt log.boot message.boot else message.boot == log.boot && body_changes message.body log) ≡ true
+received_differs : (message : Message) (log : Log) → (if is_hello message.body then nat_lt log.boot message.boot else message.boot == log.boot && body_changes message.body log) ≡ true
     → (nat_lt message.boot log.boot ≡ false) × (with_message message log ≡ log → ⊥)
-heard_differs message log some =
+received_differs message log some =
     by_cases (is_hello message.body)
     (λ hello.
     let larger : nat_lt log.boot message.boot ≡ true = sym (if_true (is_hello message.body) _ _ hello) ∙ some in
@@ -200,7 +200,7 @@ unfolding changes log_after
 a_change_differs log message some same =
     let parts = and_parts (not (is_answer message.body)) _ some in
     let asks : is_answer message.body ≡ false = not-true (is_answer message.body) parts.0 in
-    let differs = heard_differs message log parts.1 in
+    let differs = received_differs message log parts.1 in
     differs.1 (sym (if_false (is_answer message.body || nat_lt message.boot log.boot) log (with_message message log) (or_from _ _ asks differs.0)) ∙ same)
 
 pub own_differs : (log : Log) (message : Message) → is_answer message.body ≡ false → is_hello message.body ≡ false → message.boot ≡ log.boot → body_changes message.body log ≡ true

@@ -64,33 +64,33 @@ same_known key (t ∷ trims) (l ∷ left) [] a = absurd a
 same_known key (t ∷ trims) (l ∷ left) (e ∷ es) a = ap₂ ◌||◌ (same_key_left t l e key a.0) (same_known key trims left es a.1)
 
 -- what is told alike of an entry and of what is left of it
-abbrev TellsAlike : (Option Entry → Option Body) → Type 0
-TellsAlike tell = (t : Trim) (l e : Entry) → IsLeft t l e → tell (Some l) ≡ tell (Some e)
+abbrev ReportsAlike : (Option Entry → Option Body) → Type 0
+ReportsAlike shown = (t : Trim) (l e : Entry) → IsLeft t l e → shown (Some l) ≡ shown (Some e)
 
-same_found : (tell : Option Entry → Option Body) → TellsAlike tell → (key : Key) (trims : List Trim) (left es : List Entry) → AreLeft trims left es
-    → tell (find (λ e. key_eq e.key key) left) ≡ tell (find (λ e. key_eq e.key key) es)
-same_found tell alike key [] left es a = ap (λ xs. tell (find (λ e. key_eq e.key key) xs)) a
-same_found tell alike key (t ∷ trims) [] [] a = refl
-same_found tell alike key (t ∷ trims) [] (e ∷ es) a = absurd a
-same_found tell alike key (t ∷ trims) (l ∷ left) [] a = absurd a
-same_found tell alike key (t ∷ trims) (l ∷ left) (e ∷ es) a =
-    by (key_eq l.key key) (key_eq e.key key) (same_key_left t l e key a.0) (same_found tell alike key trims left es a.1)
+same_found : (shown : Option Entry → Option Body) → ReportsAlike shown → (key : Key) (trims : List Trim) (left es : List Entry) → AreLeft trims left es
+    → shown (find (λ e. key_eq e.key key) left) ≡ shown (find (λ e. key_eq e.key key) es)
+same_found shown alike key [] left es a = ap (λ xs. shown (find (λ e. key_eq e.key key) xs)) a
+same_found shown alike key (t ∷ trims) [] [] a = refl
+same_found shown alike key (t ∷ trims) [] (e ∷ es) a = absurd a
+same_found shown alike key (t ∷ trims) (l ∷ left) [] a = absurd a
+same_found shown alike key (t ∷ trims) (l ∷ left) (e ∷ es) a =
+    by (key_eq l.key key) (key_eq e.key key) (same_key_left t l e key a.0) (same_found shown alike key trims left es a.1)
   where
-    by : (c d : Bool) → c ≡ d → tell (find (λ x. key_eq x.key key) left) ≡ tell (find (λ x. key_eq x.key key) es)
-        → tell (cond c (Some l) (find (λ x. key_eq x.key key) left)) ≡ tell (cond d (Some e) (find (λ x. key_eq x.key key) es))
+    by : (c d : Bool) → c ≡ d → shown (find (λ x. key_eq x.key key) left) ≡ shown (find (λ x. key_eq x.key key) es)
+        → shown (cond c (Some l) (find (λ x. key_eq x.key key) left)) ≡ shown (cond d (Some e) (find (λ x. key_eq x.key key) es))
     by true true p rest = alike t l e a.0
     by false false p rest = rest
     by true false p rest = absurd (true≢false p)
     by false true p rest = absurd (true≢false (sym p))
 
-same_at : (tell : Option Entry → Option Body) → TellsAlike tell → (i : ℕ) (trims : List Trim) (left es : List Entry) → AreLeft trims left es
-    → tell (slice_get left i) ≡ tell (slice_get es i)
-same_at tell alike i [] left es a = ap (λ xs. tell (slice_get xs i)) a
-same_at tell alike i (t ∷ trims) [] [] a = refl
-same_at tell alike i (t ∷ trims) [] (e ∷ es) a = absurd a
-same_at tell alike i (t ∷ trims) (l ∷ left) [] a = absurd a
-same_at tell alike zero (t ∷ trims) (l ∷ left) (e ∷ es) a = alike t l e a.0
-same_at tell alike (suc i) (t ∷ trims) (l ∷ left) (e ∷ es) a = same_at tell alike i trims left es a.1
+same_at : (shown : Option Entry → Option Body) → ReportsAlike shown → (i : ℕ) (trims : List Trim) (left es : List Entry) → AreLeft trims left es
+    → shown (slice_get left i) ≡ shown (slice_get es i)
+same_at shown alike i [] left es a = ap (λ xs. shown (slice_get xs i)) a
+same_at shown alike i (t ∷ trims) [] [] a = refl
+same_at shown alike i (t ∷ trims) [] (e ∷ es) a = absurd a
+same_at shown alike i (t ∷ trims) (l ∷ left) [] a = absurd a
+same_at shown alike zero (t ∷ trims) (l ∷ left) (e ∷ es) a = alike t l e a.0
+same_at shown alike (suc i) (t ∷ trims) (l ∷ left) (e ∷ es) a = same_at shown alike i trims left es a.1
 
 -- all but the bytes of an entry is told alike
 pub size_left : (t : Trim) (l e : Entry) → IsLeft t l e → length l.bytes ≡ length e.bytes
@@ -107,20 +107,20 @@ pub same_closing : (t : Trim) (l e : Entry) (n : ℕ) → IsLeft t l e → t.rea
 same_closing t l e n a further within =
     ap (λ x. reads_on (take n x.lengths)) a.same ∙ ap not (levelled_front_closing t.reads n e.lengths further within a.on)
 
-of_lengths : (tell : Entry → ℕ → ℕ → Body) → ((b r n k : ℕ) (e : Entry) → tell (without b r e) n k ≡ tell e n k)
-    → TellsAlike (λ o. on_entry (λ e. Some (tell e (length e.bytes) (length e.lengths))) o)
-of_lengths tell same t l e a =
-    (λ i. Some (tell l (size_left t l e a i) (count_left t l e a i)))
-    ∙ (ap (λ x. Some (tell x (length e.bytes) (length e.lengths))) a.same ∙ ap Some (same t.bytes t.reads (length e.bytes) (length e.lengths) e))
+of_lengths : (shown : Entry → ℕ → ℕ → Body) → ((b r n k : ℕ) (e : Entry) → shown (without b r e) n k ≡ shown e n k)
+    → ReportsAlike (λ o. on_entry (λ e. Some (shown e (length e.bytes) (length e.lengths))) o)
+of_lengths shown same t l e a =
+    (λ i. Some (shown l (size_left t l e a i) (count_left t l e a i)))
+    ∙ (ap (λ x. Some (shown x (length e.bytes) (length e.lengths))) a.same ∙ ap Some (same t.bytes t.reads (length e.bytes) (length e.lengths) e))
 
-heads_alike : (i : ℕ) → TellsAlike (on_entry (λ e. Some (EntryMsg i (head_of e))))
+heads_alike : (i : ℕ) → ReportsAlike (on_entry (λ e. Some (EntryMsg i (head_of e))))
 heads_alike i = of_lengths (λ e n k. EntryMsg i (record { key = e.key; cisn = e.cisn; sisn = e.sisn; mss = e.mss; length = n; fin = e.fin; done = e.done; reads = k; acked = e.acknowledged }))
     (λ b r n k e. refl)
 
-stable_alike : TellsAlike (on_entry (λ e. Some (StableMsg (kept_of e))))
+stable_alike : ReportsAlike (on_entry (λ e. Some (StableMsg (kept_of e))))
 stable_alike = of_lengths (λ e n k. StableMsg (record { key = e.key; length = n; fin = e.fin; reads = k })) (λ b r n k e. refl)
 
-reads_alike : TellsAlike (on_entry (λ e. Some (ReadsMsg (kept_of e))))
+reads_alike : ReportsAlike (on_entry (λ e. Some (ReadsMsg (kept_of e))))
 reads_alike = of_lengths (λ e n k. ReadsMsg (record { key = e.key; length = n; fin = e.fin; reads = k })) (λ b r n k e. refl)
 
 -- bytes past the trim are told alike
@@ -161,17 +161,17 @@ some_more n = go (nat_lt 0 (suc n)) refl
     go false p = let none = ltb-false 0 (suc n) p in absurd (omega (arith, none))
 
 -- what is asked of the key's entry past its trim, in bytes or in reads
-past_trim : (measure : Trim → ℕ) (at : ℕ) (tell : Entry → Option Body) → ((t : Trim) (l e : Entry) → IsLeft t l e → measure t ≤ at → tell l ≡ tell e) → (key : Key)
+past_trim : (measure : Trim → ℕ) (at : ℕ) (shown : Entry → Option Body) → ((t : Trim) (l e : Entry) → IsLeft t l e → measure t ≤ at → shown l ≡ shown e) → (key : Key)
     (trims : List Trim) (left es : List Entry) → AreLeft trims left es
     → nat_lt at (measure (option_map_or (trim_at trims) (position (key_eq key) (map (λ e. e.key) left)) no_trim)) ≡ false
-    → on_entry tell (find (λ e. key_eq e.key key) left) ≡ on_entry tell (find (λ e. key_eq e.key key) es)
-past_trim measure at tell alike key [] left es a past = ap (λ xs. on_entry tell (find (λ e. key_eq e.key key) xs)) a
-past_trim measure at tell alike key (t ∷ trims) [] [] a past = refl
-past_trim measure at tell alike key (t ∷ trims) [] (e ∷ es) a past = absurd a
-past_trim measure at tell alike key (t ∷ trims) (l ∷ left) [] a past = absurd a
-past_trim measure at tell alike key (t ∷ trims) (l ∷ left) (e ∷ es) a past =
+    → on_entry shown (find (λ e. key_eq e.key key) left) ≡ on_entry shown (find (λ e. key_eq e.key key) es)
+past_trim measure at shown alike key [] left es a past = ap (λ xs. on_entry shown (find (λ e. key_eq e.key key) xs)) a
+past_trim measure at shown alike key (t ∷ trims) [] [] a past = refl
+past_trim measure at shown alike key (t ∷ trims) [] (e ∷ es) a past = absurd a
+past_trim measure at shown alike key (t ∷ trims) (l ∷ left) [] a past = absurd a
+past_trim measure at shown alike key (t ∷ trims) (l ∷ left) (e ∷ es) a past =
     by (key_eq l.key key) (key_eq e.key key) (key_eq key l.key) (same_key_left t l e key a.0) (same_either_way l.key key)
-    (λ h. past_trim measure at tell alike key trims left es a.1 h)
+    (λ h. past_trim measure at shown alike key trims left es a.1 h)
     (subst (λ k. nat_lt at (measure (option_map_or (trim_at (t ∷ trims)) (cond (nat_lt (cond (not (key_eq key l.key)) k 0) (suc count)) (Some (cond (not (key_eq key l.key)) k 0)) None) no_trim)) ≡ false)
     (one_more first) past)
   where
@@ -190,9 +190,9 @@ past_trim measure at tell alike key (t ∷ trims) (l ∷ left) (e ∷ es) a past
 
     by : (c d f : Bool) → c ≡ d → c ≡ f
         → (nat_lt at (measure (option_map_or (trim_at trims) (cond (nat_lt first count) (Some first) None) no_trim)) ≡ false
-        → on_entry tell (find (λ x. key_eq x.key key) left) ≡ on_entry tell (find (λ x. key_eq x.key key) es))
+        → on_entry shown (find (λ x. key_eq x.key key) left) ≡ on_entry shown (find (λ x. key_eq x.key key) es))
         → nat_lt at (measure (option_map_or (trim_at (t ∷ trims)) (cond (nat_lt (cond (not f) (suc first) 0) (suc count)) (Some (cond (not f) (suc first) 0)) None) no_trim)) ≡ false
-        → on_entry tell (cond c (Some l) (find (λ x. key_eq x.key key) left)) ≡ on_entry tell (cond d (Some e) (find (λ x. key_eq x.key key) es))
+        → on_entry shown (cond c (Some l) (find (λ x. key_eq x.key key) left)) ≡ on_entry shown (cond d (Some e) (find (λ x. key_eq x.key key) es))
     by true true true p q rest h = alike t l e a.0
         (ltb-false at (measure t) (subst (λ b. nat_lt at (measure (option_map_or (trim_at (t ∷ trims)) (cond b (Some 0) None) no_trim)) ≡ false) (some_more count) h))
     by false false false p q rest h = rest (shifted (nat_lt (suc first) (suc count)) (nat_lt first count) (one_less first count) h)
@@ -265,37 +265,37 @@ more_acknowledged t log key units a =
     record { boot = a.boot; entries = changed_left key (acknowledging units) (λ u l e b. acknowledged_left u l e units b) t.trims t.log.entries log.entries a.entries }
 
 -- what is told once both logs have taken a message
-told_alike : (trims : List Trim) (body : Body) (left log : Log) → AreBoth trims left log → is_trimmed (record { log = left; trims = trims }) body ≡ false
+reported_alike : (trims : List Trim) (body : Body) (left log : Log) → AreBoth trims left log → is_trimmed (record { log = left; trims = trims }) body ≡ false
     → answer_from body left ≡ answer_from body log
-told_alike trims HelloMsg left log a past = ap (λ n. Some (SummaryMsg n)) (same_count trims left.entries log.entries a.entries)
-told_alike trims (ListMsg i) left log a past = same_at (on_entry (λ e. Some (EntryMsg i (head_of e)))) (heads_alike i) i trims left.entries log.entries a.entries
-told_alike trims (BytesMsg key offset) left log a past =
+reported_alike trims HelloMsg left log a past = ap (λ n. Some (SummaryMsg n)) (same_count trims left.entries log.entries a.entries)
+reported_alike trims (ListMsg i) left log a past = same_at (on_entry (λ e. Some (EntryMsg i (head_of e)))) (heads_alike i) i trims left.entries log.entries a.entries
+reported_alike trims (BytesMsg key offset) left log a past =
     past_trim (λ t. t.bytes) offset (λ e. part_of e offset) (λ t l e b h. part_alike t l e offset b h) key trims left.entries log.entries a.entries past
-told_alike trims (CutsMsg key first) left log a past =
+reported_alike trims (CutsMsg key first) left log a past =
     past_trim (λ t. t.reads) first (λ e. lens_of e first) (λ t l e b h. lens_alike t l e first b h) key trims left.entries log.entries a.entries past
-told_alike trims (OpenMsg n) left log a past =
+reported_alike trims (OpenMsg n) left log a past =
     same_found (opened_answer n.key) (λ t l e b. ap (λ x. opened_answer n.key (Some x)) b.same) n.key trims left.entries log.entries a.entries
-told_alike trims (DataMsg part) left log a past =
+reported_alike trims (DataMsg part) left log a past =
     ap (unless_more part) (same_found (on_entry (λ e. Some (StableMsg (kept_of e)))) stable_alike part.key trims left.entries log.entries a.entries)
-told_alike trims (ReadMsg key index n) left log a past = same_found (on_entry (λ e. Some (ReadsMsg (kept_of e)))) reads_alike key trims left.entries log.entries a.entries
-told_alike trims (DoneMsg key) left log a past =
+reported_alike trims (ReadMsg key index n) left log a past = same_found (on_entry (λ e. Some (ReadsMsg (kept_of e)))) reads_alike key trims left.entries log.entries a.entries
+reported_alike trims (DoneMsg key) left log a past =
     same_found (on_entry (λ e. Some (EndedMsg key))) (λ t l e b. refl) key trims left.entries log.entries a.entries
-told_alike trims (SummaryMsg c) left log a past = refl
-told_alike trims (EntryMsg i h) left log a past = refl
-told_alike trims (PartMsg k o b) left log a past = refl
-told_alike trims (LensMsg k f l) left log a past = refl
-told_alike trims (OpenedMsg n) left log a past = refl
-told_alike trims (StableMsg k) left log a past = refl
-told_alike trims (ReadsMsg k) left log a past = refl
-told_alike trims (EndedMsg k) left log a past = refl
-told_alike trims (StaleMsg n) left log a past = refl
-told_alike trims (FullMsg k) left log a past = refl
+reported_alike trims (SummaryMsg c) left log a past = refl
+reported_alike trims (EntryMsg i h) left log a past = refl
+reported_alike trims (PartMsg k o b) left log a past = refl
+reported_alike trims (LensMsg k f l) left log a past = refl
+reported_alike trims (OpenedMsg n) left log a past = refl
+reported_alike trims (StableMsg k) left log a past = refl
+reported_alike trims (ReadsMsg k) left log a past = refl
+reported_alike trims (EndedMsg k) left log a past = refl
+reported_alike trims (StaleMsg n) left log a past = refl
+reported_alike trims (FullMsg k) left log a past = refl
 
-if_told : (c d : Bool) (x u : Option Body) → c ≡ d → (d ≡ true → x ≡ u) → (if c then x else None) ≡ (if d then u else None)
-if_told true true x u p same = same refl
-if_told false false x u p same = refl
-if_told true false x u p same = absurd (true≢false p)
-if_told false true x u p same = absurd (true≢false (sym p))
+if_reported : (c d : Bool) (x u : Option Body) → c ≡ d → (d ≡ true → x ≡ u) → (if c then x else None) ≡ (if d then u else None)
+if_reported true true x u p same = same refl
+if_reported false false x u p same = refl
+if_reported true false x u p same = absurd (true≢false p)
+if_reported false true x u p same = absurd (true≢false (sym p))
 
 -- a question is of the same entry before and after it
 same_question : (t : TrimmedLog) (boot : ℕ) (body : Body) → is_trimmed (record t { log = log_after t.log (record { boot = boot; body = body }) }) body ≡ is_trimmed t body
@@ -351,12 +351,12 @@ unfolding answer_to
 answers_alike t log message a past =
     let both = both_after t.trims message t.log log (record { boot = a.boot; entries = a.entries }) in
     let after : (is_hello message.body || message.boot == log.boot) ≡ true → answer_from message.body (log_after t.log message) ≡ answer_from message.body (log_after log message) =
-    λ own. told_alike t.trims message.body (log_after t.log message) (log_after log message) both
+    λ own. reported_alike t.trims message.body (log_after t.log message) (log_after log message) both
     (same_question t message.boot message.body
     ∙ asks_nothing (is_hello message.body) (message.boot == log.boot) (is_trimmed t message.body) (hello_asks_nothing t message.body) past own) in
     let own : (if is_hello message.body || message.boot == t.log.boot then answer_from message.body (log_after t.log message) else None)
     ≡ (if is_hello message.body || message.boot == log.boot then answer_from message.body (log_after log message) else None) =
-    if_told (is_hello message.body || message.boot == t.log.boot) (is_hello message.body || message.boot == log.boot) (answer_from message.body (log_after t.log message))
+    if_reported (is_hello message.body || message.boot == t.log.boot) (is_hello message.body || message.boot == log.boot) (answer_from message.body (log_after t.log message))
     (answer_from message.body (log_after log message)) (ap (λ b. is_hello message.body || message.boot == b) a.boot) after in
     ap (option_map (λ body. let m : Message = record { boot = message.boot; body = body } in m))
     (λ i. if is_answer message.body then None else (if nat_lt message.boot (a.boot i) then Some (StaleMsg (a.boot i)) else own i))

@@ -70,7 +70,7 @@ wants_memory log message = message.boot == log.boot && adds message.body log
 
 -- the body of an answer, in a message of this boot
 abbrev pub with_boot : ℕ → Option Body → Option Message
-with_boot boot told = option_map (λ body. record { boot = boot; body = body }) told
+with_boot boot reported = option_map (λ body. record { boot = boot; body = body }) reported
 
 -- the bytes of an entry, and its lengths, if there is one
 abbrev pub bytes_of : Option Entry → List ℕ

@@ -12,5 +12,5 @@ pub mod laws;
 mod msg_out;
 mod store;
 mod stored_entry;
-mod telling;
+mod reporting;
 mod trimming;

@@ -19,7 +19,7 @@ ghost use Rattle.logger_store.specs.StoreState.{adds, answer_bytes, answer_bytes
 
 use crate::msg_out::MsgOut;
 use crate::stored_entry::StoredEntry;
-use crate::telling::{
+use crate::reporting::{
     answer_count, answer_ended, answer_head, answer_lengths, answer_opened, answer_part,
     answer_reads, answer_stable, answer_stale,
 };

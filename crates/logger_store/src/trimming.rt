@@ -86,7 +86,7 @@ impl TrimStore {
     /// The logged byte at the place `at`, counted from 0, of the entry at place `i`. It mustn't be trimmed.
     pub fn byte(&self, i: u16, at: u32) -> u8
         requires there { at < length (bytes_of (slice_get self.now.log.entries i)) }
-        requires told { (trim_at self.now.trims i).bytes ≤ at }
+        requires reported { (trim_at self.now.trims i).bytes ≤ at }
         ensures { result ≡ slice_index (bytes_of (slice_get self.now.log.entries i)) at }
     {
         self.log.byte(i, at)
@@ -95,7 +95,7 @@ impl TrimStore {
     /// The logged length, in bytes, of the read with the index `at`, counted from 0, of the entry at place `i`. It mustn't be trimmed.
     pub fn length(&self, i: u16, at: u32) -> u16
         requires there { at < length (lengths_of (slice_get self.now.log.entries i)) }
-        requires told { (trim_at self.now.trims i).reads ≤ at }
+        requires reported { (trim_at self.now.trims i).reads ≤ at }
         ensures { result ≡ slice_index (lengths_of (slice_get self.now.log.entries i)) at }
     {
         self.log.length(i, at)

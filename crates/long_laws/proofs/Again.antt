@@ -36,6 +36,6 @@ comes_again w c down done new own = (
         ∙ ap not (none_left (λ x. key_eq x.key c.key) w.clients);
     absent = none_there (λ e. key_eq e.key c.key) w.log.entries;
     clear = λ n e. none_is_some n (sym down ∙ e);
-    unheard = all_others_fail (concerns c.key) w.packets;
+    unreceived = all_others_fail (concerns c.key) w.packets;
   },
 )

@@ -12,7 +12,7 @@ use Rattle.seq_arith.specs.Message.{Numbers, Body}
 use Rattle.seq_arith.specs.Message.Body.{OpenMsg, EndedMsg}
 use Rattle.server_trait.specs.Service.{Machine}
 use Rattle.ft_model.specs.Client.{Client, is_open}
-use Rattle.ft_model.specs.Connection.{ConnectionTurn, told_by}
+use Rattle.ft_model.specs.Connection.{ConnectionTurn, reported_by}
 use Rattle.ft_model.specs.Copy.{copies}
 use Rattle.ft_model.specs.Keys.{AreDistinct, has_key}
 use Rattle.ft_model.specs.Log.{Log, entry_of}
@@ -24,13 +24,13 @@ use Rattle.ft_model.specs.Node.Place.{Opens, Lives, Ended}
 use Rattle.ft_model.specs.Node.Input.{Packet_comes, Message_comes, Noise_comes, Tick_comes}
 use Rattle.ft_model.specs.Opening.{is_syn, numbers_for, timestamping_for}
 use Rattle.ft_model.specs.Point.{Point}
-use Rattle.ft_model.specs.Reads.{reads_told}
+use Rattle.ft_model.specs.Reads.{reads_reported}
 use Rattle.ft_model.specs.Refusal.{as_listen, as_closed, full_rst, rst_at_ack, rst_behind}
 use Rattle.ft_model.specs.ResetAndEnd.{dones}
 use Rattle.ft_model.specs.Resets.{ResetsNoLogged}
 use Rattle.ft_model.specs.Segments.{segments_of}
 use Rattle.ft_model.specs.ServingTurn.{PlaceTurn, newcomers, refusals, is_strange, opens_at, ServingTurn}
-use Rattle.ft_model.proofs.AuthorTurns.{all_split, all_go_then, settles, is_settled, settled_append, settled_goes_on, one_of, place_settled}
+use Rattle.ft_model.proofs.AuthorTurns.{all_split, all_go_then, settles, is_settled, settled_append, settled_proceeds, one_of, place_settled}
 use Rattle.ft_model.proofs.Faithful.{AnswerFits, HasEntry, PlaceFits, EntriesFit, units_within}
 use Rattle.ft_model.proofs.FaithfulKept.{InputFits}
 use Rattle.ft_model.proofs.Keys.{absent_key, all_from_get, finds_itself}
@@ -46,10 +46,10 @@ use Rattle.ft_io.proofs.Choices.{holds_if}
 use Rattle.long_laws.specs.LongResets.{says_full}
 
 -- who acknowledges was answered, and who is answered has a connection
-abbrev pub IsHeard : List Place → Packet → Type 0
-IsHeard places (To_server segment) = has_ack segment ≡ true → is_settled (source_of segment) places ≡ true
-IsHeard places (To_client segment) = has_rst segment ≡ false → is_settled (destination_of segment) places ≡ true
-IsHeard places _ = Unit {0}
+abbrev pub IsReceived : List Place → Packet → Type 0
+IsReceived places (To_server segment) = has_ack segment ≡ true → is_settled (source_of segment) places ≡ true
+IsReceived places (To_client segment) = has_rst segment ≡ false → is_settled (destination_of segment) places ≡ true
+IsReceived places _ = Unit {0}
 
 -- and so was a client whose connection is open
 abbrev pub IsCaller : List Place → Client → Type 0
@@ -73,7 +73,7 @@ PlaceOver log packets (Ended key) = IsOver log packets key
 PlaceOver log packets _ = Unit {0}
 
 pub record AnswersAll (log : Log) (clients : List Client) (packets : List Packet) (places : List Place) : Type 0 where
-  pub heard : AllByRecursion (IsHeard places) packets
+  pub receipt : AllByRecursion (IsReceived places) packets
   pub callers : AllByRecursion (IsCaller places) clients
   pub over : AllByRecursion (PlaceOver log packets) places
 
@@ -91,9 +91,9 @@ abbrev pub InputEnds : Log → Input → Type 0
 InputEnds log (Message_comes message) = BodyEnds log message.body
 InputEnds log _ = Unit {0}
 
-abbrev pub InputHeard : List Place → Input → Type 0
-InputHeard places (Packet_comes segment) = has_ack segment ≡ true → is_settled (source_of segment) places ≡ true
-InputHeard places _ = Unit {0}
+abbrev pub InputReceived : List Place → Input → Type 0
+InputReceived places (Packet_comes segment) = has_ack segment ≡ true → is_settled (source_of segment) places ≡ true
+InputReceived places _ = Unit {0}
 
 abbrev pub is_full_input : Input → Bool
 is_full_input (Message_comes message) = says_full message.body
@@ -132,29 +132,29 @@ settled_known key (p ∷ places) e =
     (λ h. or_right (key_eq (key_of p) key) (has_key key (map key_of places)) (settled_known key places h)) (or_cases (settles key p) (is_settled key places) e)
 
 -- what is sent to a client that has a connection, and resets nobody
-abbrev pub Told : Log → List Place → Packet → Type 0
-Told log later packet = IsHeard later packet × ResetsNoLogged log packet
+abbrev pub Reported : Log → List Place → Packet → Type 0
+Reported log later packet = IsReceived later packet × ResetsNoLogged log packet
 
-told : (log : Log) (later : List Place) (boot : ℕ) (bodies : List Body) → AllByRecursion (Told log later) (map (told_by boot) bodies)
-told log later boot [] = tt
-told log later boot (body ∷ bodies) = ((tt, tt), told log later boot bodies)
+reported : (log : Log) (later : List Place) (boot : ℕ) (bodies : List Body) → AllByRecursion (Reported log later) (map (reported_by boot) bodies)
+reported log later boot [] = tt
+reported log later boot (body ∷ bodies) = ((tt, tt), reported log later boot bodies)
 
-connection_told : {State : Type 0} (service : Machine State) (log : Log) (server : Addr) (boot : ℕ) (news : News) (p q : Point) (sent : List Packet) (later : List Place)
-    → is_settled q.key later ≡ true → ConnectionTurn service server boot news p q sent → AllByRecursion (Told log later) sent
-connection_told service log server boot news p q sent later there =
+connection_reported : {State : Type 0} (service : Machine State) (log : Log) (server : Addr) (boot : ℕ) (news : News) (p q : Point) (sent : List Packet) (later : List Place)
+    → is_settled q.key later ≡ true → ConnectionTurn service server boot news p q sent → AllByRecursion (Reported log later) sent
+connection_reported service log server boot news p q sent later there =
     either_turn service server boot news p q sent
-    (λ t. subst (AllByRecursion (Told log later)) (sym t.packets) (told log later boot (dones news p q)))
-    (λ t. subst (AllByRecursion (Told log later)) (sym t.packets)
-    (all_append (Told log later) (map To_client (segments_of service server news p q)) _
-    (all_map (Told log later) To_client (segments_of service server news p q)
-    (all_weaker (Spoken service server news p q) (λ s. Told log later (To_client s)) (segments_of service server news p q)
+    (λ t. subst (AllByRecursion (Reported log later)) (sym t.packets) (reported log later boot (dones news p q)))
+    (λ t. subst (AllByRecursion (Reported log later)) (sym t.packets)
+    (all_append (Reported log later) (map To_client (segments_of service server news p q)) _
+    (all_map (Reported log later) To_client (segments_of service server news p q)
+    (all_weaker (Spoken service server news p q) (λ s. Reported log later (To_client s)) (segments_of service server news p q)
     (λ s spoken. let h = headed service server news p q s spoken in
     (λ r. subst (λ k. is_settled k later ≡ true) (sym h.destination) there, λ r. absurd (true≢false (sym r ∙ h.no_rst)))) (segments_spoken service server news p q)))
-    (told log later boot (copies news p q ++ (reads_told news p q ++ dones news p q)))))
+    (reported log later boot (copies news p q ++ (reads_reported news p q ++ dones news p q)))))
 
 -- what is sent in a turn, and what of it comes from a place: that asks to open nothing
 abbrev pub Sent : Bool → Log → List Place → Packet → Type 0
-Sent full log later packet = IsHeard later packet × (full ≡ false → ResetsNoLogged log packet)
+Sent full log later packet = IsReceived later packet × (full ≡ false → ResetsNoLogged log packet)
 
 abbrev pub Fair : Bool → Log → List Place → Packet → Type 0
 Fair full log later packet = Sent full log later packet × OpensNothing packet
@@ -162,7 +162,7 @@ Fair full log later packet = Sent full log later packet × OpensNothing packet
 pub connection_fair : {State : Type 0} (service : Machine State) (full : Bool) (log : Log) (server : Addr) (boot : ℕ) (news : News) (p q : Point) (sent : List Packet) (later : List Place)
     → is_settled q.key later ≡ true → ConnectionTurn service server boot news p q sent → AllByRecursion (Fair full log later) sent
 connection_fair service full log server boot news p q sent later there t =
-    all_both (Told log later) (IsPlain log) (Fair full log later) sent (λ x a b. ((a.0, λ f. a.1), b.1)) (connection_told service log server boot news p q sent later there t)
+    all_both (Reported log later) (IsPlain log) (Fair full log later) sent (λ x a b. ((a.0, λ f. a.1), b.1)) (connection_reported service log server boot news p q sent later there t)
     (connection_plain service log server boot news p q sent t)
 
 rst_fair : (full : Bool) (log : Log) (later : List Place) (segment : Segment) → has_rst segment ≡ true
@@ -187,8 +187,8 @@ closed_fair full log packets later server segment o =
 dropped_full : (script : Key → List ℕ) (isn : Key → ℕ) (log : Log) (node : Node) (input : Input) (asked : Numbers) → EntriesFit script isn log.entries → InputFits script isn log input
     → asked.cisn ≡ isn asked.key → IsDropped node input asked → is_full_input input ≡ true
 dropped_full script isn log node input asked entries i own (inl (kept, h, other)) =
-    let told : AnswerFits log h.message.body = subst (InputFits script isn log) h.comes i in
-    let has : HasEntry log kept = subst (AnswerFits log) h.body told in
+    let reported : AnswerFits log h.message.body = subst (InputFits script isn log) h.comes i in
+    let has : HasEntry log kept = subst (AnswerFits log) h.body reported in
     let within = units_within script isn log kept.key has.0 entries has.1 in
     let same : kept.cisn ≡ asked.cisn = (sym has.2 ∙ within.0.cisn) ∙ (ap isn h.key ∙ sym own) in
     absurd (true≢false (sym (eq-eqb kept.cisn asked.cisn same) ∙ other))
@@ -227,15 +227,15 @@ place_fair service script isn log packets node input later entries i ends place 
     )
 
 -- no RST of LISTEN is sent: who acknowledges is known
-refusals_fair : (log : Log) (node : Node) (input : Input) (places later : List Place) → InputHeard places input → AllByRecursion (Fair (is_full_input input) log later) (refusals node input places)
-refusals_fair log node (Packet_comes segment) places later heard =
+refusals_fair : (log : Log) (node : Node) (input : Input) (places later : List Place) → InputReceived places input → AllByRecursion (Fair (is_full_input input) log later) (refusals node input places)
+refusals_fair log node (Packet_comes segment) places later receipt =
     holds_if (AllByRecursion (Fair false log later)) (is_strange node segment places) (map To_client (as_listen node.server segment)) []
     (λ t. let unknown = absent_key key_of (source_of segment) places (not_true _ (and_parts (is_for node.server segment) (not (is_known (source_of segment) places)) t).1) in
     holds_if (λ x. AllByRecursion (Fair false log later) (map To_client x)) (has_ack segment && not (has_rst segment)) (rst_at_ack node.server segment ∷ []) []
-    (λ u. absurd (true≢false (sym (settled_known (source_of segment) places (heard (and_parts (has_ack segment) (not (has_rst segment)) u).0)) ∙ unknown))) (λ u. tt)) (λ t. tt)
-refusals_fair log node (Message_comes message) places later heard = tt
-refusals_fair log node Noise_comes places later heard = tt
-refusals_fair log node Tick_comes places later heard = tt
+    (λ u. absurd (true≢false (sym (settled_known (source_of segment) places (receipt (and_parts (has_ack segment) (not (has_rst segment)) u).0)) ∙ unknown))) (λ u. tt)) (λ t. tt)
+refusals_fair log node (Message_comes message) places later receipt = tt
+refusals_fair log node Noise_comes places later receipt = tt
+refusals_fair log node Tick_comes places later receipt = tt
 
 new_over : (log : Log) (packets : List Packet) (node : Node) (input : Input) (opened : ℕ) (places : List Place) → AllByRecursion (PlaceOver log packets) (newcomers node input opened places)
 new_over log packets node (Packet_comes segment) opened places =
@@ -271,21 +271,21 @@ over_more log packets sent places none (Ended key) at o =
 over_more log packets sent places none (Lives p) at o = tt
 over_more log packets sent places none (Opens n timestamping) at o = tt
 
-heard_on : (places later : List Place) → ((key : Key) → is_settled key places ≡ true → is_settled key later ≡ true) → (p : Packet) → IsHeard places p → IsHeard later p
-heard_on places later on (To_server segment) h = λ a. on (source_of segment) (h a)
-heard_on places later on (To_client segment) h = λ r. on (destination_of segment) (h r)
-heard_on places later on (To_logger message) h = tt
-heard_on places later on (From_logger message) h = tt
+received_on : (places later : List Place) → ((key : Key) → is_settled key places ≡ true → is_settled key later ≡ true) → (p : Packet) → IsReceived places p → IsReceived later p
+received_on places later on (To_server segment) h = λ a. on (source_of segment) (h a)
+received_on places later on (To_client segment) h = λ r. on (destination_of segment) (h r)
+received_on places later on (To_logger message) h = tt
+received_on places later on (From_logger message) h = tt
 
 -- what a turn leaves, and what it sends
 abbrev pub Goes : Bool → Log → List Client → List Packet → List Place → List Packet → Type 0
 Goes full log clients packets places sent = AnswersAll log clients (packets ++ sent) places × AllByRecursion (λ p. full ≡ false → ResetsNoLogged log p) sent
 
 pub serving_answers : {State : Type 0} (service : Machine State) (script : Key → List ℕ) (isn : Key → ℕ) (log : Log) (clients : List Client) (packets : List Packet) (node : Node) (input : Input)
-    (opened : ℕ) (places later : List Place) (sent : List Packet) → EntriesFit script isn log.entries → InputFits script isn log input → InputEnds log input → InputHeard places input
+    (opened : ℕ) (places later : List Place) (sent : List Packet) → EntriesFit script isn log.entries → InputFits script isn log input → InputEnds log input → InputReceived places input
     → AllByRecursion (PlaceFits script isn log) places → AreDistinct (map key_of later) → AnswersAll log clients packets places → ServingTurn service node input opened places later sent
     → Goes (is_full_input input) log clients packets later sent
-serving_answers service script isn log clients packets node input opened places later sent entries i ends heard fits d k t =
+serving_answers service script isn log clients packets node input opened places later sent entries i ends receipt fits d k t =
     let full : Bool = is_full_input input in
     let new : List Place = newcomers node input opened places in
     let went = all_go_then (PlaceTurn service node input) (λ x. PlaceFits script isn log x × PlaceOver log packets x) (PlaceOver log packets) (IsThere later) (Fair full log later)
@@ -293,7 +293,7 @@ serving_answers service script isn log clients packets node input opened places 
     places t.went t.by_places (all_both (PlaceFits script isn log) (PlaceOver log packets) _ places (λ p a b. (a, b)) fits k.over) t.all_go in
     let there = all_split (IsThere later) t.went new (subst (AllByRecursion (IsThere later)) t.places (each_there later)) in
     let by_places : AllByRecursion (Fair full log later) t.by_places = went.1 there.0 in
-    let rsts : AllByRecursion (Fair full log later) (refusals node input places) = refusals_fair log node input places later heard in
+    let rsts : AllByRecursion (Fair full log later) (refusals node input places) = refusals_fair log node input places later receipt in
     let finds : AllByRecursion (Finds later) later = all_from_get (Finds later) later (λ j x e. finds_itself key_of later j x d e) in
     let all : AllByRecursion (Sent full log later) sent =
     subst (AllByRecursion (Sent full log later)) (sym t.packets)
@@ -309,11 +309,11 @@ serving_answers service script isn log clients packets node input opened places 
     (asks_so node input (Finds later) (λ p. opens_key key p ≡ false) (λ n s r. by_key later key n s (key_eq n.key key) refl at r)) finds))) in
     let on : (key : Key) → is_settled key places ≡ true → is_settled key later ≡ true =
     λ key s. ap (is_settled key) t.places ∙ settled_append key t.went new
-    (inl (settled_goes_on (PlaceTurn service node input) key (λ place now some x e. place_settled service node input key place now some (place_went service node input place now some x) e)
+    (inl (settled_proceeds (PlaceTurn service node input) key (λ place now some x e. place_settled service node input key place now some (place_went service node input place now some x) e)
     places t.went t.by_places t.all_go s)) in (
       record {
-        heard = all_append (IsHeard later) packets sent (all_weaker (IsHeard places) (IsHeard later) packets (heard_on places later on) k.heard)
-            (all_weaker (Sent full log later) (IsHeard later) sent (λ p x. x.0) all);
+        receipt = all_append (IsReceived later) packets sent (all_weaker (IsReceived places) (IsReceived later) packets (received_on places later on) k.receipt)
+            (all_weaker (Sent full log later) (IsReceived later) sent (λ p x. x.0) all);
         callers = all_weaker (IsCaller places) (IsCaller later) clients (λ c f o. on c.key (f o)) k.callers;
         over = all_both (Finds later) (PlaceOver log packets) (PlaceOver log (packets ++ sent)) later (over_more log packets sent later none) finds
             (subst (AllByRecursion (PlaceOver log packets)) (sym t.places) (all_append (PlaceOver log packets) t.went new went.0 (new_over log packets node input opened places)));

@@ -43,7 +43,7 @@ use Rattle.ft_model.specs.FetchedFronts.{AreFetched}
 use Rattle.ft_model.proofs.Fetching.{full_front}
 use Rattle.ft_model.proofs.Grows.{log_grows}
 use Rattle.ft_model.proofs.Happened.{Happened, IsBrought, IsUnderWay, all_sent, answers}
-use Rattle.ft_model.proofs.Happened.Happened.{log_heard, client_heard, client_moved, server_turned, server_booted, server_down}
+use Rattle.ft_model.proofs.Happened.Happened.{log_received, client_received, client_moved, server_turned, server_booted, server_down}
 use Rattle.ft_model.proofs.Keys.{absent_key, found_has_key}
 use Rattle.ft_model.proofs.Lists.{all_both, all_weaker, all_append, or_cases, or_left, none_is_some, some_is}
 use Rattle.ft_model.proofs.LogAnswers.{log_went, all_answers}
@@ -53,7 +53,7 @@ use Rattle.ft_model.proofs.Seen.{IsSeen}
 use Rattle.ft_model.proofs.StageTurns.{StageWent, stage_went}
 use Rattle.ft_model.proofs.StageTurns.StageWent.{was_fenced, waited, held_off, asked_on, resumed, served}
 use Rattle.ft_io.proofs.Choices.{holds_if}
-use Rattle.long_laws.proofs.Answered.{IsHeard, IsCaller, asks_for, opens_key, PlaceOver, AnswersAll, BodyEnds, SaysEnded, InputEnds, InputHeard, is_full_input, IsThere, each_there, Fair, connection_fair, Goes, serving_answers}
+use Rattle.long_laws.proofs.Answered.{IsReceived, IsCaller, asks_for, opens_key, PlaceOver, AnswersAll, BodyEnds, SaysEnded, InputEnds, InputReceived, is_full_input, IsThere, each_there, Fair, connection_fair, Goes, serving_answers}
 use Rattle.long_laws.proofs.Stands.{Stands}
 
 abbrev pub StageAnswers : Log → List Client → List Packet → Stage → Type 0
@@ -71,11 +71,11 @@ input_ends w (Packet_comes segment) a b = tt
 input_ends w Noise_comes a b = tt
 input_ends w Tick_comes a b = tt
 
-input_heard : (w : World) (places : List Place) (input : Input) → AllByRecursion (IsHeard places) w.packets → IsBrought w input → InputHeard places input
-input_heard w places (Packet_comes segment) a b = all_sent (IsHeard places) w (To_server segment) a b
-input_heard w places (Message_comes message) a b = tt
-input_heard w places Noise_comes a b = tt
-input_heard w places Tick_comes a b = tt
+input_received : (w : World) (places : List Place) (input : Input) → AllByRecursion (IsReceived places) w.packets → IsBrought w input → InputReceived places input
+input_received w places (Packet_comes segment) a b = all_sent (IsReceived places) w (To_server segment) a b
+input_received w places (Message_comes message) a b = tt
+input_received w places Noise_comes a b = tt
+input_received w places Tick_comes a b = tt
 
 -- the turn that ends a restart: each place is live, or done as its entry is
 abbrev IsBack : Log → Place → Type 0
@@ -118,12 +118,12 @@ back_over log packets (Lives p) b = tt
 back_over log packets (Opens n timestamping) b = tt
 
 -- who acknowledges, and who is answered, has an entry
-heard_logged : {State : Type 0} (service : Machine State) (script : Key → List ℕ) (log : Log) (places : List Place)
-    → ((key : Key) → has_key key (entry_keys log) ≡ true → is_settled key places ≡ true) → (p : Packet) → PacketBacked service script log p → Speaks service script log p → IsHeard places p
-heard_logged service script log places keyed (To_server segment) b s = λ a. let x = b a in keyed (source_of segment) (found_has_key (λ e. e.key) (source_of segment) log.entries x.0 x.1)
-heard_logged service script log places keyed (To_client segment) b s = λ r. let x = s r in keyed (destination_of segment) (found_has_key (λ e. e.key) (destination_of segment) log.entries x.entry x.found)
-heard_logged service script log places keyed (To_logger message) b s = tt
-heard_logged service script log places keyed (From_logger message) b s = tt
+received_logged : {State : Type 0} (service : Machine State) (script : Key → List ℕ) (log : Log) (places : List Place)
+    → ((key : Key) → has_key key (entry_keys log) ≡ true → is_settled key places ≡ true) → (p : Packet) → PacketBacked service script log p → Speaks service script log p → IsReceived places p
+received_logged service script log places keyed (To_server segment) b s = λ a. let x = b a in keyed (source_of segment) (found_has_key (λ e. e.key) (source_of segment) log.entries x.0 x.1)
+received_logged service script log places keyed (To_client segment) b s = λ r. let x = s r in keyed (destination_of segment) (found_has_key (λ e. e.key) (destination_of segment) log.entries x.entry x.found)
+received_logged service script log places keyed (To_logger message) b s = tt
+received_logged service script log places keyed (From_logger message) b s = tt
 
 resuming_answers : {State : Type 0} (service : Machine State) (w : World) (full : Bool) (node : Node) (count : ℕ) (fetched : List Fetched) (places : List Place) (sent : List Packet)
     → Stands service w → AllByRecursion (IsHeadOf w.log) fetched → count ≡ length w.log.entries → AreFetched w.log.entries fetched → wanted count fetched ≡ None
@@ -142,9 +142,9 @@ resuming_answers service w full node count fetched places sent o heads c a none 
     let fair : AllByRecursion (Fair false log places) sent = went.1 (each_there places) in
     let keyed : (key : Key) → has_key key (entry_keys log) ≡ true → is_settled key places ≡ true = λ key h. settled_all log places key went.0 (ap (has_key key) same ∙ h) in (
       record {
-        heard = all_append (IsHeard places) w.packets sent
-            (all_both (PacketBacked service o.script log) (Speaks service o.script log) (IsHeard places) w.packets (heard_logged service o.script log places keyed) o.backed.packets o.author.spoken)
-            (all_weaker (Fair false log places) (IsHeard places) sent (λ p f. f.0.0) fair);
+        receipt = all_append (IsReceived places) w.packets sent
+            (all_both (PacketBacked service o.script log) (Speaks service o.script log) (IsReceived places) w.packets (received_logged service o.script log places keyed) o.backed.packets o.author.spoken)
+            (all_weaker (Fair false log places) (IsReceived places) sent (λ p f. f.0.0) fair);
         callers = all_weaker (IsSeen service o.script log) (IsCaller places) w.clients
             (λ c s open_. let x = s.sisn open_ in keyed c.key (found_has_key (λ e. e.key) c.key log.entries x.0 x.1)) o.sees;
         over = all_weaker (IsBack log) (PlaceOver log (w.packets ++ sent)) places (back_over log (w.packets ++ sent)) went.0;
@@ -193,7 +193,7 @@ turn_answers service w node input sent after o k e brought (served opened places
     let was : AnswersAll w.log w.clients w.packets places = subst (StageAnswers w.log w.clients w.packets) b (k.stage node e) in
     let apart : StageDistinct after = turn_distinct service w node input sent after o.asked o.distinct e brought (served opened places later b g t) in
     let went = serving_answers service o.script o.isn w.log w.clients w.packets node input opened places later sent o.faithful.entries (input_fits o.script o.isn w input o.faithful.packets brought)
-    (input_ends w input k.says brought) (input_heard w places input was.heard brought) (subst (StageFits o.script o.isn w.log) b (o.faithful.stage node e)) (subst StageDistinct g apart) was t in
+    (input_ends w input k.says brought) (input_received w places input was.receipt brought) (subst (StageFits o.script o.isn w.log) b (o.faithful.stage node e)) (subst StageDistinct g apart) was t in
     (subst (StageAnswers w.log w.clients (w.packets ++ sent)) (sym g) went.0, went.1)
 
 -- what is sent asks to open nothing
@@ -204,11 +204,11 @@ over_still log packets sent none (Opens n timestamping) o = tt
 
 -- other packets, and other clients
 pub stage_still : (log : Log) (clients now : List Client) (packets sent : List Packet) (stage : Stage) → ((key : Key) → AllByRecursion (λ p. opens_key key p ≡ false) sent)
-    → ((places : List Place) → AnswersAll log clients packets places → AllByRecursion (IsHeard places) sent × AllByRecursion (IsCaller places) now)
+    → ((places : List Place) → AnswersAll log clients packets places → AllByRecursion (IsReceived places) sent × AllByRecursion (IsCaller places) now)
     → StageAnswers log clients packets stage → StageAnswers log now (packets ++ sent) stage
 stage_still log clients now packets sent (Serving opened places) none more k =
     let m = more places k in
-    record { heard = all_append (IsHeard places) packets sent k.heard m.0; callers = m.1; over = all_weaker (PlaceOver log packets) _ places (over_still log packets sent none) k.over }
+    record { receipt = all_append (IsReceived places) packets sent k.receipt m.0; callers = m.1; over = all_weaker (PlaceOver log packets) _ places (over_still log packets sent none) k.over }
 stage_still log clients now packets sent Asking none more k = tt
 stage_still log clients now packets sent (Fetching count fetched) none more k = tt
 stage_still log clients now packets sent (Fenced newer) none more k = tt
@@ -245,28 +245,28 @@ absent_later log message after key (inr r) a h =
     ap (has_key key) r.4 ∙ (list_any-append (λ k. key_eq k key) (entry_keys log) (r.0.key ∷ [])
     ∙ or_from (has_key key (entry_keys log)) (has_key key (r.0.key ∷ [])) h (or_from (key_eq r.0.key key) false other refl))
 
-over_heard : (w : World) (message : Message) → IsUnderWay w (To_logger message) → (place : Place) → PlaceOver w.log w.packets place
+over_received : (w : World) (message : Message) → IsUnderWay w (To_logger message) → (place : Place) → PlaceOver w.log w.packets place
     → PlaceOver (log_after w.log message) (w.packets ++ answers w.log message) place
-over_heard w message under (Ended key) o =
+over_received w message under (Ended key) o =
     let after : Log = log_after w.log message in
     ⊎_elim (λ d. inl (done_later w.log after key (log_grows w.log message) d))
     (λ n. let h : has_key key (entry_keys after) ≡ false =
     absent_later w.log message after key (keys_go w.log message after (log_went w.log message)) (all_sent (λ p. opens_key key p ≡ false) w (To_logger message) n.1 under)
     (absent_key (λ e. e.key) key w.log.entries (ap is_some n.0)) in
     inr (none_found after key (entry_of key after) refl h, all_append (λ p. opens_key key p ≡ false) w.packets (answers w.log message) n.1 (all_answers (λ p. opens_key key p ≡ false) w.log message (λ body a. refl)))) o
-over_heard w message under (Lives p) o = tt
-over_heard w message under (Opens n timestamping) o = tt
+over_received w message under (Lives p) o = tt
+over_received w message under (Opens n timestamping) o = tt
 
-stage_heard : (w : World) (message : Message) (stage : Stage) → IsUnderWay w (To_logger message) → StageAnswers w.log w.clients w.packets stage
+stage_received : (w : World) (message : Message) (stage : Stage) → IsUnderWay w (To_logger message) → StageAnswers w.log w.clients w.packets stage
     → StageAnswers (log_after w.log message) w.clients (w.packets ++ answers w.log message) stage
-stage_heard w message (Serving opened places) under k = record {
-  heard = all_append (IsHeard places) w.packets (answers w.log message) k.heard (all_answers (IsHeard places) w.log message (λ body a. tt));
+stage_received w message (Serving opened places) under k = record {
+  receipt = all_append (IsReceived places) w.packets (answers w.log message) k.receipt (all_answers (IsReceived places) w.log message (λ body a. tt));
   callers = k.callers;
-  over = all_weaker (PlaceOver w.log w.packets) _ places (over_heard w message under) k.over;
+  over = all_weaker (PlaceOver w.log w.packets) _ places (over_received w message under) k.over;
 }
-stage_heard w message Asking under k = tt
-stage_heard w message (Fetching count fetched) under k = tt
-stage_heard w message (Fenced newer) under k = tt
+stage_received w message Asking under k = tt
+stage_received w message (Fetching count fetched) under k = tt
+stage_received w message (Fenced newer) under k = tt
 
 log_answering : (w : World) (message : Message) → IsAnswering w → IsUnderWay w (To_logger message)
     → IsAnswering (record w { log = log_after w.log message; packets = w.packets ++ answers w.log message })
@@ -275,7 +275,7 @@ log_answering w message k under =
     record {
       says = all_append (SaysEnded after) w.packets (answers w.log message) (all_weaker (SaysEnded w.log) _ w.packets (ended_later w.log after (log_grows w.log message)) k.says)
           (all_weaker (Says after) _ (answers w.log message) (packet_says after) (answers_say w.log message));
-      stage = λ n e. stage_heard w message n.stage under (k.stage n e);
+      stage = λ n e. stage_received w message n.stage under (k.stage n e);
     }
 
 -- a RST opens nothing
@@ -293,20 +293,20 @@ reopened c segment rst =
     holds_if P (is_opening c.phase) (opened_by c segment) (if is_open c.phase then arrived c segment else c) (λ x. reopened_by c segment rst)
     (λ x. holds_if P (is_open c.phase) (arrived c segment) c (λ y z. y) (λ y z. z))
 
-received_caller : (places : List Place) (c : Client) (segment : Segment) (b : Bool) → has_rst segment ≡ b → c.key ≡ destination_of segment → IsHeard places (To_client segment) → IsCaller places c
+received_caller : (places : List Place) (c : Client) (segment : Segment) (b : Bool) → has_rst segment ≡ b → c.key ≡ destination_of segment → IsReceived places (To_client segment) → IsCaller places c
     → IsCaller places (received c segment)
 received_caller places c segment true rst k h f = λ x. subst (λ z. is_settled z places ≡ true) (sym (received_same c segment).key) (f (reopened c segment rst x))
 received_caller places c segment false rst k h f = λ x. subst (λ z. is_settled z places ≡ true) (sym ((received_same c segment).key ∙ k)) (h rst)
 
 -- what a client sends with ACK it sends when it is open
-move_heard : (places : List Place) (c : Client) (move : Move) (window : ℕ) → may_move c move ≡ true → IsCaller places c → IsHeard places (To_server (segment_of c move window))
-move_heard places c (Text from len) window may f =
+move_received : (places : List Place) (c : Client) (move : Move) (window : ℕ) → may_move c move ≡ true → IsCaller places c → IsReceived places (To_server (segment_of c move window))
+move_received places c (Text from len) window may f =
     λ a. f (and_parts (is_open c.phase) _ (and_parts (suits_phase c (Text from len)) (suits_range c (Text from len)) may).0).0
-move_heard places c Fin window may f = λ a. f (and_parts (is_open c.phase) _ (and_parts (suits_phase c Fin) (suits_range c Fin) may).0).0
-move_heard places c Acknowledge window may f = λ a. f (and_parts (is_open c.phase) _ may).0
-move_heard places c (Syn mss) window may f = λ a. absurd (true≢false (sym a))
-move_heard places c Rst window may f = λ a. absurd (true≢false (sym a))
-move_heard places c (Refuse number) window may f = λ a. absurd (true≢false (sym a))
+move_received places c Fin window may f = λ a. f (and_parts (is_open c.phase) _ (and_parts (suits_phase c Fin) (suits_range c Fin) may).0).0
+move_received places c Acknowledge window may f = λ a. f (and_parts (is_open c.phase) _ may).0
+move_received places c (Syn mss) window may f = λ a. absurd (true≢false (sym a))
+move_received places c Rst window may f = λ a. absurd (true≢false (sym a))
+move_received places c (Refuse number) window may f = λ a. absurd (true≢false (sym a))
 
 moved_caller : (places : List Place) (c : Client) (move : Move) (window : ℕ) → IsCaller places c → IsCaller places (moved c move window)
 moved_caller places c (Syn mss) window f = λ x. absurd (true≢false (sym x))
@@ -330,30 +330,30 @@ move_answering w number sent after k m =
       says = all_append (SaysEnded w.log) w.packets sent k.says (subst (AllByRecursion (SaysEnded w.log)) (sym m.sent_is) (tt, tt));
       stage = λ n e. stage_still w.log w.clients _ w.packets sent n.stage (λ key. subst (AllByRecursion (λ p. opens_key key p ≡ false)) (sym m.sent_is) (refl, tt))
           (λ places a. let was : IsCaller places m.client = client_there (IsCaller places) w.clients number m.client a.callers m.is_there in (
-            subst (AllByRecursion (IsHeard places)) (sym m.sent_is)
-                (subst (λ s. IsHeard places (To_server s)) (sym m.move.segment_is) (move_heard places m.client m.move.move m.move.window m.move.may was), tt),
+            subst (AllByRecursion (IsReceived places)) (sym m.sent_is)
+                (subst (λ s. IsReceived places (To_server s)) (sym m.move.segment_is) (move_received places m.client m.move.move m.move.window m.move.may was), tt),
             clients_fit (IsCaller places) m.client.key (λ x. m.later) w.clients
                 (λ x y f. subst (IsCaller places) (sym m.move.after_is) (moved_caller places m.client m.move.move m.move.window was)) a.callers,
           )) (k.stage n e);
     })
 
-pub answering_goes_on : {State : Type 0} (service : Machine State) (before : World) (sent : List Packet) (after : World) → Stands service before → IsAnswering before → Happened service before sent after
+pub answering_proceeds : {State : Type 0} (service : Machine State) (before : World) (sent : List Packet) (after : World) → Stands service before → IsAnswering before → Happened service before sent after
     → IsAnswering after
-answering_goes_on service before sent after o k (log_heard message under s e) =
+answering_proceeds service before sent after o k (log_received message under s e) =
     subst IsAnswering (sym (e ∙ ap (λ x. record before { log = log_after before.log message; packets = before.packets ++ x }) s)) (log_answering before message k under)
-answering_goes_on service before sent after o k (client_heard segment under s e) =
+answering_proceeds service before sent after o k (client_received segment under s e) =
     subst IsAnswering (sym e)
     (record {
       says = all_append (SaysEnded before.log) before.packets sent k.says (subst (AllByRecursion (SaysEnded before.log)) (sym s) tt);
       stage = λ n g. stage_still before.log before.clients _ before.packets sent n.stage (λ key. subst (AllByRecursion (λ p. opens_key key p ≡ false)) (sym s) tt)
           (λ places a. (
-            subst (AllByRecursion (IsHeard places)) (sym s) tt,
+            subst (AllByRecursion (IsReceived places)) (sym s) tt,
             clients_fit (IsCaller places) (destination_of segment) (λ c. received c segment) before.clients
-                (λ c x f. received_caller places c segment (has_rst segment) refl x (all_sent (IsHeard places) before (To_client segment) a.heard under) f) a.callers,
+                (λ c x f. received_caller places c segment (has_rst segment) refl x (all_sent (IsReceived places) before (To_client segment) a.receipt under) f) a.callers,
           )) (k.stage n g);
     })
-answering_goes_on service before sent after o k (client_moved number m) = move_answering before number sent after k m
-answering_goes_on service before sent after o k (server_turned input node later brought is turn e) =
+answering_proceeds service before sent after o k (client_moved number m) = move_answering before number sent after k m
+answering_proceeds service before sent after o k (server_turned input node later brought is turn e) =
     let went : StageWent service node input sent later.stage = stage_went service node later input sent turn in
     let t = turn_answers service before node input sent later.stage o k is brought went in
     subst IsAnswering (sym e)
@@ -362,13 +362,13 @@ answering_goes_on service before sent after o k (server_turned input node later 
           (all_weaker (IsOurs node.boot) _ sent (ours_say before.log node.boot) (turn_ours service node input sent later.stage went));
       stage = λ n g. subst (λ x. StageAnswers before.log before.clients (before.packets ++ sent) x.stage) (some_is later n g) t.0;
     })
-answering_goes_on service before sent after o k (server_booted boot isn down larger s e) =
+answering_proceeds service before sent after o k (server_booted boot isn down larger s e) =
     subst IsAnswering (sym e)
     (record {
       says = all_append (SaysEnded before.log) before.packets sent k.says (subst (AllByRecursion (SaysEnded before.log)) (sym s) (tt, tt));
       stage = λ n g. subst (λ x. StageAnswers before.log before.clients (before.packets ++ sent) x.stage) (some_is (booted before.server before.profile boot isn) n g) tt;
     })
-answering_goes_on service before sent after o k (server_down s e) =
+answering_proceeds service before sent after o k (server_down s e) =
     subst IsAnswering (sym e)
     (record {
       says = all_append (SaysEnded before.log) before.packets sent k.says (subst (AllByRecursion (SaysEnded before.log)) (sym s) tt);

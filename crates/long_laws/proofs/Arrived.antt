@@ -115,7 +115,7 @@ module _ {State : Type 0} (service : Machine State) (c : Client) (w : World) (o 
           (all_both (λ x. key_eq x.key c.key ≡ false) (ClientFits o.script o.isn) (ClientFits script isn) w.clients
           (λ x a f. client_fits service c.key o.script script o.isn isn w.log w.log script_here isn_here entry_here x a f) clients_apart o.faithful.clients) (own, tt);
       packets = all_both (λ p. concerns c.key p ≡ false) (PacketFits o.script o.isn w.log) (PacketFits script isn w.log) w.packets
-          (λ p a f. packet_fits service c.key o.script script o.isn isn w.log w.log script_here isn_here entry_here p a f) may.unheard o.faithful.packets;
+          (λ p a f. packet_fits service c.key o.script script o.isn isn w.log w.log script_here isn_here entry_here p a f) may.unreceived o.faithful.packets;
       entries = all_both (λ e. key_eq e.key c.key ≡ false) (λ e. EntryFits (o.script e.key) (o.isn e.key) e) (λ e. EntryFits (script e.key) (isn e.key) e) w.log.entries
           (λ e a f. entry_fits service c.key o.script script o.isn isn w.log w.log script_here isn_here entry_here e a f) entries_apart o.faithful.entries;
       stage = λ n e. fits_here n.stage (may.clear n e) (o.faithful.stage n e);
@@ -127,9 +127,9 @@ module _ {State : Type 0} (service : Machine State) (c : Client) (w : World) (o 
           (λ e a f. entry_of_author service c.key old new (author_elsewhere c.key old) e a f) entries_apart o.author.entries;
       short = made_here;
       reads = all_both (λ p. concerns c.key p ≡ false) (ReadOf old w.log.boot) (ReadOf new w.log.boot) w.packets
-          (λ p a f. read_of_author service c.key old new (author_elsewhere c.key old) w.log.boot p a f) may.unheard o.author.reads;
+          (λ p a f. read_of_author service c.key old new (author_elsewhere c.key old) w.log.boot p a f) may.unreceived o.author.reads;
       spoken = all_both (λ p. concerns c.key p ≡ false) (Speaks service o.script w.log) (Speaks service script w.log) w.packets
-          (λ p a f. speaks service c.key o.script script o.isn isn w.log w.log script_here isn_here entry_here p a f) may.unheard o.author.spoken;
+          (λ p a f. speaks service c.key o.script script o.isn isn w.log w.log script_here isn_here entry_here p a f) may.unreceived o.author.spoken;
       stage = λ n e. runs_here n.stage (may.clear n e) (o.author.stage n e);
     };
     sees = all_append (IsSeen service script w.log) w.clients (c ∷ [])
@@ -137,12 +137,12 @@ module _ {State : Type 0} (service : Machine State) (c : Client) (w : World) (o 
         (λ x a f. client_sees service c.key o.script script o.isn isn w.log w.log script_here isn_here entry_here x a f) clients_apart o.sees) (sees_own, tt);
     backed = record {
       packets = all_both (λ p. concerns c.key p ≡ false) (PacketBacked service o.script w.log) (PacketBacked service script w.log) w.packets
-          (λ p a f. packet_backed service c.key o.script script o.isn isn w.log w.log script_here isn_here entry_here p a f) may.unheard o.backed.packets;
+          (λ p a f. packet_backed service c.key o.script script o.isn isn w.log w.log script_here isn_here entry_here p a f) may.unreceived o.backed.packets;
       entries = all_both (λ e. key_eq e.key c.key ≡ false) (EntryBacked service o.script w.log) (EntryBacked service script w.log) w.log.entries
           (λ e a f. entry_backed service c.key o.script script o.isn isn w.log w.log script_here isn_here entry_here e a f) entries_apart o.backed.entries;
       stage = λ n e. backed_here n.stage (may.clear n e) (o.backed.stage n e);
     };
-    telling = o.telling;
+    reporting = o.reporting;
   }
 
   -- its scripts and numbers are the client's at its key, and elsewhere those of before

@@ -12,13 +12,13 @@ use Rattle.ft_model.specs.Resets.{ResetsNoLogged}
 use Rattle.ft_model.specs.World.{World, IsStart}
 use Rattle.ft_model.proofs.Grows.{log_grows}
 use Rattle.ft_model.proofs.Happened.{Happened, happened}
-use Rattle.ft_model.proofs.Happened.Happened.{log_heard, client_heard, client_moved, server_turned, server_booted, server_down}
+use Rattle.ft_model.proofs.Happened.Happened.{log_received, client_received, client_moved, server_turned, server_booted, server_down}
 use Rattle.ft_model.proofs.Lists.{all_both, all_weaker, all_append}
 use Rattle.ft_model.proofs.Refused.{IsDone, done_later}
 use Rattle.ft_model.proofs.Running.{HasSmallOutputs}
 use Rattle.long_laws.specs.LongTrace.{LongWorld, LongStep, LongMoment, LongJoint, MayPass, long_after, concerns, without_entry, keep_alive}
 use Rattle.long_laws.specs.LongTrace.LongStep.{Joint_event, Recycles, Forgets, Arrives, Lets_go, Keeps_alive}
-use Rattle.long_laws.specs.LongResets.{hears_full, is_reset, ResetsOnlyLogged, IsDiscreet, AreDiscreet}
+use Rattle.long_laws.specs.LongResets.{receives_full, is_reset, ResetsOnlyLogged, IsDiscreet, AreDiscreet}
 use Rattle.long_laws.proofs.Others.{all_others, find_others}
 use Rattle.long_laws.proofs.Spared.{moment_spares}
 
@@ -46,8 +46,8 @@ no_reset log (To_server segment) e = tt
 no_reset log (To_logger message) e = tt
 no_reset log (From_logger message) e = tt
 
-sent_by_case : (before : World) (moment : LongMoment) (b : Bool) → hears_full before moment.step ≡ b → IsDiscreet before moment
-    → (hears_full before moment.step ≡ false → AllByRecursion (ResetsNoLogged moment.world.now.log) moment.sent) → AllByRecursion (ResetsDone moment.world.now.log) moment.sent
+sent_by_case : (before : World) (moment : LongMoment) (b : Bool) → receives_full before moment.step ≡ b → IsDiscreet before moment
+    → (receives_full before moment.step ≡ false → AllByRecursion (ResetsNoLogged moment.world.now.log) moment.sent) → AllByRecursion (ResetsDone moment.world.now.log) moment.sent
 sent_by_case before moment true e d f = all_weaker (λ p. is_reset p ≡ false) (ResetsDone moment.world.now.log) moment.sent (no_reset moment.world.now.log) (d.full e)
 sent_by_case before moment false e d f =
     all_both (ResetsOnlyLogged moment.world.now.log) (ResetsNoLogged moment.world.now.log) (ResetsDone moment.world.now.log) moment.sent (done_there moment.world.now.log) d.unlogged (f e)
@@ -63,11 +63,11 @@ abbrev GoOn : List Packet → World → Type 0
 GoOn sent after = AllByRecursion (ResetsDone after.log) sent → AllDone after
 
 event_done : {State : Type 0} (service : Machine State) (before : World) (sent : List Packet) (after : World) → AllDone before → Happened service before sent after → GoOn sent after
-event_done service before sent after k (log_heard message under s e) =
+event_done service before sent after k (log_received message under s e) =
     let log : Log = log_after before.log message in
     subst (GoOn sent) (sym e)
     (λ a. all_append (ResetsDone log) before.packets sent (all_weaker (ResetsDone before.log) (ResetsDone log) before.packets (resets_later before.log log (log_grows before.log message)) k) a)
-event_done service before sent after k (client_heard segment under s e) = subst (GoOn sent) (sym e) (λ a. all_append (ResetsDone before.log) before.packets sent k a)
+event_done service before sent after k (client_received segment under s e) = subst (GoOn sent) (sym e) (λ a. all_append (ResetsDone before.log) before.packets sent k a)
 event_done service before sent after k (client_moved number m) = subst (GoOn sent) (sym m.after_is) (λ a. all_append (ResetsDone before.log) before.packets sent k a)
 event_done service before sent after k (server_turned input node later brought is turn e) = subst (GoOn sent) (sym e) (λ a. all_append (ResetsDone before.log) before.packets sent k a)
 event_done service before sent after k (server_booted boot isn down larger s e) = subst (GoOn sent) (sym e) (λ a. all_append (ResetsDone before.log) before.packets sent k a)
@@ -100,7 +100,7 @@ all_done service small start [] j d = start_done start j
     start_done w s = subst (AllByRecursion (ResetsDone w.log)) (sym s.packets) tt
 all_done service small start (moment ∷ earlier) j d =
     step_done service (long_after start earlier) moment.world moment.sent moment.step (all_done service small start earlier j.0 d.0) j.1
-    (sent_by_case (long_after start earlier).now moment (hears_full (long_after start earlier).now moment.step) refl d.1 (moment_spares service small start moment earlier j))
+    (sent_by_case (long_after start earlier).now moment (receives_full (long_after start earlier).now moment.step) refl d.1 (moment_spares service small start moment earlier j))
 
 spared : (log : Log) (p : Packet) → ResetsDone log p → ResetsNoLogged log p
 spared log (To_client segment) d = λ r. let x = d r in subst (λ o. IfSome o (λ e. e.done ≡ true)) (sym x.1) x.2

@@ -19,14 +19,14 @@ use Rattle.long_laws.specs.Over.{IsOverOrLetGo, WentOver, let_go_by, was_let_go}
 use Rattle.long_laws.proofs.Long.{all_stand}
 use Rattle.long_laws.proofs.Others.{all_filtered}
 use Rattle.long_laws.proofs.OverSteps.{over_without, over_forgotten, over_with_new, over_let_go, over_kept_alive}
-use Rattle.long_laws.proofs.OverWorld.{OverWorld, over_goes_on, start_over, over_when_done}
+use Rattle.long_laws.proofs.OverWorld.{OverWorld, over_proceeds, start_over, over_when_done}
 use Rattle.long_laws.proofs.Stands.{Stands}
 
 module _ {State : Type 0} (service : Machine State) (small : HasSmallOutputs service) where
   step_over : (before after : LongWorld) (step : LongStep) (sent : List Packet) (let_go : Key → Bool) → Stands service before.now → Stands service after.now → MayPass service before step sent after
       → OverWorld service let_go before.now → OverWorld service (λ k. let_go_by step k (let_go k)) after.now
   step_over before after (Joint_event event) sent let_go o then_ h x =
-      ⊎_elim (λ y. over_goes_on service let_go before.now sent after.now o then_ y x) (λ q. subst (OverWorld service let_go) (sym q.1) x) (happened service before.now event sent after.now h.0)
+      ⊎_elim (λ y. over_proceeds service let_go before.now sent after.now o then_ y x) (λ q. subst (OverWorld service let_go) (sym q.1) x) (happened service before.now event sent after.now h.0)
   step_over before after (Recycles key) sent let_go o then_ h x = subst (OverWorld service (λ k. let_go_by (Recycles key) k (let_go k))) (sym h.2) (over_without service let_go key before.now x)
   step_over before after (Forgets key) sent let_go o then_ h x = subst (OverWorld service let_go) (sym h.2) (over_forgotten service let_go key before.now x)
   step_over before after (Arrives c) sent let_go o then_ h x = subst (OverWorld service let_go) (sym h.2) (over_with_new service let_go c before.now h.0 x)

@@ -97,7 +97,7 @@ module _ {State : Type 0} (any : Machine State) where
       apart = refl;
       absent = refl;
       clear = all_ended;
-      unheard = (refl, (refl, tt));
+      unreceived = (refl, (refl, tt));
     },
     refl,
     refl,

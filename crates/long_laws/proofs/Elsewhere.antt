@@ -39,17 +39,17 @@ module _ {State : Type 0} (service : Machine State) (key : Key) (script more : K
   asked_there (DataMsg part) a f = subst (λ s. PartFits s part) (same_script part.key a) f
   asked_there _ a f = tt
 
-  told_there : (body : Body) → is_about key body ≡ false → AnswerFits log body → AnswerFits now body
-  told_there (OpenedMsg n) a f = (f.0, sym (same_entry n.key a) ∙ f.1, f.2, f.3)
-  told_there (StableMsg kept) a f = kept_there kept a f
-  told_there (ReadsMsg kept) a f = kept_there kept a f
-  told_there _ a f = tt
+  reported_there : (body : Body) → is_about key body ≡ false → AnswerFits log body → AnswerFits now body
+  reported_there (OpenedMsg n) a f = (f.0, sym (same_entry n.key a) ∙ f.1, f.2, f.3)
+  reported_there (StableMsg kept) a f = kept_there kept a f
+  reported_there (ReadsMsg kept) a f = kept_there kept a f
+  reported_there _ a f = tt
 
   pub packet_fits : (p : Packet) → concerns key p ≡ false → PacketFits script isn log p → PacketFits more also now p
   packet_fits (To_server segment) a f = subst₂ (λ s i. FitsScript s i segment) (same_script (source_of segment) a) (same_isn (source_of segment) a) f
   packet_fits (To_client segment) a f = tt
   packet_fits (To_logger message) a f = asked_there message.body a f
-  packet_fits (From_logger message) a f = told_there message.body a f
+  packet_fits (From_logger message) a f = reported_there message.body a f
 
   pub entry_fits : (e : Entry) → key_eq e.key key ≡ false → EntryFits (script e.key) (isn e.key) e → EntryFits (more e.key) (also e.key) e
   entry_fits e a f = subst₂ (λ s i. EntryFits s i e) (same_script e.key a) (same_isn e.key a) f

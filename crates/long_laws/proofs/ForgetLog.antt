@@ -8,7 +8,7 @@ use Rattle.ft_model.specs.Keys.{AreDistinct}
 use Rattle.ft_model.specs.Log.{Log, Entry, entry_of}
 use Rattle.ft_model.proofs.Lists.{none_is_some, some_is, found_passes, or_left}
 use Rattle.ft_io.proofs.Choices.{holds_if, if_false, if_true}
-use Rattle.long_laws.specs.Forgetting.{Named, ForgetBody, ForgetMessage, forget, forgotten_message, is_entry_of, is_recycled, forgotten_in, with_forget, after_forget, IsRecycled, IsGone, ForgetAnswer, told_of, is_forget_answer, answer_to_forget, named_of}
+use Rattle.long_laws.specs.Forgetting.{Named, ForgetBody, ForgetMessage, forget, forgotten_message, is_entry_of, is_recycled, forgotten_in, with_forget, after_forget, IsRecycled, IsGone, ForgetAnswer, reported_of, is_forget_answer, answer_to_forget, named_of}
 use Rattle.long_laws.specs.Forgetting.ForgetBody.{ForgetMsg, ForgottenMsg}
 use Rattle.long_laws.specs.Forgetting.ForgetAnswer.{About_forgetting, Of_log}
 use Rattle.long_laws.specs.LongTrace.{others}
@@ -92,7 +92,7 @@ answers_newer log message newer =
     (λ t. if_false (nat_lt message.boot log.boot) _ _ (grind (arith, newer)) ∙ if_false (message.boot == log.boot) _ _ (grind (arith, newer)))
 
 pub answers_own : (log : Log) (message : ForgetMessage) → is_forget_answer message.body ≡ false → message.boot ≡ log.boot
-    → answer_to_forget log message ≡ told_of message.boot message.body (after_forget log message)
+    → answer_to_forget log message ≡ reported_of message.boot message.body (after_forget log message)
 unfolding answer_to_forget
 answers_own log message is own =
     if_false (is_forget_answer message.body) None _ is ∙ (if_false (nat_lt message.boot log.boot) _ _ (grind (arith, own)) ∙ if_true (message.boot == log.boot) _ _ (eq-eqb message.boot log.boot own))
@@ -110,10 +110,10 @@ is_about_forgetting : (a : ForgetAnswer) → Bool
 is_about_forgetting (About_forgetting m) = true
 is_about_forgetting (Of_log m) = false
 
-told_forgotten : (log after : Log) (boot : ℕ) (body : ForgetBody) (answer : ForgetMessage) → boot ≡ log.boot → told_of boot body after ≡ Some (About_forgetting answer)
+reported_forgotten : (log after : Log) (boot : ℕ) (body : ForgetBody) (answer : ForgetMessage) → boot ≡ log.boot → reported_of boot body after ≡ Some (About_forgetting answer)
     → (n : Named) × (message_of boot body ≡ forget log.boot n) × (answer ≡ forgotten_message log.boot n) × IsGone n after
-told_forgotten log after boot (ForgottenMsg n) answer own e = none_is_some (About_forgetting answer) e
-told_forgotten log after boot (ForgetMsg n) answer own e = on (list_any (is_entry_of n) after.entries) refl e
+reported_forgotten log after boot (ForgottenMsg n) answer own e = none_is_some (About_forgetting answer) e
+reported_forgotten log after boot (ForgetMsg n) answer own e = on (list_any (is_entry_of n) after.entries) refl e
   where
     on : (b : Bool) → list_any (is_entry_of n) after.entries ≡ b → (if b then None else Some (About_forgetting (forgotten_message boot n))) ≡ Some (About_forgetting answer)
         → (m : Named) × (message_of boot (ForgetMsg n) ≡ forget log.boot m) × (answer ≡ forgotten_message log.boot m) × IsGone m after
@@ -132,11 +132,11 @@ forgotten_means_gone log message answer e =
   where
     on : (a b c : Bool) → (message.boot == log.boot) ≡ c
         → (if a then None
-        else (if b then Some (Of_log (record { boot = message.boot; body = StaleMsg log.boot })) else (if c then told_of message.boot message.body (after_forget log message) else None)))
+        else (if b then Some (Of_log (record { boot = message.boot; body = StaleMsg log.boot })) else (if c then reported_of message.boot message.body (after_forget log message) else None)))
         ≡ Some (About_forgetting answer) → SaysForgotten log message answer
     on true b c own h = none_is_some (About_forgetting answer) h
     on false true c own h = stale_is_none log message answer h
-    on false false true own h = told_forgotten log (after_forget log message) message.boot message.body answer (eqb-true _ _ own) h
+    on false false true own h = reported_forgotten log (after_forget log message) message.boot message.body answer (eqb-true _ _ own) h
     on false false false own h = none_is_some (About_forgetting answer) h
 
 pub gone_means_forgotten : (log : Log) (n : Named) → IsGone n (after_forget log (forget log.boot n)) → answer_to_forget log (forget log.boot n) ≡ Some (About_forgetting (forgotten_message log.boot n))

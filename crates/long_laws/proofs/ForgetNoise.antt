@@ -16,7 +16,7 @@ use Rattle.seq_arith.specs.TwinGrammar as twins
 use Rattle.seq_arith.proofs.Damaged.{flip_is_seen}
 use Rattle.seq_arith.proofs.Flipped.{kind_comes, sum_held}
 use Rattle.seq_arith.proofs.Passing.{same_from}
-use Rattle.seq_arith.proofs.Refused.{refused, accepted, goes_on}
+use Rattle.seq_arith.proofs.Refused.{refused, accepted, proceeds}
 use Rattle.long_laws.specs.Forgetting.{ForgetMessage}
 use Rattle.long_laws.specs.ForgetGrammar.{ForgetKind, kind_numbered, boot_in, message_in, reading_of, reading_if, reading}
 
@@ -42,7 +42,7 @@ flipped_forget_is_refused bit bytes m is within =
 magic_held : {V E : Type 0} (short : Bool) (n magic : ℕ) (short_why magic_why : E) (last : Result V E)
     → IsOk (if short then Err short_why else (if not (nat_eq n magic) then Err magic_why else last)) → n ≡ magic
 magic_held short n magic short_why magic_why last ok =
-    same_from n magic (goes_on (not (nat_eq n magic)) magic_why last (goes_on short short_why (if not (nat_eq n magic) then Err magic_why else last) ok).1).0
+    same_from n magic (proceeds (not (nat_eq n magic)) magic_why last (proceeds short short_why (if not (nat_eq n magic) then Err magic_why else last) ok).1).0
 
 magic : (bytes : List ℕ) → IsOk (reading bytes) → word_at bytes 0 ≡ 18007
 unfolding reading
@@ -85,7 +85,7 @@ length_if (Some kind) bytes ok =
     let a : Bool = not (nat_eq (word_at bytes 4) (length bytes)) in
     let b : Bool = not (nat_eq (length bytes) 30) in
     let last : Result ForgetMessage BadMsg = if not (nat_eq (checksum bytes) 0) then Err bad.Sum else (if nat_lt (boot_in bytes) 1 then Err bad.Field else Ok (message_in kind bytes)) in
-    same_from (length bytes) 30 (right_false a b (goes_on (a || b) bad.Length last ok).0)
+    same_from (length bytes) 30 (right_false a b (proceeds (a || b) bad.Length last ok).0)
   where
     right_false : (a b : Bool) → (a || b) ≡ false → b ≡ false
     right_false false b e = e

@@ -20,8 +20,8 @@ use Rattle.ft_model.proofs.Distinct.{StageDistinct}
 use Rattle.ft_model.proofs.Faithful.{PlaceFits, StageFits}
 use Rattle.ft_model.proofs.Fenced.{IsLogged, IsNoChange}
 use Rattle.ft_model.proofs.Lists.{all_both, none_is_some, some_is}
-use Rattle.ft_model.proofs.ToldLast.{WasTold}
-use Rattle.ft_model.proofs.ToldOver.{StageTold}
+use Rattle.ft_model.proofs.ReportedLast.{WasReported}
+use Rattle.ft_model.proofs.ReportedOver.{StageReported}
 use Rattle.ft_io.proofs.Choices.{holds_if}
 use Rattle.long_laws.specs.LongTrace.{others, asks_about, stage_without, node_without, forgotten, MayForget}
 use Rattle.long_laws.proofs.Others.{all_others, distinct_others, settled_others, none_found}
@@ -79,11 +79,11 @@ distinct_left key Asking d = tt
 distinct_left key (Fetching count fetched) d = tt
 distinct_left key (Fenced newer) d = tt
 
-told_left : (packets : List Packet) (key : Key) (stage : Stage) → StageTold packets stage → StageTold packets (stage_without key stage)
-told_left packets key (Serving opened places) t = left (WasTold packets) key places t
-told_left packets key Asking t = tt
-told_left packets key (Fetching count fetched) t = tt
-told_left packets key (Fenced newer) t = tt
+reported_left : (packets : List Packet) (key : Key) (stage : Stage) → StageReported packets stage → StageReported packets (stage_without key stage)
+reported_left packets key (Serving opened places) t = left (WasReported packets) key places t
+reported_left packets key Asking t = tt
+reported_left packets key (Fetching count fetched) t = tt
+reported_left packets key (Fenced newer) t = tt
 
 only_left : (key : Key) (author : Key → List ℕ) (places : List Place) → OnlySettled author places → OnlySettled (author_without key author) (others (λ p. key_eq (key_of p) key) places)
 only_left key author places only k =
@@ -169,7 +169,7 @@ stands_forgotten service key w o may = record {
     stage = λ n e. let b = was key w.node n e in
         subst (λ m. StageBacked service o.script w.log m.stage) (sym b.is) (backed_left service o.script w.log key b.node.stage (o.backed.stage b.node b.up));
   };
-  telling = λ n e. let b = was key w.node n e in subst (λ m. StageTold w.packets m.stage) (sym b.is) (told_left w.packets key b.node.stage (o.telling b.node b.up));
+  reporting = λ n e. let b = was key w.node n e in subst (λ m. StageReported w.packets m.stage) (sym b.is) (reported_left w.packets key b.node.stage (o.reporting b.node b.up));
 }
 
 pub same_forgotten : {State : Type 0} (service : Machine State) (key : Key) (w : World) (o : Stands service w) (may : MayForget key w) → AreSame o (stands_forgotten service key w o may)

@@ -7,7 +7,7 @@ use Rattle.ft_io.specs.Key.{key_eq}
 use Rattle.seq_arith.specs.Number.{number_at}
 use Rattle.seq_arith.specs.Packet.{Segment, has_ack, has_rst}
 use Rattle.server_trait.specs.Service.{Machine}
-use Rattle.ft_model.specs.Masked.{AcknowledgesLogged, last_told, or_before}
+use Rattle.ft_model.specs.Masked.{AcknowledgesLogged, last_reported, or_before}
 use Rattle.ft_model.specs.Network.{Packet}
 use Rattle.ft_model.specs.Network.Packet.{To_client}
 use Rattle.ft_model.specs.Node.{Place, Stage, key_of, place_at}
@@ -25,8 +25,8 @@ use Rattle.ft_model.proofs.Exact.{same_exact}
 use Rattle.ft_model.proofs.Faithful.{PacketFits, PlaceFits, StageFits, IsFit, acknowledges_units}
 use Rattle.ft_model.proofs.Fenced.{HasBoot, IsNoChange}
 use Rattle.ft_model.proofs.Lists.{all_append, all_weaker, all_find, same_key}
-use Rattle.ft_model.proofs.ToldLast.{WasTold, last_append}
-use Rattle.ft_model.proofs.ToldOver.{StageTold}
+use Rattle.ft_model.proofs.ReportedLast.{WasReported, last_append}
+use Rattle.ft_model.proofs.ReportedOver.{StageReported}
 use Rattle.long_laws.specs.LongTrace.{places_at, keep_alive, SendsKeepAlive}
 use Rattle.long_laws.proofs.Stands.{Stands, AreSame, Shown}
 
@@ -42,38 +42,38 @@ pub lives_fit : (script : Key → List ℕ) (isn : Key → ℕ) (w : World) (sta
     → PlaceFits script isn w.log (Lives p)
 lives_fit script isn w stage key p f at = all_find (PlaceFits script isn w.log) (λ place. key_eq (key_of place) key) (places_at stage) (Lives p) (fits_in script isn w stage f) at
 
-told_in : (packets : List Packet) (stage : Stage) → StageTold packets stage → AllByRecursion (WasTold packets) (places_at stage)
-told_in packets (Serving opened places) t = t
-told_in packets Asking t = tt
-told_in packets (Fetching count fetched) t = tt
-told_in packets (Fenced newer) t = tt
+reported_in : (packets : List Packet) (stage : Stage) → StageReported packets stage → AllByRecursion (WasReported packets) (places_at stage)
+reported_in packets (Serving opened places) t = t
+reported_in packets Asking t = tt
+reported_in packets (Fetching count fetched) t = tt
+reported_in packets (Fenced newer) t = tt
 
 module _ {State : Type 0} (service : Machine State) (w : World) (server : Addr) (p : Point) (packets : List Packet)
-    (was : last_told p.key packets ≡ Some (number_at p.cisn (acknowledgement p))) where
+    (was : last_reported p.key packets ≡ Some (number_at p.cisn (acknowledgement p))) where
   one : Packet
   one = To_client (keep_alive server p)
 
   -- the same again, and nothing to others
-  said_to : (q : Point) (b : Bool) → key_eq p.key q.key ≡ b → last_told q.key packets ≡ Some (number_at q.cisn (acknowledgement q))
-      → last_told q.key (packets ++ To_client (keep_alive server p) ∷ []) ≡ Some (number_at q.cisn (acknowledgement q))
+  said_to : (q : Point) (b : Bool) → key_eq p.key q.key ≡ b → last_reported q.key packets ≡ Some (number_at q.cisn (acknowledgement q))
+      → last_reported q.key (packets ++ To_client (keep_alive server p) ∷ []) ≡ Some (number_at q.cisn (acknowledgement q))
   said_to q true e t =
       last_append q.key packets (To_client (keep_alive server p) ∷ [])
-      ∙ (ap (λ b. or_before (if b && has_ack (keep_alive server p) && not (has_rst (keep_alive server p)) then Some (number_at p.cisn (acknowledgement p)) else None) (last_told q.key packets)) e
-      ∙ (sym was ∙ (ap (λ k. last_told k packets) (same_key p.key q.key e) ∙ t)))
+      ∙ (ap (λ b. or_before (if b && has_ack (keep_alive server p) && not (has_rst (keep_alive server p)) then Some (number_at p.cisn (acknowledgement p)) else None) (last_reported q.key packets)) e
+      ∙ (sym was ∙ (ap (λ k. last_reported k packets) (same_key p.key q.key e) ∙ t)))
   said_to q false e t =
       last_append q.key packets (To_client (keep_alive server p) ∷ [])
-      ∙ (ap (λ b. or_before (if b && has_ack (keep_alive server p) && not (has_rst (keep_alive server p)) then Some (number_at p.cisn (acknowledgement p)) else None) (last_told q.key packets)) e ∙ t)
+      ∙ (ap (λ b. or_before (if b && has_ack (keep_alive server p) && not (has_rst (keep_alive server p)) then Some (number_at p.cisn (acknowledgement p)) else None) (last_reported q.key packets)) e ∙ t)
 
-  place_told : (place : Place) → WasTold packets place → WasTold (packets ++ To_client (keep_alive server p) ∷ []) place
-  place_told (Lives q) t = λ r. said_to q (key_eq p.key q.key) refl (t r)
-  place_told (Opens n timestamping) t = tt
-  place_told (Ended k) t = tt
+  place_reported : (place : Place) → WasReported packets place → WasReported (packets ++ To_client (keep_alive server p) ∷ []) place
+  place_reported (Lives q) t = λ r. said_to q (key_eq p.key q.key) refl (t r)
+  place_reported (Opens n timestamping) t = tt
+  place_reported (Ended k) t = tt
 
-  pub stage_told : (stage : Stage) → StageTold packets stage → StageTold (packets ++ To_client (keep_alive server p) ∷ []) stage
-  stage_told (Serving opened places) t = all_weaker (WasTold packets) (WasTold (packets ++ To_client (keep_alive server p) ∷ [])) places place_told t
-  stage_told Asking t = tt
-  stage_told (Fetching count fetched) t = tt
-  stage_told (Fenced newer) t = tt
+  pub stage_reported : (stage : Stage) → StageReported packets stage → StageReported (packets ++ To_client (keep_alive server p) ∷ []) stage
+  stage_reported (Serving opened places) t = all_weaker (WasReported packets) (WasReported (packets ++ To_client (keep_alive server p) ∷ [])) places place_reported t
+  stage_reported Asking t = tt
+  stage_reported (Fetching count fetched) t = tt
+  stage_reported (Fenced newer) t = tt
 
 pub stands_kept_alive : {State : Type 0} (service : Machine State) (key : Key) (w : World) (sent : List Packet) (after : World) → Stands service w → (l : SendsKeepAlive key w sent after)
     → Stands service (record w { packets = w.packets ++ To_client (keep_alive l.node.server l.point) ∷ [] })
@@ -82,8 +82,8 @@ stands_kept_alive service key w sent after o l =
     let server : Addr = l.node.server in
     let seg : Segment = keep_alive server p in
     let fit : PlaceFits o.script o.isn w.log (Lives p) = lives_fit o.script o.isn w l.node.stage key p (o.faithful.stage l.node l.up) l.lives in
-    let told : WasTold w.packets (Lives p) =
-    all_find (WasTold w.packets) (λ place. key_eq (key_of place) key) (places_at l.node.stage) (Lives p) (told_in w.packets l.node.stage (o.telling l.node l.up)) l.lives in
+    let reported : WasReported w.packets (Lives p) =
+    all_find (WasReported w.packets) (λ place. key_eq (key_of place) key) (places_at l.node.stage) (Lives p) (reported_in w.packets l.node.stage (o.reporting l.node l.up)) l.lives in
     let speaks : Speaks service o.script w.log (To_client seg) =
     λ r. record { entry = fit.1.entry; found = fit.1.found; syn = λ e. absurd (true≢false (sym e)); text = inr (refl, refl) } in
     record {
@@ -122,7 +122,7 @@ stands_kept_alive service key w sent after o l =
         entries = o.backed.entries;
         stage = o.backed.stage;
       };
-      telling = λ n e. stage_told service w server p w.packets (told l.unreset) n.stage (o.telling n e);
+      reporting = λ n e. stage_reported service w server p w.packets (reported l.unreset) n.stage (o.reporting n e);
     }
 
 pub same_kept_alive : {State : Type 0} (service : Machine State) (key : Key) (w : World) (sent : List Packet) (after : World) (o : Stands service w) (l : SendsKeepAlive key w sent after)

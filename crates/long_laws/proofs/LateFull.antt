@@ -34,8 +34,8 @@ module _ {State : Type 0} (service : Machine State) (node : Node) (opened : ℕ)
 
   drops : PlaceTurn service node input (Opens numbers timestamping) [] sent
   drops =
-      let heard : concerns node input numbers.key ≡ true = ap₂ ◌&&◌ (eq-eqb node.boot node.boot refl) (key_is numbers.key) in
-      subst (λ b. MatchBool b (Meets service node input (Opens numbers timestamping) [] sent) (Stays (Opens numbers timestamping) [] sent)) (sym heard) (refl, refl)
+      let receipt : concerns node input numbers.key ≡ true = ap₂ ◌&&◌ (eq-eqb node.boot node.boot refl) (key_is numbers.key) in
+      subst (λ b. MatchBool b (Meets service node input (Opens numbers timestamping) [] sent) (Stays (Opens numbers timestamping) [] sent)) (sym receipt) (refl, refl)
 
   turn : LawfulTurn service node input sent later
   turn = record {

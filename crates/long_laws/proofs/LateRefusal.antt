@@ -96,7 +96,7 @@ happens_11 = (path.packet_7, refl, ((path.node_live path.open_point, refl, turn_
 
 happens_12 : Happens echo run.moment_11.world run.moment_12.event run.moment_12.sent run.moment_12.world
 unfolding laws IsLe
-happens_12 = record { client = run.live path.open_client; segment = segment_in path.packet_8; later = run.live path.told_client; is_there = refl; move = record { move = Text 0 5; window = 65535; may = refl; fits = refl; timestamps = None; carries = refl; segment_is = refl; after_is = refl }; sent_is = refl; after_is = refl }
+happens_12 = record { client = run.live path.open_client; segment = segment_in path.packet_8; later = run.live path.reported_client; is_there = refl; move = record { move = Text 0 5; window = 65535; may = refl; fits = refl; timestamps = None; carries = refl; segment_is = refl; after_is = refl }; sent_is = refl; after_is = refl }
 
 happens_13 : Happens echo run.moment_12.world run.moment_13.event run.moment_13.sent run.moment_13.world
 unfolding laws IsLe
@@ -115,5 +115,5 @@ is_joint =
     (((((((((((((((starts, happens_1), happens_2), happens_3), happens_4), happens_5), happens_6), happens_7), happens_8), happens_9), happens_10), happens_11), happens_12), happens_13), happens_14), happens_15)
 
 -- the client isn't at an end
-pub has_less : HasAll echo run.moment_15.world.log (run.live path.told_client) → ⊥
+pub has_less : HasAll echo run.moment_15.world.log (run.live path.reported_client) → ⊥
 has_less h = true≢false (sym h.at_end)

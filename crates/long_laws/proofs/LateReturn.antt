@@ -25,7 +25,7 @@ use Rattle.ft_model.proofs.Turns.{laws, alone, goes, message_in}
 use Rattle.long_laws.specs.EarlyReturn as early
 use Rattle.long_laws.specs.LateReturn as run
 use Rattle.long_laws.specs.LongTrace.{LongMoment, LongJoint, MayPass}
-use Rattle.long_laws.specs.LongResets.{hears_full, is_reset, ResetsOnlyLogged, IsDiscreet, AreDiscreet}
+use Rattle.long_laws.specs.LongResets.{receives_full, is_reset, ResetsOnlyLogged, IsDiscreet, AreDiscreet}
 use Rattle.long_laws.proofs.EarlyReturn.{all_ended, is_long}
 
 -- any service, without a greeting
@@ -79,7 +79,7 @@ spares log (To_server segment) e = tt
 spares log (To_logger message) e = tt
 spares log (From_logger message) e = tt
 
-quiet : (before : World) (moment : LongMoment) → hears_full before moment.step ≡ false → AllByRecursion (λ p. is_reset p ≡ false) moment.sent → IsDiscreet before moment
+quiet : (before : World) (moment : LongMoment) → receives_full before moment.step ≡ false → AllByRecursion (λ p. is_reset p ≡ false) moment.sent → IsDiscreet before moment
 quiet before moment full none = record {
   full = λ e. absurd (true≢false (sym e ∙ full));
   unlogged = all_weaker (λ p. is_reset p ≡ false) (ResetsOnlyLogged moment.world.now.log) moment.sent (spares moment.world.now.log) none;

@@ -5,7 +5,7 @@ use Rattle.ft_io.specs.declared.Key.{Key}
 use Rattle.server_trait.specs.Service.{Machine}
 use Rattle.seq_arith.specs.Packet.{Segment}
 use Rattle.ft_model.specs.Log.{Log}
-use Rattle.ft_model.specs.Masked.{last_told}
+use Rattle.ft_model.specs.Masked.{last_reported}
 use Rattle.ft_model.specs.Network.{Packet, source_of}
 use Rattle.ft_model.specs.Network.Packet.{To_server}
 use Rattle.ft_model.specs.Node.{Place, Stage}
@@ -25,23 +25,23 @@ use Rattle.ft_model.proofs.Happened.Happened.{server_turned}
 use Rattle.ft_model.proofs.Lists.{all_append, all_weaker}
 use Rattle.ft_model.proofs.Running.{HasSmallOutputs}
 use Rattle.ft_model.proofs.Scripts.{FitsScript}
-use Rattle.ft_model.proofs.ToldLast.{WasTold}
-use Rattle.ft_model.proofs.ToldOver.{StageTold}
+use Rattle.ft_model.proofs.ReportedLast.{WasReported}
+use Rattle.ft_model.proofs.ReportedOver.{StageReported}
 use Rattle.long_laws.specs.LongTrace.{last_rst, LetsGo}
 use Rattle.long_laws.proofs.Others.{last_there, all_but_one, last_but_one, last_with_one}
 use Rattle.long_laws.proofs.Stands.{Stands, AreSame, Shown, shown}
 
 -- where the same was last told
-place_told : (xs ys : List Packet) → ((k : Key) → last_told k xs ≡ last_told k ys) → (place : Place) → WasTold xs place → WasTold ys place
-place_told xs ys same (Lives p) t = λ r. sym (same p.key) ∙ t r
-place_told xs ys same (Opens n timestamping) t = tt
-place_told xs ys same (Ended k) t = tt
+place_reported : (xs ys : List Packet) → ((k : Key) → last_reported k xs ≡ last_reported k ys) → (place : Place) → WasReported xs place → WasReported ys place
+place_reported xs ys same (Lives p) t = λ r. sym (same p.key) ∙ t r
+place_reported xs ys same (Opens n timestamping) t = tt
+place_reported xs ys same (Ended k) t = tt
 
-pub stage_told : (xs ys : List Packet) → ((k : Key) → last_told k xs ≡ last_told k ys) → (stage : Stage) → StageTold xs stage → StageTold ys stage
-stage_told xs ys same (Serving opened places) t = all_weaker (WasTold xs) (WasTold ys) places (place_told xs ys same) t
-stage_told xs ys same Asking t = tt
-stage_told xs ys same (Fetching count fetched) t = tt
-stage_told xs ys same (Fenced newer) t = tt
+pub stage_reported : (xs ys : List Packet) → ((k : Key) → last_reported k xs ≡ last_reported k ys) → (stage : Stage) → StageReported xs stage → StageReported ys stage
+stage_reported xs ys same (Serving opened places) t = all_weaker (WasReported xs) (WasReported ys) places (place_reported xs ys same) t
+stage_reported xs ys same Asking t = tt
+stage_reported xs ys same (Fetching count fetched) t = tt
+stage_reported xs ys same (Fenced newer) t = tt
 
 abbrev pub with_packets : World → List Packet → World
 with_packets w packets = record w { packets = packets }
@@ -94,7 +94,7 @@ with_rst service w server p o =
         entries = o.backed.entries;
         stage = o.backed.stage;
       };
-      telling = λ n e. stage_told w.packets (w.packets ++ To_server rst ∷ []) (λ k. sym (last_with_one k w.packets rst)) n.stage (o.telling n e);
+      reporting = λ n e. stage_reported w.packets (w.packets ++ To_server rst ∷ []) (λ k. sym (last_with_one k w.packets rst)) n.stage (o.reporting n e);
     }
 
 pub same_with_rst : {State : Type 0} (service : Machine State) (w : World) (server : Addr) (p : Point) (o : Stands service w) → AreSame o (with_rst service w server p o)
@@ -140,7 +140,7 @@ without_rst service w xs ys rst o =
         entries = o.backed.entries;
         stage = o.backed.stage;
       };
-      telling = λ n e. stage_told ((xs ++ one ∷ []) ++ ys) (xs ++ ys) (λ k. last_but_one k xs ys rst) n.stage (o.telling n e);
+      reporting = λ n e. stage_reported ((xs ++ one ∷ []) ++ ys) (xs ++ ys) (λ k. last_but_one k xs ys rst) n.stage (o.reporting n e);
     }
 
 pub same_without_rst : {State : Type 0} (service : Machine State) (w : World) (xs ys : List Packet) (rst : Segment) (o : Stands service (with_packets w ((xs ++ To_server rst ∷ []) ++ ys)))

@@ -18,7 +18,7 @@ use Rattle.ft_model.proofs.Seen.{IsSeen}
 use Rattle.long_laws.specs.LongTrace.{LongWorld, LongStep, LongMoment, LongJoint, MayPass, long_after, AreMasked, SawFront, gone_with, recycled}
 use Rattle.long_laws.specs.LongTrace.LongStep.{Joint_event, Recycles, Forgets, Arrives, Lets_go, Keeps_alive}
 use Rattle.long_laws.proofs.Others.{all_filtered}
-use Rattle.long_laws.proofs.Stands.{Stands, Shown, at_start, event_shown, sees_front, all_told}
+use Rattle.long_laws.proofs.Stands.{Stands, Shown, at_start, event_shown, sees_front, all_reported}
 use Rattle.long_laws.proofs.Recycled.{stands_without}
 use Rattle.long_laws.proofs.Forgotten.{stands_forgotten, forgets_exactly}
 use Rattle.long_laws.proofs.Arrived.{stands_with_new}
@@ -96,6 +96,6 @@ module _ {State : Type 0} (service : Machine State) (small : HasSmallOutputs ser
           past = now.past;
           acknowledged = now.shown.acknowledged;
           restart = now.shown.restart;
-          told = all_told service moment.world.now now.shown.stands;
+          reported = all_reported service moment.world.now now.shown.stands;
         },
       )

@@ -6,7 +6,7 @@ use Rattle.ft_io.specs.declared.Key.{Key}
 use Rattle.ft_io.specs.Key.{key_eq}
 use Rattle.seq_arith.specs.Packet.{Segment, has_ack, has_rst}
 use Rattle.ft_model.specs.Keys.{has_key, AreDistinct}
-use Rattle.ft_model.specs.Masked.{told_to, last_told, or_before}
+use Rattle.ft_model.specs.Masked.{reported_to, last_reported, or_before}
 use Rattle.ft_model.specs.Network.{Packet, destination_of}
 use Rattle.ft_model.specs.Network.Packet.{To_server, To_client, To_logger, From_logger}
 use Rattle.ft_model.specs.Node.{Place, key_of}
@@ -14,7 +14,7 @@ use Rattle.ft_model.specs.Node.Place.{Opens, Lives, Ended}
 use Rattle.ft_model.proofs.AuthorTurns.{settles, is_settled}
 use Rattle.ft_model.proofs.Keys.{key_eq_turns}
 use Rattle.ft_model.proofs.Lists.{or_cases, or_left, same_key, none_is_some}
-use Rattle.ft_model.proofs.ToldLast.{or_none}
+use Rattle.ft_model.proofs.ReportedLast.{or_none}
 use Rattle.ft_io.proofs.Choices.{holds_if}
 use Rattle.long_laws.specs.LongTrace.{others, concerns}
 
@@ -57,21 +57,21 @@ distinct_others of passes (x ∷ xs) d =
     (λ t. (no_key_others of (of x) passes xs d.0, distinct_others of passes xs d.1))
 
 -- a packet of one connection tells no other client anything
-told_elsewhere : (key k : Key) (p : Packet) → concerns key p ≡ true → key_eq k key ≡ false → told_to k p ≡ None
-told_elsewhere key k (To_client segment) c apart =
+reported_elsewhere : (key k : Key) (p : Packet) → concerns key p ≡ true → key_eq k key ≡ false → reported_to k p ≡ None
+reported_elsewhere key k (To_client segment) c apart =
     let other : key_eq (destination_of segment) k ≡ false = subst (λ z. key_eq z k ≡ false) (sym (same_key (destination_of segment) key c)) (key_eq_turns k key apart) in
     ap (λ b. if b && has_ack segment && not (has_rst segment) then Some segment.head.ack else None) other
-told_elsewhere key k (To_server segment) c apart = refl
-told_elsewhere key k (To_logger message) c apart = refl
-told_elsewhere key k (From_logger message) c apart = refl
+reported_elsewhere key k (To_server segment) c apart = refl
+reported_elsewhere key k (To_logger message) c apart = refl
+reported_elsewhere key k (From_logger message) c apart = refl
 
-pub last_others : (key k : Key) (packets : List Packet) → key_eq k key ≡ false → last_told k (others (concerns key) packets) ≡ last_told k packets
+pub last_others : (key k : Key) (packets : List Packet) → key_eq k key ≡ false → last_reported k (others (concerns key) packets) ≡ last_reported k packets
 last_others key k [] apart = refl
 last_others key k (p ∷ packets) apart =
-    let rest : last_told k (others (concerns key) packets) ≡ last_told k packets = last_others key k packets apart in
-    holds_if (λ l. last_told k l ≡ last_told k (p ∷ packets)) (concerns key p) (others (concerns key) packets) (p ∷ others (concerns key) packets)
-    (λ t. rest ∙ (or_none (last_told k packets) ∙ ap (or_before (last_told k packets)) (sym (told_elsewhere key k p t apart))))
-    (λ t. ap (λ o. or_before o (told_to k p)) rest)
+    let rest : last_reported k (others (concerns key) packets) ≡ last_reported k packets = last_others key k packets apart in
+    holds_if (λ l. last_reported k l ≡ last_reported k (p ∷ packets)) (concerns key p) (others (concerns key) packets) (p ∷ others (concerns key) packets)
+    (λ t. rest ∙ (or_none (last_reported k packets) ∙ ap (or_before (last_reported k packets)) (sym (reported_elsewhere key k p t apart))))
+    (λ t. ap (λ o. or_before o (reported_to k p)) rest)
 
 -- a place that is live or done under another key stays
 settles_key : (k : Key) (place : Place) → settles k place ≡ true → key_of place ≡ k
@@ -107,10 +107,10 @@ pub all_but_one : {A : Type 0} (P : A → Type 0) (xs ys : List A) (x : A) → A
 all_but_one P [] ys x a = a.1
 all_but_one P (y ∷ xs) ys x a = (a.0, all_but_one P xs ys x a.1)
 
-pub last_but_one : (k : Key) (xs ys : List Packet) (segment : Segment) → last_told k ((xs ++ To_server segment ∷ []) ++ ys) ≡ last_told k (xs ++ ys)
-last_but_one k [] ys segment = sym (or_none (last_told k ys))
-last_but_one k (x ∷ xs) ys segment = ap (λ o. or_before o (told_to k x)) (last_but_one k xs ys segment)
+pub last_but_one : (k : Key) (xs ys : List Packet) (segment : Segment) → last_reported k ((xs ++ To_server segment ∷ []) ++ ys) ≡ last_reported k (xs ++ ys)
+last_but_one k [] ys segment = sym (or_none (last_reported k ys))
+last_but_one k (x ∷ xs) ys segment = ap (λ o. or_before o (reported_to k x)) (last_but_one k xs ys segment)
 
-pub last_with_one : (k : Key) (xs : List Packet) (segment : Segment) → last_told k (xs ++ To_server segment ∷ []) ≡ last_told k xs
+pub last_with_one : (k : Key) (xs : List Packet) (segment : Segment) → last_reported k (xs ++ To_server segment ∷ []) ≡ last_reported k xs
 last_with_one k [] segment = refl
-last_with_one k (x ∷ xs) segment = ap (λ o. or_before o (told_to k x)) (last_with_one k xs segment)
+last_with_one k (x ∷ xs) segment = ap (λ o. or_before o (reported_to k x)) (last_with_one k xs segment)

@@ -11,7 +11,7 @@ use Rattle.seq_arith.specs.Packet.{Segment, has_syn, has_rst, has_ack}
 use Rattle.seq_arith.specs.Message.{Body}
 use Rattle.seq_arith.specs.Message.Body.{DataMsg, DoneMsg}
 use Rattle.server_trait.specs.Service.{Machine}
-use Rattle.ft_model.specs.Connection.{ResetTurn, LiveTurn, ConnectionTurn, told_by}
+use Rattle.ft_model.specs.Connection.{ResetTurn, LiveTurn, ConnectionTurn, reported_by}
 use Rattle.ft_model.specs.Copy.{copies}
 use Rattle.ft_model.specs.Log.{Log, Entry, entry_of}
 use Rattle.ft_model.specs.Network.{Packet, source_of}
@@ -23,15 +23,15 @@ use Rattle.ft_model.specs.Node.Place.{Lives}
 use Rattle.ft_model.specs.Node.Stage.{Serving}
 use Rattle.ft_model.specs.Offset.{first_of, ack_of}
 use Rattle.ft_model.specs.Point.{Point, taken_units, is_over, acknowledgement}
-use Rattle.ft_model.specs.Reads.{reads_told, read_messages, first_told}
-use Rattle.ft_model.specs.ResetAndEnd.{reset_after, is_end_tick, end_ticks_after, tells_done, dones}
+use Rattle.ft_model.specs.Reads.{reads_reported, read_messages, first_reported}
+use Rattle.ft_model.specs.ResetAndEnd.{reset_after, is_end_tick, end_ticks_after, reports_done, dones}
 use Rattle.ft_model.specs.Segments.{segments_of}
 use Rattle.ft_model.specs.Sending.{acknowledges, acknowledged_by, acknowledged_after}
 use Rattle.ft_model.specs.Taken.{acknowledges_unsent, uses, counts}
 use Rattle.ft_model.specs.Timer.{is_tick}
 use Rattle.ft_model.proofs.Copied.{all_copies}
 use Rattle.ft_model.proofs.Lists.{all_of, all_map, all_append, or_cases}
-use Rattle.ft_model.proofs.ToldLast.{was_not_reset}
+use Rattle.ft_model.proofs.ReportedLast.{was_not_reset}
 use Rattle.long_laws.proofs.Sends.{Sends, CountsOwn, live_sends, reset_sends}
 
 -- a segment acknowledges what its client has accepted, as the entry counts; and a client that sends a RST is done
@@ -120,14 +120,14 @@ module _ {State : Type 0} (service : Machine State) (B : Key → ℕ → Type 0)
   messages_over key index [] = tt
   messages_over key index (n ∷ lengths) = (tt, messages_over key (index + 1) lengths)
 
-  reads_over : (news : News) (p q : Point) → AllByRecursion (BodyOver B F) (reads_told news p q)
-  unfolding reads_told
-  reads_over news p q = messages_over q.key (first_told news p q) (drop (first_told news p q) q.lengths)
+  reads_over : (news : News) (p q : Point) → AllByRecursion (BodyOver B F) (reads_reported news p q)
+  unfolding reads_reported
+  reads_over news p q = messages_over q.key (first_reported news p q) (drop (first_reported news p q) q.lengths)
 
   -- Done is said where the client is done
-  dones_over : (news : News) (p q : Point) → (tells_done news p q ≡ true → F q.key) → AllByRecursion (BodyOver B F) (dones news p q)
+  dones_over : (news : News) (p q : Point) → (reports_done news p q ≡ true → F q.key) → AllByRecursion (BodyOver B F) (dones news p q)
   unfolding dones
-  dones_over news p q f = holds_if (AllByRecursion (BodyOver B F)) (tells_done news p q) (DoneMsg q.key ∷ []) [] (λ t. (f t, tt)) (λ t. tt)
+  dones_over news p q f = holds_if (AllByRecursion (BodyOver B F)) (reports_done news p q) (DoneMsg q.key ∷ []) [] (λ t. (f t, tt)) (λ t. tt)
 
   pub segments_over : (log : Log) (segments : List Segment) → AllByRecursion (PacketOver B F log) (map To_client segments)
   segments_over log segments = all_map (PacketOver B F log) To_client segments (all_of _ segments (λ s. tt))
@@ -143,7 +143,7 @@ module _ {State : Type 0} (service : Machine State) (B : Key → ℕ → Type 0)
       ⊎_elim (λ z. inl (same ∙ z)) (λ f. inr (inl (subst F (sym key) f))) ends)
 
   -- the fourth one isn't the first
-  fourth : (news : News) (p q : Point) → q.key ≡ p.key → q.reset ≡ false → (p.end_ticks ≡ 0) ⊎ F p.key → q.end_ticks ≡ end_ticks_after service news p q → tells_done news p q ≡ true → F q.key
+  fourth : (news : News) (p q : Point) → q.key ≡ p.key → q.reset ≡ false → (p.end_ticks ≡ 0) ⊎ F p.key → q.end_ticks ≡ end_ticks_after service news p q → reports_done news p q ≡ true → F q.key
   unfolding end_ticks_after
   fourth news p q key live ends e t =
       ⊎_elim (λ x. absurd (true≢false (sym (and_parts q.reset (not p.reset) x).0 ∙ live)))
@@ -172,7 +172,7 @@ module _ {State : Type 0} (service : Machine State) (B : Key → ℕ → Type 0)
           reset = λ x. f;
           ends = inr (inl f);
         },
-        subst (AllByRecursion P) (sym t.packets) (all_map P (told_by boot) (dones news p q) (dones_over news p q (λ x. f))),
+        subst (AllByRecursion P) (sym t.packets) (all_map P (reported_by boot) (dones news p q) (dones_over news p q (λ x. f))),
       ))
       (λ r t. let una : B q.key q.una = subst (λ k. B k q.una) (sym t.same.key) (subst (B p.key) (sym t.una) (una_over news p n o.una)) in (
         record {
@@ -183,7 +183,7 @@ module _ {State : Type 0} (service : Machine State) (B : Key → ℕ → Type 0)
         },
         subst (AllByRecursion P) (sym t.packets)
             (all_append P (map To_client (segments_of service server news p q)) _ (segments_over log (segments_of service server news p q))
-            (all_map P (told_by boot) (copies news p q ++ (reads_told news p q ++ dones news p q))
+            (all_map P (reported_by boot) (copies news p q ++ (reads_reported news p q ++ dones news p q))
             (all_append Q (copies news p q) _ (copies_over news p q una)
-            (all_append Q (reads_told news p q) (dones news p q) (reads_over news p q) (dones_over news p q (fourth news p q t.same.key t.reset ends t.end_ticks)))))),
+            (all_append Q (reads_reported news p q) (dones news p q) (reads_over news p q) (dones_over news p q (fourth news p q t.same.key t.reset ends t.end_ticks)))))),
       ))

@@ -30,7 +30,7 @@ use Rattle.ft_model.proofs.Fetching.{full_front}
 use Rattle.ft_model.proofs.Grows.{logged_lengths_grow}
 use Rattle.ft_model.proofs.Lists.{all_of, all_weaker, all_both, prefix_refl, prefix_more, same_key}
 use Rattle.ft_model.proofs.Seen.{IsSeen}
-use Rattle.ft_model.proofs.Services.{RunExtends, reads_go_on, prefix_length}
+use Rattle.ft_model.proofs.Services.{RunExtends, reads_proceed, prefix_length}
 use Rattle.long_laws.specs.Over.{HasAll, HasReset, is_rst_of, is_at_end, is_reset}
 use Rattle.long_laws.proofs.Over.{PointOver}
 use Rattle.long_laws.proofs.Sends.{over_closed}
@@ -89,43 +89,43 @@ pub record IsLater (c d : Client) : Type 0 where
   pub reset : is_reset c.phase ≡ true → is_reset d.phase ≡ true
 
 -- how far it goes
-record GoesOn (c d : Client) : Type 0 where
+record Proceeds (c d : Client) : Type 0 where
   accepted : IsPrefix c.accepted d.accepted
   at_end : is_at_end c.phase ≡ true → is_at_end d.phase ≡ true
 
-goes_same : (c : Client) → GoesOn c c
+goes_same : (c : Client) → Proceeds c c
 goes_same c = record { accepted = prefix_refl c.accepted; at_end = λ e. e }
 
-goes_reset : (c : Client) → GoesOn c (record c { phase = phases.Reset })
+goes_reset : (c : Client) → Proceeds c (record c { phase = phases.Reset })
 goes_reset c = record { accepted = prefix_refl c.accepted; at_end = λ e. refl }
 
-used_goes : (c : Client) (segment : Segment) → GoesOn c (used c segment)
+used_goes : (c : Client) (segment : Segment) → Proceeds c (used c segment)
 used_goes c segment =
-    holds_if (GoesOn c) (int_lt (pos c.sent) (ack_of c.isn segment)) c (with_added (with_ack c (ack_of c.isn segment)) (came c segment)) (λ t. goes_same c)
+    holds_if (Proceeds c) (int_lt (pos c.sent) (ack_of c.isn segment)) c (with_added (with_ack c (ack_of c.isn segment)) (came c segment)) (λ t. goes_same c)
     (λ t. record {
       accepted = prefix_more c.accepted (came c segment).added;
       at_end = λ e. holds_if (λ x. is_at_end x ≡ true) (came c segment).fin phases.Ended c.phase (λ s. refl) (λ s. e);
     })
 
-arrived_goes : (c : Client) (segment : Segment) → GoesOn c (arrived c segment)
+arrived_goes : (c : Client) (segment : Segment) → Proceeds c (arrived c segment)
 arrived_goes c segment =
     let gone : Client = record c { phase = phases.Reset } in
     let rst : Client = if int_eq (first_of c.sisn segment) (pos (next_of c)) then gone else c in
     let other : Client = if has_syn segment || not (has_ack segment) then c else used c segment in
-    holds_if (GoesOn c) (may_use c segment) (if has_rst segment then rst else other) c
-    (λ t. holds_if (GoesOn c) (has_rst segment) rst other
-    (λ r. holds_if (GoesOn c) (int_eq (first_of c.sisn segment) (pos (next_of c))) gone c (λ x. goes_reset c) (λ x. goes_same c))
-    (λ r. holds_if (GoesOn c) (has_syn segment || not (has_ack segment)) c (used c segment) (λ x. goes_same c) (λ x. used_goes c segment)))
+    holds_if (Proceeds c) (may_use c segment) (if has_rst segment then rst else other) c
+    (λ t. holds_if (Proceeds c) (has_rst segment) rst other
+    (λ r. holds_if (Proceeds c) (int_eq (first_of c.sisn segment) (pos (next_of c))) gone c (λ x. goes_reset c) (λ x. goes_same c))
+    (λ r. holds_if (Proceeds c) (has_syn segment || not (has_ack segment)) c (used c segment) (λ x. goes_same c) (λ x. used_goes c segment)))
     (λ t. goes_same c)
 
 -- a client at its end doesn't open
-opening_goes : (c : Client) (segment : Segment) → is_opening c.phase ≡ true → GoesOn c (opened_by c segment)
+opening_goes : (c : Client) (segment : Segment) → is_opening c.phase ≡ true → Proceeds c (opened_by c segment)
 opening_goes c segment o =
     let gone : Client = record c { phase = phases.Reset } in
     let stands : Client = record c { phase = phases.Established; sisn = segment.head.seq } in
-    holds_if (GoesOn c) (has_ack segment && segment.head.ack == number_at c.isn 0) (if has_rst segment then gone else (if has_syn segment then stands else c)) c
-    (λ t. holds_if (GoesOn c) (has_rst segment) gone (if has_syn segment then stands else c) (λ r. goes_reset c)
-    (λ r. holds_if (GoesOn c) (has_syn segment) stands c (λ x. record { accepted = prefix_refl c.accepted; at_end = λ e. absurd (apart c.phase o e) }) (λ x. goes_same c)))
+    holds_if (Proceeds c) (has_ack segment && segment.head.ack == number_at c.isn 0) (if has_rst segment then gone else (if has_syn segment then stands else c)) c
+    (λ t. holds_if (Proceeds c) (has_rst segment) gone (if has_syn segment then stands else c) (λ r. goes_reset c)
+    (λ r. holds_if (Proceeds c) (has_syn segment) stands c (λ x. record { accepted = prefix_refl c.accepted; at_end = λ e. absurd (apart c.phase o e) }) (λ x. goes_same c)))
     (λ t. goes_same c)
   where
     apart : (phase : Phase) → is_opening phase ≡ true → is_at_end phase ≡ true → ⊥
@@ -135,10 +135,10 @@ opening_goes c segment o =
     apart phases.Ended o e = true≢false (sym o)
     apart phases.Reset o e = true≢false (sym o)
 
-received_goes : (c : Client) (segment : Segment) → GoesOn c (received c segment)
+received_goes : (c : Client) (segment : Segment) → Proceeds c (received c segment)
 received_goes c segment =
-    holds_if (GoesOn c) (is_opening c.phase) (opened_by c segment) (if is_open c.phase then arrived c segment else c) (λ t. opening_goes c segment t)
-    (λ t. holds_if (GoesOn c) (is_open c.phase) (arrived c segment) c (λ x. arrived_goes c segment) (λ x. goes_same c))
+    holds_if (Proceeds c) (is_opening c.phase) (opened_by c segment) (if is_open c.phase then arrived c segment else c) (λ t. opening_goes c segment t)
+    (λ t. holds_if (Proceeds c) (is_open c.phase) (arrived c segment) c (λ x. arrived_goes c segment) (λ x. goes_same c))
 
 -- a client that is reset hears nothing
 received_reset : (c : Client) (segment : Segment) → is_reset c.phase ≡ true → is_reset (received c segment).phase ≡ true
@@ -166,7 +166,7 @@ later_same c = record { kind = refl; key = refl; script = refl; accepted = prefi
 pub received_later : (c : Client) (segment : Segment) → IsLater c (received c segment)
 received_later c segment =
     let s : IsSameClient c (received c segment) = received_same c segment in
-    let g : GoesOn c (received c segment) = received_goes c segment in
+    let g : Proceeds c (received c segment) = received_goes c segment in
     record { kind = s.kind; key = s.key; script = s.script; accepted = g.accepted; at_end = g.at_end; reset = received_reset c segment }
 
 -- only a client that opens sends a SYN
@@ -229,7 +229,7 @@ done_later service let_go log packets c d l s h =
 pub all_grown : {State : Type 0} (service : Machine State) (before after : Log) (c : Client) → LogGrows before after → HasAll service before c → HasAll service after c
 all_grown service before after c g h =
     let goes : RunExtends (unfailing service before c) (unfailing service after c) =
-    reads_go_on service c.script (logged_lengths c.key before) (logged_lengths c.key after) (logged_lengths_grow c.key before after g) in
+    reads_proceed service c.script (logged_lengths c.key before) (logged_lengths c.key after) (logged_lengths_grow c.key before after g) in
     let now = goes.closed h.closed in
     record { closed = now.1; all = h.all ∙ sym now.0; at_end = h.at_end }
 

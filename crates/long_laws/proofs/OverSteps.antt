@@ -170,7 +170,7 @@ over_with_new service let_go c w may x =
     let more : (k : Key) (n : ℕ) → key_eq k c.key ≡ false → B k n → C k n = λ k n a h. of_others (HasReached service w.log n) c w.clients k a h in
     let done : (k : Key) → key_eq k c.key ≡ false → F k → G k = λ k a h. of_others (IsDoneWith service let_go w.log w.packets) c w.clients k a h in
     record {
-      packets = all_both (λ p. concerns c.key p ≡ false) (PacketOver B F w.log) (PacketOver C G w.log) w.packets (packet_elsewhere service B C F G c.key more done w.log) may.unheard x.packets;
+      packets = all_both (λ p. concerns c.key p ≡ false) (PacketOver B F w.log) (PacketOver C G w.log) w.packets (packet_elsewhere service B C F G c.key more done w.log) may.unreceived x.packets;
       entries = all_both (λ e. key_eq e.key c.key ≡ false) (EntryOver B F) (EntryOver C G) w.log.entries (entry_elsewhere service B C F G c.key more done)
           (none_found (λ e. key_eq e.key c.key) w.log.entries may.absent) x.entries;
       stage = λ n e. stage_elsewhere service B C F G c.key more done n.stage (may.clear n e) (x.stage n e);

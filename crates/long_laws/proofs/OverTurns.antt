@@ -35,7 +35,7 @@ use Rattle.ft_model.proofs.FaithfulOver.{restored_all}
 use Rattle.ft_model.proofs.Fenced.{held_so, refusals_so}
 use Rattle.ft_model.proofs.Happened.{IsBrought, all_sent}
 use Rattle.ft_model.proofs.Lists.{all_both, some_is}
-use Rattle.ft_model.proofs.PlaceTurns.{PlaceWent, IsNews, all_go_on, serving_goes_on}
+use Rattle.ft_model.proofs.PlaceTurns.{PlaceWent, IsNews, all_proceed, serving_proceeds}
 use Rattle.ft_model.proofs.PlaceTurns.PlaceWent.{stayed, went_on, began, dropped, ended, refused}
 use Rattle.ft_model.proofs.Resumed.{nothing_missing}
 use Rattle.ft_model.proofs.StageTurns.{StageWent}
@@ -160,7 +160,7 @@ module _ {State : Type 0} (service : Machine State) (B : Key → ℕ → Type 0)
       let whole = nothing_missing w.log.entries count fetched agrees.1 none in
       let points : AllByRecursion (λ x. Restored (Lives (point_of service node.profile x))) w.log.entries =
       all_both (EntryOver B F) (EntryOf a.author) (λ x. Restored (Lives (point_of service node.profile x))) w.log.entries (point_over node.profile) entries a.entries in
-      let went = all_go_on (Revives service node) Restored Q P (revive_over node) (all_restored service node.profile fetched) places sent
+      let went = all_proceed (Revives service node) Restored Q P (revive_over node) (all_restored service node.profile fetched) places sent
       (restored_all Restored service node.profile w.log.entries fetched points (λ y. tt) agrees.1 whole.0) t in
       (subst (StageOver service B F) (sym g) went.0, went.1)
   turn_over node input sent after k f packets entries stage e brought (served opened places later was g t) =
@@ -169,6 +169,6 @@ module _ {State : Type 0} (service : Machine State) (B : Key → ℕ → Type 0)
       let over : AllByRecursion Q places = subst (StageOver service B F) was stage in
       let before : AllByRecursion Before places =
       both_hold (PlaceFits script isn w.log) (λ place. PlaceRuns service a.author place × Q place) places fits (both_hold (PlaceRuns service a.author) Q places runs.0 over) in
-      let went = serving_goes_on service node input opened Before Q P places later sent (place_over node input (input_over B F w input packets brought)) (new_over node input opened places)
+      let went = serving_proceeds service node input opened Before Q P places later sent (place_over node input (input_over B F w input packets brought)) (new_over node input opened places)
       (refusals_so P node input places (λ x. tt)) (λ n s c. tt) before t in
       (subst (StageOver service B F) (sym g) went.0, went.1)

@@ -30,7 +30,7 @@ use Rattle.ft_model.proofs.Authored.{logged_run}
 use Rattle.ft_model.proofs.FaithfulOver.{client_there}
 use Rattle.ft_model.proofs.Grows.{log_grows, part_grows, found_later}
 use Rattle.ft_model.proofs.Happened.{Happened, IsUnderWay, all_sent, answers}
-use Rattle.ft_model.proofs.Happened.Happened.{log_heard, client_heard, client_moved, server_turned, server_booted, server_down}
+use Rattle.ft_model.proofs.Happened.Happened.{log_received, client_received, client_moved, server_turned, server_booted, server_down}
 use Rattle.ft_model.proofs.Lists.{all_append, all_weaker, all_find, found_passes, key_is, all_of, all_slice_get, or_left, none_is_some, same_key, some_is}
 use Rattle.ft_model.proofs.Keys.{all_from_get}
 use Rattle.ft_model.proofs.LogAnswers.{LogWent, log_went, all_answers}
@@ -150,9 +150,9 @@ module _ {State : Type 0} (service : Machine State) (B : Key → ℕ → Type 0)
   entries_over log message after (raised h n e) b a = subst (λ l. AllByRecursion (EntryOver B F) l.entries) (sym e) a
   entries_over log message after (changed n e) b a = subst (λ l. AllByRecursion (EntryOver B F) l.entries) (sym e) (kept_over message.body log b a)
 
-  pub heard_over : (w : World) (message : Message) → OverIn service B F w.log w.packets w.node → IsUnderWay w (To_logger message)
+  pub received_over : (w : World) (message : Message) → OverIn service B F w.log w.packets w.node → IsUnderWay w (To_logger message)
       → OverIn service B F (log_after w.log message) (w.packets ++ answers w.log message) w.node
-  heard_over w message o under =
+  received_over w message o under =
       let later : Log = log_after w.log message in
       let g : LogGrows w.log later = log_grows w.log message in
       record {
@@ -180,10 +180,10 @@ one_later service log P key c d clients l step has sees a =
     (λ t z k. step z (has (ap (λ y. key_eq y key) (sym l.key) ∙ k))) (λ t z k. h k) s) sees a
 
 -- each client of a key hears the same
-all_hear : {State : Type 0} (service : Machine State) (log : Log) (P : Client → Type 0) (key at : Key) (segment : Segment) (clients : List Client)
+all_receive : {State : Type 0} (service : Machine State) (log : Log) (P : Client → Type 0) (key at : Key) (segment : Segment) (clients : List Client)
     → ((c d : Client) → IsLater c d → SeesFront service log d → P c → P d) → AllByRecursion (SeesFront service log) (with_client at (λ c. received c segment) clients)
     → Of key P clients → Of key P (with_client at (λ c. received c segment) clients)
-all_hear service log P key at segment clients step sees a =
+all_receive service log P key at segment clients step sees a =
     all_map_with (SeesFront service log) (λ x. key_eq x.key key ≡ true → P x) (λ x. key_eq x.key key ≡ true → P x) (λ x. if key_eq x.key at then received x segment else x) clients
     (λ x s h. holds_if (λ y. SeesFront service log y → key_eq y.key key ≡ true → P y) (key_eq x.key at) (received x segment) x
     (λ t z k. let l : IsLater x (received x segment) = received_later x segment in step x (received x segment) l z (h (ap (λ y. key_eq y key) (sym l.key) ∙ k))) (λ t z k. h k) s) sees a
@@ -288,9 +288,9 @@ module _ {State : Type 0} (service : Machine State) (let_go : Key → Bool) wher
       ) in
       subst (OverWorld service let_go) (sym same) (record { packets = all_append (PacketOver C G w.log) w.packets (one ∷ []) still.packets (sends, tt); entries = still.entries; stage = still.stage })
 
-  heard_by_log : (w : World) (message : Message) → IsUnderWay w (To_logger message) → OverWorld service let_go w
+  received_by_log : (w : World) (message : Message) → IsUnderWay w (To_logger message) → OverWorld service let_go w
       → OverWorld service let_go (record w { log = log_after w.log message; packets = w.packets ++ answers w.log message })
-  heard_by_log w message under x =
+  received_by_log w message under x =
       let later : Log = log_after w.log message in
       let g : LogGrows w.log later = log_grows w.log message in
       let packets : List Packet = w.packets ++ answers w.log message in
@@ -302,41 +302,41 @@ module _ {State : Type 0} (service : Machine State) (let_go : Key → Bool) wher
       (λ k h. of_weaker k (IsDoneWith service let_go w.log w.packets) (IsDoneWith service let_go later packets) w.clients
       (λ c y. done_more service let_go later w.packets (answers w.log message) c (done_grown service let_go w.log later w.packets c g y)) h)
       w.log w.packets w.node x in
-      heard_over service C G (reached_none service later w.clients) w message still under
+      received_over service C G (reached_none service later w.clients) w message still under
 
-  heard_by_client : (w after : World) (segment : Segment) (sent : List Packet) → Stands service after → sent ≡ []
+  received_by_client : (w after : World) (segment : Segment) (sent : List Packet) → Stands service after → sent ≡ []
       → after ≡ record w { clients = with_client (destination_of segment) (λ c. received c segment) w.clients; packets = w.packets ++ sent } → OverWorld service let_go w → OverWorld service let_go after
-  heard_by_client w after segment sent then_ none e x =
+  received_by_client w after segment sent then_ none e x =
       let clients : List Client = with_client (destination_of segment) (λ c. received c segment) w.clients in
       let same : after ≡ record w { clients = clients } =
       e ∙ (ap (λ l. record w { clients = clients; packets = w.packets ++ l }) none ∙ ap (λ l. record w { clients = clients; packets = l }) (append-nil w.packets)) in
       let sees : AllByRecursion (SeesFront service w.log) clients = subst (λ y. AllByRecursion (SeesFront service y.log) y.clients) same (sees_front service after then_) in
       subst (OverWorld service let_go) (sym same)
       (over_stays service (Reached service w.log w.clients) (Reached service w.log clients) (Finished service let_go w.log w.packets w.clients) (Finished service let_go w.log w.packets clients)
-      (λ k n h. all_hear service w.log (HasReached service w.log n) k (destination_of segment) segment w.clients (reached_later service w.log n) sees h)
-      (λ k h. all_hear service w.log (IsDoneWith service let_go w.log w.packets) k (destination_of segment) segment w.clients (done_later service let_go w.log w.packets) sees h)
+      (λ k n h. all_receive service w.log (HasReached service w.log n) k (destination_of segment) segment w.clients (reached_later service w.log n) sees h)
+      (λ k h. all_receive service w.log (IsDoneWith service let_go w.log w.packets) k (destination_of segment) segment w.clients (done_later service let_go w.log w.packets) sees h)
       w.log w.packets w.node x)
 
   -- a moment, by its actor
-  pub over_goes_on : (before : World) (sent : List Packet) (after : World) → Stands service before → Stands service after → Happened service before sent after
+  pub over_proceeds : (before : World) (sent : List Packet) (after : World) → Stands service before → Stands service after → Happened service before sent after
       → OverWorld service let_go before → OverWorld service let_go after
-  over_goes_on before sent after o then_ (log_heard message under t e) x =
-      subst (OverWorld service let_go) (sym (e ∙ ap (λ l. record before { log = log_after before.log message; packets = before.packets ++ l }) t)) (heard_by_log before message under x)
-  over_goes_on before sent after o then_ (client_heard segment under t e) x = heard_by_client before after segment sent then_ t e x
-  over_goes_on before sent after o then_ (client_moved number m) x = moved_over before after number sent o then_ m x
-  over_goes_on before sent after o then_ (server_turned input node later brought is turn e) x =
+  over_proceeds before sent after o then_ (log_received message under t e) x =
+      subst (OverWorld service let_go) (sym (e ∙ ap (λ l. record before { log = log_after before.log message; packets = before.packets ++ l }) t)) (received_by_log before message under x)
+  over_proceeds before sent after o then_ (client_received segment under t e) x = received_by_client before after segment sent then_ t e x
+  over_proceeds before sent after o then_ (client_moved number m) x = moved_over before after number sent o then_ m x
+  over_proceeds before sent after o then_ (server_turned input node later brought is turn e) x =
       let t = turn_over service (Reached service before.log before.clients) (Finished service let_go before.log before.packets before.clients) (reached_down service before.log before.clients)
       (reached_none service before.log before.clients) o.script o.isn before o.author (finishes service let_go before.packets before o) node input sent later.stage o.asked o.faithful x.packets x.entries
       (x.stage node is) is brought (stage_went service node later input sent turn) in
       subst (OverWorld service let_go) (sym e)
       (more_over before before.boot (Some later) sent x t.1
       (λ n g. subst (λ y. StageOver service (Reached service before.log before.clients) (Finished service let_go before.log before.packets before.clients) y.stage) (some_is later n g) t.0))
-  over_goes_on before sent after o then_ (server_booted boot isn down larger t e) x =
+  over_proceeds before sent after o then_ (server_booted boot isn down larger t e) x =
       let P : Packet → Type 0 = PacketOver (Reached service before.log before.clients) (Finished service let_go before.log before.packets before.clients) before.log in
       subst (OverWorld service let_go) (sym e)
       (more_over before boot (Some (booted before.server before.profile boot isn)) sent x (subst (AllByRecursion P) (sym t) (tt, tt))
       (λ n g. subst (λ y. StageOver service (Reached service before.log before.clients) (Finished service let_go before.log before.packets before.clients) y.stage) (some_is (booted before.server before.profile boot isn) n g) tt))
-  over_goes_on before sent after o then_ (server_down t e) x =
+  over_proceeds before sent after o then_ (server_down t e) x =
       let P : Packet → Type 0 = PacketOver (Reached service before.log before.clients) (Finished service let_go before.log before.packets before.clients) before.log in
       subst (OverWorld service let_go) (sym e) (more_over before before.boot None sent x (subst (AllByRecursion P) (sym t) tt) (λ n g. none_is_some n g))
 

@@ -14,7 +14,7 @@ use Rattle.ft_model.proofs.FaithfulKept.{ClientFits, IsSameClient, received_same
 use Rattle.ft_model.proofs.FaithfulOver.{client_there}
 use Rattle.ft_model.proofs.Fenced.{IsOurs, turn_ours}
 use Rattle.ft_model.proofs.Happened.{Happened}
-use Rattle.ft_model.proofs.Happened.Happened.{log_heard, client_heard, client_moved, server_turned, server_booted, server_down}
+use Rattle.ft_model.proofs.Happened.Happened.{log_received, client_received, client_moved, server_turned, server_booted, server_down}
 use Rattle.ft_model.proofs.Lists.{all_append, all_of, all_weaker, same_key}
 use Rattle.ft_model.proofs.LogAnswers.{all_answers}
 use Rattle.ft_model.proofs.StageTurns.{stage_went}
@@ -66,36 +66,36 @@ moved_plain script isn w number sent after fits within o m =
     subst (SendsPlain isn) (sym m.after_is)
     (changed_plain isn w c.key (λ x. m.later) sent o renames (λ x k. same.key ∙ sym (same_key x.key c.key k)) (subst (AllByRecursion (PlainNear now isn)) (sym m.sent_is) (first, tt)))
 
-pub plain_goes_on : {State : Type 0} (service : Machine State) (script : Key → List ℕ) (isn : Key → ℕ) (before : World) (sent : List Packet) (after : World) → AllByRecursion (ClientFits script isn) before.clients
+pub plain_proceeds : {State : Type 0} (service : Machine State) (script : Key → List ℕ) (isn : Key → ℕ) (before : World) (sent : List Packet) (after : World) → AllByRecursion (ClientFits script isn) before.clients
     → AllByRecursion SentWithin before.clients → SendsPlain isn before → Happened service before sent after → SendsPlain isn after
-plain_goes_on service script isn before sent after fits within o (log_heard message under s e) =
+plain_proceeds service script isn before sent after fits within o (log_received message under s e) =
     subst (SendsPlain isn) (sym e)
     (record {
       distinct = o.distinct;
       packets = all_append (PlainNear before.clients isn) before.packets sent o.packets
           (subst (AllByRecursion (PlainNear before.clients isn)) (sym s) (all_answers (PlainNear before.clients isn) before.log message (λ body a. tt)));
     })
-plain_goes_on service script isn before sent after fits within o (client_heard segment under s e) =
+plain_proceeds service script isn before sent after fits within o (client_received segment under s e) =
     let change : Client → Client = λ c. received c segment in
     subst (SendsPlain isn) (sym e)
     (changed_plain isn before (destination_of segment) change sent o
     (all_of (Renames (destination_of segment) change) before.clients (λ c t. ((received_same c segment).key, (received_same c segment).kind)))
     (λ c t. (received_same c segment).key) (subst (AllByRecursion (PlainNear (with_client (destination_of segment) change before.clients) isn)) (sym s) tt))
-plain_goes_on service script isn before sent after fits within o (client_moved number m) = moved_plain script isn before number sent after fits within o m
-plain_goes_on service script isn before sent after fits within o (server_turned input node later brought is turn e) =
+plain_proceeds service script isn before sent after fits within o (client_moved number m) = moved_plain script isn before number sent after fits within o m
+plain_proceeds service script isn before sent after fits within o (server_turned input node later brought is turn e) =
     subst (SendsPlain isn) (sym e)
     (record {
       distinct = o.distinct;
       packets = all_append (PlainNear before.clients isn) before.packets sent o.packets
           (all_weaker (IsOurs node.boot) (PlainNear before.clients isn) sent (ours_plain before.clients isn node.boot) (turn_ours service node input sent later.stage (stage_went service node later input sent turn)));
     })
-plain_goes_on service script isn before sent after fits within o (server_booted boot isn0 down larger s e) =
+plain_proceeds service script isn before sent after fits within o (server_booted boot isn0 down larger s e) =
     subst (SendsPlain isn) (sym e)
     (record {
       distinct = o.distinct;
       packets = all_append (PlainNear before.clients isn) before.packets sent o.packets (subst (AllByRecursion (PlainNear before.clients isn)) (sym s) (tt, tt));
     })
-plain_goes_on service script isn before sent after fits within o (server_down s e) =
+plain_proceeds service script isn before sent after fits within o (server_down s e) =
     subst (SendsPlain isn) (sym e)
     (record {
       distinct = o.distinct;

@@ -12,11 +12,11 @@ use Rattle.ft_model.proofs.FaithfulOver.{script_of, isn_of}
 use Rattle.ft_model.proofs.Happened.{Happened, happened}
 use Rattle.ft_model.proofs.JointMasked.{AllSee, JointInvariant}
 use Rattle.ft_model.proofs.Running.{HasSmallOutputs}
-use Rattle.ft_model.proofs.Unfenced.{Unfenced, unfenced_goes_on, start_unfenced}
-use Rattle.trace_laws.proofs.FinsBelow.{FinsBelow, below_goes_on, start_below}
-use Rattle.trace_laws.proofs.Near.{SendsNear, near_goes_on, start_near}
-use Rattle.long_laws.proofs.PlainNear.{SendsPlain, plain_goes_on, start_plain}
-use Rattle.long_laws.proofs.Stands.{Stands, at_start, goes_on}
+use Rattle.ft_model.proofs.Unfenced.{Unfenced, unfenced_proceeds, start_unfenced}
+use Rattle.trace_laws.proofs.FinsBelow.{FinsBelow, below_proceeds, start_below}
+use Rattle.trace_laws.proofs.Near.{SendsNear, near_proceeds, start_near}
+use Rattle.long_laws.proofs.PlainNear.{SendsPlain, plain_proceeds, start_plain}
+use Rattle.long_laws.proofs.Stands.{Stands, at_start, proceeds}
 
 -- The clients that are present, and those that are past, stand in a roster, the newest of a key first. So the scripts and numbers are those of a start, and what
 -- holds in the worlds after it is said of the roster
@@ -57,23 +57,23 @@ premised_at_start service small start s = record {
   unfenced = start_unfenced start s;
 }
 
-pub premised_goes_on : {State : Type 0} (service : Machine State) → HasSmallOutputs service → (before : World) (sent : List Packet) (after : World)
+pub premised_proceeds : {State : Type 0} (service : Machine State) → HasSmallOutputs service → (before : World) (sent : List Packet) (after : World)
     → Premised service before → Happened service before sent after → Premised service after
-unfolding goes_on
-premised_goes_on service small before sent after o h =
+unfolding proceeds
+premised_proceeds service small before sent after o h =
     let j : JointInvariant service o.roster before = joint_of service before o in
     record {
-      stands = goes_on service small before sent after o.stands h;
+      stands = proceeds service small before sent after o.stands h;
       roster = o.roster;
       script = o.script;
       isn = o.isn;
-      below = below_goes_on service (script_of o.roster) (isn_of o.roster) before sent after (short_of service before o) o.stands.asked j.faithful o.below h;
-      near = near_goes_on service o.roster before sent after j o.near h;
-      plain = plain_goes_on service (script_of o.roster) (isn_of o.roster) before sent after j.faithful.clients o.near.clients o.plain h;
-      unfenced = unfenced_goes_on service before sent after o.stands.fenced o.unfenced h;
+      below = below_proceeds service (script_of o.roster) (isn_of o.roster) before sent after (short_of service before o) o.stands.asked j.faithful o.below h;
+      near = near_proceeds service o.roster before sent after j o.near h;
+      plain = plain_proceeds service (script_of o.roster) (isn_of o.roster) before sent after j.faithful.clients o.near.clients o.plain h;
+      unfenced = unfenced_proceeds service before sent after o.stands.fenced o.unfenced h;
     }
 
 pub event_premised : {State : Type 0} (service : Machine State) → HasSmallOutputs service → (before : World) (event : Event) (sent : List Packet) (after : World)
     → Premised service before → Happens service before event sent after → Premised service after
 event_premised service small before event sent after o h =
-    ⊎_elim (λ x. premised_goes_on service small before sent after o x) (λ q. subst (Premised service) (sym q.1) o) (happened service before event sent after h)
+    ⊎_elim (λ x. premised_proceeds service small before sent after o x) (λ q. subst (Premised service) (sym q.1) o) (happened service before event sent after h)

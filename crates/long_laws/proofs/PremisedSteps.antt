@@ -48,7 +48,7 @@ use Rattle.long_laws.proofs.LetGo.{with_packets, with_rst, same_with_rst, withou
 use Rattle.long_laws.proofs.LiveClients.{live_others, live_front}
 use Rattle.long_laws.proofs.Others.{all_others, distinct_others, find_others, last_there, all_but_one}
 use Rattle.long_laws.proofs.PlainNear.{PlainNear}
-use Rattle.long_laws.proofs.Premised.{Premised, joint_of, short_of, premised_goes_on}
+use Rattle.long_laws.proofs.Premised.{Premised, joint_of, short_of, premised_proceeds}
 use Rattle.long_laws.proofs.Recycled.{stands_without, same_without, AreClear, stage_of}
 
 -- An entry is recycled
@@ -204,7 +204,7 @@ premised_let_go service small key w sent after o l =
     let there : World = with_packets w (w.packets ++ To_server rst ∷ []) in
     let then_ : World = record w { node = Some l.later; packets = (w.packets ++ To_server rst ∷ []) ++ sent } in
     let turn : Happened service there sent then_ = server_turned (Packet_comes rst) l.node l.later (suc (length w.packets), last_there w.packets (To_server rst)) l.up l.turn refl in
-    let now : Premised service then_ = premised_goes_on service small there sent then_ (premised_with_rst service w l.node.server l.point o (let_go_first service w l.node key l.point o l.up l.lives)) turn in
+    let now : Premised service then_ = premised_proceeds service small there sent then_ (premised_with_rst service w l.node.server l.point o (let_go_first service w l.node key l.point o l.up l.lives)) turn in
     subst (Premised service) (sym l.after_is) (premised_without_rst service (record w { node = Some l.later }) w.packets sent rst now)
 
 -- A client arrives: it stands in the roster before those of its key that are past
@@ -279,19 +279,19 @@ premised_with_new service c w o may =
       script = fun_ext (λ k. newest script_in c cs k ∙ ap (λ (s : Key → List ℕ). if key_eq k c.key then c.script else s k) o.script) ∙ sym is.0;
       isn = fun_ext (λ k. newest isn_in c cs k ∙ ap (λ (i : Key → ℕ). if key_eq k c.key then c.isn else i k) o.isn) ∙ sym is.1;
       below = record {
-        packets = all_both (λ p. concerns c.key p ≡ false) (PacketBelow script) (PacketBelow more) w.packets (packet_below c.key script more isn also same_script same_isn) may.unheard o.below.packets;
+        packets = all_both (λ p. concerns c.key p ≡ false) (PacketBelow script) (PacketBelow more) w.packets (packet_below c.key script more isn also same_script same_isn) may.unreceived o.below.packets;
         entries = all_both (λ e. key_eq e.key c.key ≡ false) (EntryBelow script) (EntryBelow more) w.log.entries (entry_below c.key script more isn also same_script same_isn)
             (entries_apart service c w o.stands may) o.below.entries;
         stage = λ n e. stage_below c.key script more isn also same_script same_isn n.stage (may.clear n e) (o.below.stage n e);
       };
       near = record {
         clients = all_append SentWithin w.clients (c ∷ []) o.near.clients (subst SentWithin (sym may.new.new) (omega arith), tt);
-        packets = all_both (λ p. concerns c.key p ≡ false) (PacketNear isn w.log) (PacketNear also w.log) w.packets (packet_near c.key script more isn also same_script same_isn w.log) may.unheard o.near.packets;
+        packets = all_both (λ p. concerns c.key p ≡ false) (PacketNear isn w.log) (PacketNear also w.log) w.packets (packet_near c.key script more isn also same_script same_isn w.log) may.unreceived o.near.packets;
       };
       plain = record {
         distinct = subst AreDistinct (sym (map_append (λ (x : Client). x.key) w.clients (c ∷ []))) (distinct_more (keys_in w.clients) c.key o.plain.distinct (no_key c.key w.clients (clients_apart service c w o.stands may)));
         packets = all_both (λ p. concerns c.key p ≡ false) (PlainNear w.clients isn) (PlainNear (w.clients ++ c ∷ []) also) w.packets (packet_plain c.key script more isn also same_script same_isn w.clients c)
-            may.unheard o.plain.packets;
+            may.unreceived o.plain.packets;
       };
       unfenced = record { packets = o.unfenced.packets; node = o.unfenced.node };
     }

@@ -17,7 +17,7 @@ use Rattle.ft_io.proofs.Choices.{if_true}
 use Rattle.long_laws.specs.Forgetting.{Named, forget, forgotten_message, is_entry_of, is_recycled, after_forget, forgotten_in, IsRecycled, IsGone, answer_to_forget}
 use Rattle.long_laws.specs.Forgetting.ForgetAnswer.{About_forgetting}
 use Rattle.long_laws.specs.LongTrace.{others, places_at, without_entry}
-use Rattle.long_laws.specs.Quarantine.{Quarantined, is_leaving, is_same, goes_on_or_begins, quarantined_at, named_in, taken_away, named_by}
+use Rattle.long_laws.specs.Quarantine.{Quarantined, is_leaving, is_same, proceeds_or_begins, quarantined_at, named_in, taken_away, named_by}
 use Rattle.long_laws.specs.QuarantineWorld.{QuarantineWorld, recycled_by, key_recycled, recycled_world, with_answer, answer_sent, without_place, with_one, IsForgotten}
 use Rattle.long_laws.proofs.Again.{none_left, none_there}
 use Rattle.long_laws.proofs.ForgetLog.{takes_out_or_nothing, own_boot, gone_means_forgotten}
@@ -103,20 +103,20 @@ module _ {State : Type 0} (service : Machine State) (wait isn opened age : ℕ) 
     );
   }
 
-  kept : (older ∷ []) ≡ goes_on_or_begins Tick_comes (quarantined_at n.key before.quarantine) (named_in node Tick_comes node.stage n.key) ++ []
+  kept : (older ∷ []) ≡ proceeds_or_begins Tick_comes (quarantined_at n.key before.quarantine) (named_in node Tick_comes node.stage n.key) ++ []
   kept =
-      sym (ap (λ q. goes_on_or_begins Tick_comes q (named_in node Tick_comes node.stage n.key) ++ [])
+      sym (ap (λ q. proceeds_or_begins Tick_comes q (named_in node Tick_comes node.stage n.key) ++ [])
       (if_true (key_eq n.key n.key) (Some (let q : Quarantined = record { named = n; age = age } in q)) None (key_is n.key)))
 
-  told : (forget boot n ∷ []) ≡ map (λ q. forget boot q.named) (filter (is_leaving wait) (older ∷ []))
-  told = sym (ap (map (λ q. forget boot q.named)) (if_true (is_leaving wait older) (older ∷ []) [] is_leaving_now))
+  reported : (forget boot n ∷ []) ≡ map (λ q. forget boot q.named) (filter (is_leaving wait) (older ∷ []))
+  reported = sym (ap (map (λ q. forget boot q.named)) (if_true (is_leaving wait older) (older ∷ []) [] is_leaving_now))
 
   pub is_forgotten : IsForgotten service wait before n
   is_forgotten = record {
     one = first;
     two = second;
     three = without_place (Some n.key) second;
-    tick = (refl, record { passes = ((refl, ((later, refl, turn), refl)), refl); quarantine = kept; notes = told; fresh = tt });
+    tick = (refl, record { passes = ((refl, ((later, refl, turn), refl)), refl); quarantine = kept; notes = reported; fresh = tt });
     to_log = (
       forget boot n,
       refl,

@@ -19,7 +19,7 @@ use Rattle.ft_model.specs.Network.{Packet, packet_at, destination_of}
 use Rattle.ft_model.specs.Network.Packet.{To_server, To_client, To_logger, From_logger}
 use Rattle.ft_model.specs.Node.{Node, Input, booted}
 use Rattle.ft_model.specs.Node.Input.{Packet_comes, Message_comes, Noise_comes, Tick_comes}
-use Rattle.ft_model.specs.World.{World, Happens, Moves, ServerMoves, ServerTurn, Delivered, ClientHears, ClientReads, LogHears, Flipped, IsNextBoot, segment_or_noise, message_or_noise}
+use Rattle.ft_model.specs.World.{World, Happens, Moves, ServerMoves, ServerTurn, Delivered, ClientReceives, ClientReads, LogReceives, Flipped, IsNextBoot, segment_or_noise, message_or_noise}
 use Rattle.ft_model.specs.declared.event.Event.{Event}
 use Rattle.ft_model.specs.declared.event.Event.TheVariants.{Boot, Crash, Tick, Deliver, Flip, Begin, Send, Fin, Ack, Reset, Stop}
 use Rattle.ft_model.proofs.Happened.{IsUnderWay, IsBrought, segment_is_noise, flip_is_quiet}
@@ -57,7 +57,7 @@ nothing_goes before sent after none same = record {
   log = inl (ap (λ w. w.log) same);
 }
 
-client_goes : (key : Key) (segment : Segment) (before : World) (sent : List Packet) (after : World) → ClientHears key segment before sent after → Elsewhere before sent after
+client_goes : (key : Key) (segment : Segment) (before : World) (sent : List Packet) (after : World) → ClientReceives key segment before sent after → Elsewhere before sent after
 client_goes key segment before sent after h = record {
   node = ap (λ w. w.node) h.1;
   boot = ap (λ w. w.boot) h.1;
@@ -76,7 +76,7 @@ client_reads key (Err why) before sent after h = record {
   log = inl (ap (λ w. w.log) h.1);
 }
 
-log_goes : (message : Message) (before : World) (sent : List Packet) (after : World) → IsUnderWay before (To_logger message) → LogHears message before sent after → Elsewhere before sent after
+log_goes : (message : Message) (before : World) (sent : List Packet) (after : World) → IsUnderWay before (To_logger message) → LogReceives message before sent after → Elsewhere before sent after
 log_goes message before sent after under h = record {
   node = ap (λ w. w.node) h.1;
   boot = ap (λ w. w.boot) h.1;

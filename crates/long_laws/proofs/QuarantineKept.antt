@@ -7,7 +7,7 @@ use Rattle.ft_io.specs.Key.{key_eq}
 use Rattle.server_trait.specs.Service.{Machine}
 use Rattle.seq_arith.specs.Message.{Message}
 use Rattle.seq_arith.specs.Message.Body.{HelloMsg}
-use Rattle.ft_model.specs.Connection.{told_by}
+use Rattle.ft_model.specs.Connection.{reported_by}
 use Rattle.ft_model.specs.Lawful.{LawfulTurn, hello}
 use Rattle.ft_model.specs.Log.{entry_of, log_after}
 use Rattle.ft_model.specs.Network.{Packet}
@@ -28,7 +28,7 @@ use Rattle.ft_io.proofs.Choices.{holds_if}
 use Rattle.long_laws.specs.Forgetting.{Named, ForgetBody, ForgetMessage, IsGone, forget, named_of}
 use Rattle.long_laws.specs.Forgetting.ForgetBody.{ForgetMsg, ForgottenMsg}
 use Rattle.long_laws.specs.LongTrace.{others, places_at}
-use Rattle.long_laws.specs.Quarantine.{Quarantined, aged, is_leaving, named_head, named_place, fetched_now, named_in, quarantined_at, goes_on_or_begins, quarantine_of, quarantine_after, forgets}
+use Rattle.long_laws.specs.Quarantine.{Quarantined, aged, is_leaving, named_head, named_place, fetched_now, named_in, quarantined_at, proceeds_or_begins, quarantine_of, quarantine_after, forgets}
 use Rattle.long_laws.specs.QuarantineWorld.{NotOpening, new_places, IsFresh}
 use Rattle.long_laws.proofs.Others.{all_filtered}
 use Rattle.long_laws.proofs.QuarantineDone.{HasIt, stays_absent, DoneAmong, done_among, begun_has}
@@ -78,11 +78,11 @@ NoteHolds w node m = m.boot ≡ node.boot → BodyHolds w node m.body
 
 -- a message about forgetting is of a server that has said Hello
 abbrev pub IsOfServer : World → ForgetMessage → Type 0
-IsOfServer w m = (m.boot ≤ w.boot) × IsIn (told_by m.boot HelloMsg) w.packets
+IsOfServer w m = (m.boot ≤ w.boot) × IsIn (reported_by m.boot HelloMsg) w.packets
 
 pub record Keeps (w : World) (notes : List ForgetMessage) (quarantine : List Quarantined) : Type 0 where
   pub of_servers : AllByRecursion (IsOfServer w) notes
-  pub hello_said : (node : Node) → w.node ≡ Some node → IsIn (told_by node.boot HelloMsg) w.packets
+  pub hello_said : (node : Node) → w.node ≡ Some node → IsIn (reported_by node.boot HelloMsg) w.packets
   pub rests : (node : Node) → w.node ≡ Some node → AllByRecursion (Rests w node) quarantine
   pub holds : (node : Node) → w.node ≡ Some node → AllByRecursion (NoteHolds w node) notes
 
@@ -161,13 +161,13 @@ pub of_servers_still : (before after : World) (sent : List Packet) (notes : List
     → AllByRecursion (IsOfServer before) notes → AllByRecursion (IsOfServer after) notes
 of_servers_still before after sent notes low packets a =
     all_weaker (IsOfServer before) (IsOfServer after) notes
-    (λ m h. (omega (arith, h.0, low), subst (IsIn (told_by m.boot HelloMsg)) (sym packets) (in_front (told_by m.boot HelloMsg) before.packets sent h.1))) a
+    (λ m h. (omega (arith, h.0, low), subst (IsIn (reported_by m.boot HelloMsg)) (sym packets) (in_front (reported_by m.boot HelloMsg) before.packets sent h.1))) a
 
 pub elsewhere_kept : (before : World) (sent : List Packet) (after : World) (notes : List ForgetMessage) (quarantine : List Quarantined) → Elsewhere before sent after
     → Keeps before notes quarantine → Keeps after notes quarantine
 elsewhere_kept before sent after notes quarantine e k = record {
   of_servers = of_servers_still before after sent notes (omega (arith, e.boot)) e.packets k.of_servers;
-  hello_said = λ node up. subst (IsIn (told_by node.boot HelloMsg)) (sym e.packets) (in_front (told_by node.boot HelloMsg) before.packets sent (k.hello_said node (sym e.node ∙ up)));
+  hello_said = λ node up. subst (IsIn (reported_by node.boot HelloMsg)) (sym e.packets) (in_front (reported_by node.boot HelloMsg) before.packets sent (k.hello_said node (sym e.node ∙ up)));
   rests = λ node up. rests_carried before after node node [] (elsewhere_carries before sent after e node) quarantine (k.rests node (sym e.node ∙ up));
   holds = λ node up. notes_carried before after node node [] (elsewhere_carries before sent after e node) notes (all_fresh notes) (k.holds node (sym e.node ∙ up));
 }
@@ -241,7 +241,7 @@ module _ {State : Type 0} (service : Machine State) (w : World) (o : Stands serv
   }
 
   one_rests : IsBrought w input → (key : Key) → IsDoneAt key later.stage → (q : Option Quarantined) (n : Option Named) → quarantined_at key quarantine ≡ q → named_in node input node.stage key ≡ n
-      → AllByRecursion (Rests next later) (goes_on_or_begins input q n)
+      → AllByRecursion (Rests next later) (proceeds_or_begins input q n)
   one_rests brought key d (Some q) n found e =
       let was : Rests w node q = all_find (Rests w node) (λ x. key_eq x.named.key key) quarantine q (k.rests node up) found in
       (older_rests next later input q (carry_rest w next node later news turn_carries q.named was), tt)
@@ -274,7 +274,7 @@ module _ {State : Type 0} (service : Machine State) (w : World) (o : Stands serv
   forgets_of : (wait : ℕ) (i : Input) (qs : List Quarantined) → AllByRecursion (IsOfServer next) (forgets wait node.boot i qs)
   forgets_of wait Tick_comes qs =
       let own : node.boot ≡ w.boot = (o.fenced.node node up).boot in
-      let said : IsIn (told_by node.boot HelloMsg) (w.packets ++ out) = in_front (told_by node.boot HelloMsg) w.packets out (k.hello_said node up) in
+      let said : IsIn (reported_by node.boot HelloMsg) (w.packets ++ out) = in_front (reported_by node.boot HelloMsg) w.packets out (k.hello_said node up) in
       let low : node.boot ≤ w.boot = omega (arith, own) in
       all_map (IsOfServer next) (λ q. forget node.boot q.named) (filter (is_leaving wait) qs) (all_of (λ q. IsOfServer next (forget node.boot q.named)) (filter (is_leaving wait) qs) (λ q. (low, said)))
   forgets_of wait (Packet_comes segment) qs = tt
@@ -285,7 +285,7 @@ module _ {State : Type 0} (service : Machine State) (w : World) (o : Stands serv
   pub turned_same : Keeps next notes quarantine
   turned_same = record {
     of_servers = of_servers_still w next out notes (omega arith) refl k.of_servers;
-    hello_said = λ n e. in_front (told_by n.boot HelloMsg) w.packets out (subst (λ b. IsIn (told_by b HelloMsg) w.packets) (sym turn.boot ∙ ap (λ x. x.boot) (some_is later n e)) (k.hello_said node up));
+    hello_said = λ n e. in_front (reported_by n.boot HelloMsg) w.packets out (subst (λ b. IsIn (reported_by b HelloMsg) w.packets) (sym turn.boot ∙ ap (λ x. x.boot) (some_is later n e)) (k.hello_said node up));
     rests = λ n e. subst (λ x. AllByRecursion (Rests next x) quarantine) (some_is later n e) (rests_carried w next node later news turn_carries quarantine (k.rests node up));
     holds = λ n e. subst (λ x. AllByRecursion (NoteHolds next x) notes) (some_is later n e) (notes_carried w next node later news turn_carries notes fresh (k.holds node up));
   }
@@ -312,8 +312,8 @@ booted_kept w boot isn sent notes quarantine larger is k =
     let next : World = record w { boot = boot; node = Some (booted w.server w.profile boot isn); packets = w.packets ++ sent } in
     record {
       of_servers = of_servers_still w next sent notes (omega (arith, larger)) refl k.of_servers;
-      hello_said = λ n e. subst (λ x. IsIn (told_by x.boot HelloMsg) (w.packets ++ sent)) (some_is (booted w.server w.profile boot isn) n e)
-          (subst (λ ps. IsIn (told_by boot HelloMsg) (w.packets ++ ps)) (sym is) (in_behind (told_by boot HelloMsg) w.packets));
+      hello_said = λ n e. subst (λ x. IsIn (reported_by x.boot HelloMsg) (w.packets ++ sent)) (some_is (booted w.server w.profile boot isn) n e)
+          (subst (λ ps. IsIn (reported_by boot HelloMsg) (w.packets ++ ps)) (sym is) (in_behind (reported_by boot HelloMsg) w.packets));
       rests = λ n e. tt;
       holds = λ n e. subst (λ x. AllByRecursion (NoteHolds next x) notes) (some_is (booted w.server w.profile boot isn) n e)
           (all_weaker (IsOfServer w) (NoteHolds next (booted w.server w.profile boot isn)) notes (λ m h own. absurd (omega (arith, h.0, larger, own))) k.of_servers);

@@ -17,7 +17,7 @@ use Rattle.ft_model.proofs.PlaceTurns.{all_flat}
 use Rattle.long_laws.specs.Forgetting.{Named, forget}
 use Rattle.long_laws.specs.LongTrace.{places_at}
 use Rattle.long_laws.specs.LongTrace.LongStep.{Joint_event}
-use Rattle.long_laws.specs.Quarantine.{Quarantined, is_leaving, named_in, quarantined_at, goes_on_or_begins, quarantine_of, quarantine_after, forgets, GoesOnOrBegins, HasWaited}
+use Rattle.long_laws.specs.Quarantine.{Quarantined, is_leaving, named_in, quarantined_at, proceeds_or_begins, quarantine_of, quarantine_after, forgets, ProceedsOrBegins, HasWaited}
 use Rattle.long_laws.specs.QuarantineWorld.{QuarantineWorld, arriving, drops, is_full_input, DropsSilently, Usually, MayQuarantine}
 use Rattle.long_laws.specs.QuarantineWorld.QuarantineStep.{Usual}
 use Rattle.long_laws.proofs.Others.{all_filtered}
@@ -32,19 +32,19 @@ all_have_waited wait boot (Message_comes message) qs = tt
 all_have_waited wait boot Noise_comes qs = tt
 
 one_ages : (input : Input) (qs : List Quarantined) (key : Key) (q : Option Quarantined) (n : Option Named) → quarantined_at key qs ≡ q
-    → AllByRecursion (GoesOnOrBegins input qs) (goes_on_or_begins input q n)
+    → AllByRecursion (ProceedsOrBegins input qs) (proceeds_or_begins input q n)
 one_ages input qs key (Some q) n e = (inl (key, q, e, refl), tt)
 one_ages input qs key None (Some n) e = (inr refl, tt)
 one_ages input qs key None None e = tt
 
-place_ages : (node : Node) (input : Input) (qs : List Quarantined) (place : Place) → AllByRecursion (GoesOnOrBegins input qs) (quarantine_of node input qs place)
+place_ages : (node : Node) (input : Input) (qs : List Quarantined) (place : Place) → AllByRecursion (ProceedsOrBegins input qs) (quarantine_of node input qs place)
 place_ages node input qs (Ended key) = one_ages input qs key (quarantined_at key qs) (named_in node input node.stage key) refl
 place_ages node input qs (Lives p) = tt
 place_ages node input qs (Opens n timestamping) = tt
 
-pub all_age : (node : Node) (input : Input) (later : Stage) (qs : List Quarantined) → AllByRecursion (GoesOnOrBegins input qs) (quarantine_after node input later qs)
+pub all_age : (node : Node) (input : Input) (later : Stage) (qs : List Quarantined) → AllByRecursion (ProceedsOrBegins input qs) (quarantine_after node input later qs)
 all_age node input later qs =
-    all_flat (λ place. Unit {0}) (GoesOnOrBegins input qs) (quarantine_of node input qs) (places_at later) (λ place u. place_ages node input qs place)
+    all_flat (λ place. Unit {0}) (ProceedsOrBegins input qs) (quarantine_of node input qs) (places_at later) (λ place u. place_ages node input qs place)
     (all_of (λ place. Unit {0}) (places_at later) (λ place. tt))
 
 pub leaving_dropped : {State : Type 0} (service : Machine State) (wait : ℕ) (before after : QuarantineWorld) (node : Node) (number : ℕ) (segment : Segment) (sent : List Packet)

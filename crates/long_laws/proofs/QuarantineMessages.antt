@@ -8,7 +8,7 @@ use Rattle.server_trait.specs.Service.{Machine}
 use Rattle.seq_arith.specs.Message.{Message}
 use Rattle.seq_arith.specs.Message.Body.{HelloMsg, StaleMsg}
 use Rattle.ft_model.specs.Keys.{has_key, AreDistinct}
-use Rattle.ft_model.specs.Connection.{told_by}
+use Rattle.ft_model.specs.Connection.{reported_by}
 use Rattle.ft_model.specs.Log.{Log, Entry, entry_of, log_after, answer_to}
 use Rattle.ft_model.specs.Masked.{is_restarting}
 use Rattle.ft_model.specs.Network.{Packet}
@@ -22,7 +22,7 @@ use Rattle.ft_model.proofs.Grows.{old_boots_change_nothing}
 use Rattle.ft_model.proofs.KnownKeys.{Knows}
 use Rattle.ft_model.proofs.Lists.{all_weaker, all_append, all_of, all_slice_get, same_key, or_left, or_cases, found_passes, none_is_some, some_is}
 use Rattle.ft_io.proofs.Choices.{holds_if, if_true}
-use Rattle.long_laws.specs.Forgetting.{Named, ForgetBody, ForgetMessage, forgotten_message, is_entry_of, is_recycled, forgotten_in, with_forget, after_forget, IsRecycled, IsGone, ForgetAnswer, told_of, is_forget_answer, answer_to_forget}
+use Rattle.long_laws.specs.Forgetting.{Named, ForgetBody, ForgetMessage, forgotten_message, is_entry_of, is_recycled, forgotten_in, with_forget, after_forget, IsRecycled, IsGone, ForgetAnswer, reported_of, is_forget_answer, answer_to_forget}
 use Rattle.long_laws.specs.Forgetting.ForgetBody.{ForgetMsg, ForgottenMsg}
 use Rattle.long_laws.specs.Forgetting.ForgetAnswer.{About_forgetting, Of_log}
 use Rattle.long_laws.specs.LongTrace.{others, concerns, places_at, IsEnded, without_entry, recycled, MayRecycle, stage_without, forgotten, MayForget, MayPass}
@@ -132,10 +132,10 @@ is_of_log : ForgetAnswer → Bool
 is_of_log (Of_log m) = true
 is_of_log (About_forgetting m) = false
 
-told_never : {X : Type 0} (boot : ℕ) (body : ForgetBody) (log : Log) (answer : Message) → told_of boot body log ≡ Some (Of_log answer) → X
+reported_never : {X : Type 0} (boot : ℕ) (body : ForgetBody) (log : Log) (answer : Message) → reported_of boot body log ≡ Some (Of_log answer) → X
 unfolding is_of_log
-told_never boot (ForgottenMsg n) log answer e = none_is_some (Of_log answer) e
-told_never {X = X} boot (ForgetMsg n) log answer e =
+reported_never boot (ForgottenMsg n) log answer e = none_is_some (Of_log answer) e
+reported_never {X = X} boot (ForgetMsg n) log answer e =
     holds_if (λ o. o ≡ Some (Of_log answer) → X) (list_any (is_entry_of n) log.entries) None (Some (About_forgetting (forgotten_message boot n)))
     (λ t h. none_is_some (Of_log answer) h) (λ t h. absurd (true≢false (sym (ap is_of_log (some_is _ _ h))))) e
 
@@ -145,11 +145,11 @@ stale_to log message answer e = on (is_forget_answer message.body) (nat_lt messa
   where
     on : (a b c : Bool) → nat_lt message.boot log.boot ≡ b
         → (if a then None
-        else (if b then Some (Of_log (record { boot = message.boot; body = StaleMsg log.boot })) else (if c then told_of message.boot message.body (after_forget log message) else None)))
+        else (if b then Some (Of_log (record { boot = message.boot; body = StaleMsg log.boot })) else (if c then reported_of message.boot message.body (after_forget log message) else None)))
         ≡ Some (Of_log answer) → IsStaleTo log message answer
     on true b c older h = none_is_some (Of_log answer) h
     on false true c older h = record { older = ltb-true message.boot log.boot older; is = sym (ap (λ a. in_log a answer) (some_is _ _ h)) }
-    on false false true older h = told_never message.boot message.body (after_forget log message) answer h
+    on false false true older h = reported_never message.boot message.body (after_forget log message) answer h
     on false false false older h = none_is_some (Of_log answer) h
 
 -- The world without a key
@@ -190,8 +190,8 @@ recycled_carries key w node = record {
 
 recycled_kept : (key : Key) (w : World) (notes : List ForgetMessage) (quarantine : List Quarantined) → Keeps w notes quarantine → Keeps (recycled key w) notes quarantine
 recycled_kept key w notes quarantine k = record {
-  of_servers = all_weaker (IsOfServer w) (IsOfServer (recycled key w)) notes (λ m h. (h.0, in_others (concerns key) (told_by m.boot HelloMsg) w.packets refl h.1)) k.of_servers;
-  hello_said = λ n e. in_others (concerns key) (told_by n.boot HelloMsg) w.packets refl (k.hello_said n e);
+  of_servers = all_weaker (IsOfServer w) (IsOfServer (recycled key w)) notes (λ m h. (h.0, in_others (concerns key) (reported_by m.boot HelloMsg) w.packets refl h.1)) k.of_servers;
+  hello_said = λ n e. in_others (concerns key) (reported_by n.boot HelloMsg) w.packets refl (k.hello_said n e);
   rests = λ n e. rests_carried w (recycled key w) n n [] (recycled_carries key w n) quarantine (k.rests n e);
   holds = λ n e. notes_carried w (recycled key w) n n [] (recycled_carries key w n) notes (all_fresh notes) (k.holds n e);
 }
@@ -333,18 +333,18 @@ module _ {State : Type 0} (service : Machine State) (w : QuarantineWorld) (o : S
 
   -- Stale is what the log would answer to the Hello of that server, too
   stale_comes : (answer : Message) → IsStaleTo w.now.log message answer
-      → MayPass service (seen w) (Joint_event (Deliver (suc (in_at (told_by message.boot HelloMsg) w.now.packets its_server.1).0))) (From_logger answer ∷ []) (seen (with_answer (Some (Of_log answer)) w))
+      → MayPass service (seen w) (Joint_event (Deliver (suc (in_at (reported_by message.boot HelloMsg) w.now.packets its_server.1).0))) (From_logger answer ∷ []) (seen (with_answer (Some (Of_log answer)) w))
   unfolding answer_to
   stale_comes answer s =
-      let at = in_at (told_by message.boot HelloMsg) w.now.packets its_server.1 in
+      let at = in_at (reported_by message.boot HelloMsg) w.now.packets its_server.1 in
       let hello : Message = record { boot = message.boot; body = HelloMsg } in
       let log : log_after w.now.log hello ≡ w.now.log = old_boots_change_nothing w.now.log hello s.older in
-      let told : answer_to w.now.log hello ≡ Some answer = stale_told (nat_lt message.boot w.now.log.boot) (by_less s.older) ∙ ap Some (sym s.is) in (
+      let reported : answer_to w.now.log hello ≡ Some answer = stale_reported (nat_lt message.boot w.now.log.boot) (by_less s.older) ∙ ap Some (sym s.is) in (
         (
-          told_by message.boot HelloMsg,
+          reported_by message.boot HelloMsg,
           at.1,
           (
-            ap (λ x. option_to_list (option_map From_logger x)) (sym told),
+            ap (λ x. option_to_list (option_map From_logger x)) (sym reported),
             ap (λ (l : Log). record w.now { log = l; packets = w.now.packets ++ From_logger answer ∷ [] }) (sym log),
           ),
         ),
@@ -354,8 +354,8 @@ module _ {State : Type 0} (service : Machine State) (w : QuarantineWorld) (o : S
       by_less : message.boot < w.now.log.boot → nat_lt message.boot w.now.log.boot ≡ true
       by_less h = grind (arith, h)
 
-      stale_told : (b : Bool) → nat_lt message.boot w.now.log.boot ≡ true → answer_to w.now.log (record { boot = message.boot; body = HelloMsg }) ≡ Some (record { boot = message.boot; body = StaleMsg w.now.log.boot })
-      stale_told b h = rw (h) refl
+      stale_reported : (b : Bool) → nat_lt message.boot w.now.log.boot ≡ true → answer_to w.now.log (record { boot = message.boot; body = HelloMsg }) ≡ Some (record { boot = message.boot; body = StaleMsg w.now.log.boot })
+      stale_reported b h = rw (h) refl
 
   step_then : (r : Option Key) (a : Option ForgetAnswer) → recycled_by message w.now.log ≡ r → answer_to_forget w.now.log message ≡ a
       → IsLongStep service (seen w) (answer_sent a) (seen (with_answer a (out r)))
@@ -365,7 +365,7 @@ module _ {State : Type 0} (service : Machine State) (w : QuarantineWorld) (o : S
       let s = stale_to w.now.log message answer f in let own = (taken w.now.log message key e).own in let older = s.older in absurd (omega (arith, older, own))
   step_then None None e f = inl (refl, refl)
   step_then None (Some (About_forgetting answer)) e f = inl (refl, refl)
-  step_then None (Some (Of_log answer)) e f = inr (inl (Joint_event (Deliver (suc (in_at (told_by message.boot HelloMsg) w.now.packets its_server.1).0)), stale_comes answer (stale_to w.now.log message answer f)))
+  step_then None (Some (Of_log answer)) e f = inr (inl (Joint_event (Deliver (suc (in_at (reported_by message.boot HelloMsg) w.now.packets its_server.1).0)), stale_comes answer (stale_to w.now.log message answer f)))
 
   changes_by : (r : Option Key) → recycled_by message w.now.log ≡ r → (recycled_world r w).now.log ≡ after_forget w.now.log message
       → (after_forget w.now.log message ≡ w.now.log) ⊎ ((key : Key) × MayRecycle key w.now × (after_forget w.now.log message ≡ without_entry key w.now.log))
@@ -476,7 +476,7 @@ module _ (w : QuarantineWorld) (key : Key) (k : KeepsAll w) (vacant : IsVacant k
   left_kept : KeepsAll (without_place (Some key) w)
   left_kept = record {
     of_servers = k.of_servers;
-    hello_said = λ n e. let b : Was key w.now.node n = was key w.now.node n e in subst (λ x. IsIn (told_by x.boot HelloMsg) w.now.packets) (sym b.is) (k.hello_said b.node b.up);
+    hello_said = λ n e. let b : Was key w.now.node n = was key w.now.node n e in subst (λ x. IsIn (reported_by x.boot HelloMsg) w.now.packets) (sym b.is) (k.hello_said b.node b.up);
     rests = λ n e. let b : Was key w.now.node n = was key w.now.node n e in rests_left b.node b.up n b.is;
     holds = λ n e. let b : Was key w.now.node n = was key w.now.node n e in notes_left b.node b.up n b.is;
   }

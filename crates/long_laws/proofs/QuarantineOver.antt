@@ -24,7 +24,7 @@ use Rattle.ft_model.proofs.KnownKeys.{IsPlain, asks_to_open, connection_plain}
 use Rattle.ft_model.proofs.Lists.{all_weaker, all_map, all_of, key_is, none_is_some}
 use Rattle.ft_model.proofs.LogAnswers.{LogWent, log_went}
 use Rattle.ft_model.proofs.LogAnswers.LogWent.{ignored, raised, changed}
-use Rattle.ft_model.proofs.PlaceTurns.{PlaceWent, serving_goes_on}
+use Rattle.ft_model.proofs.PlaceTurns.{PlaceWent, serving_proceeds}
 use Rattle.ft_model.proofs.PlaceTurns.PlaceWent.{stayed, went_on, began, dropped, ended, refused}
 use Rattle.ft_model.proofs.Fenced.{refusals_so}
 use Rattle.ft_model.proofs.StageTurns.{StageWent}
@@ -179,7 +179,7 @@ pub stage_over : {State : Type 0} (service : Machine State) (log : Log) (n : Nam
 stage_over service log n node input sent after (was_fenced newer f s) fresh a r =
     (subst (λ stage. AllByRecursion (NotOpening n) (places_at stage) × (is_restarting stage ≡ false)) (sym f) (tt, refl), subst (AllByRecursion (Unopened n)) (sym s) tt)
 stage_over service log n node input sent after (served o before later b f t) fresh a r =
-    let x = serving_goes_on service node input o (NotOpening n) (NotOpening n) (Unopened n) before later sent (place_over service log n node input)
+    let x = serving_proceeds service node input o (NotOpening n) (NotOpening n) (Unopened n) before later sent (place_over service log n node input)
     (subst (λ stage. AllByRecursion (NotOpening n) (new_places node input stage)) b fresh) (refusals_so (Unopened n) node input before (λ s. tt)) (λ numbers s c. c)
     (subst (λ stage. AllByRecursion (NotOpening n) (places_at stage)) b a) t in
     (subst (λ stage. AllByRecursion (NotOpening n) (places_at stage) × (is_restarting stage ≡ false)) (sym f) (x.0, refl), x.1)

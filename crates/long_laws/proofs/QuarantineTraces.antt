@@ -32,7 +32,7 @@ use Rattle.long_laws.proofs.QuarantineEvents.Went.{took_turn, was_elsewhere, has
 use Rattle.long_laws.proofs.QuarantineKept.{Keeps, Rests, IsOfServer, NoteHolds, all_fresh, elsewhere_kept, turned_same, turned_kept, booted_kept, down_kept}
 use Rattle.long_laws.proofs.QuarantineMessages.{KeepsAll, forget_came, forgotten_came, changes, older_than_restart, may_forget, takes_away}
 use Rattle.long_laws.proofs.Refusals.{full_forgets, full_refuses, stands_without_refusals}
-use Rattle.long_laws.proofs.Stands.{Stands, at_start, sees_front, all_told}
+use Rattle.long_laws.proofs.Stands.{Stands, at_start, sees_front, all_reported}
 
 -- the same by equations
 kept_as : (w v : World) (notes more : List ForgetMessage) (qs rs : List Quarantined) → v ≡ w → more ≡ notes → rs ≡ qs → Keeps w notes qs → Keeps v more rs
@@ -148,13 +148,13 @@ module _ {State : Type 0} (service : Machine State) (wait : ℕ) (before after :
       let same : after.quarantine ≡ qs =
       u.quarantine ∙ (ap (λ n. quarantine_then n (event_input before.now event) after.now.node before.quarantine) up
       ∙ (ap (λ x. quarantine_then (Some node) x after.now.node before.quarantine) i ∙ ap (λ n. quarantine_then (Some node) (Some input) n before.quarantine) now)) in
-      let told : after.notes ≡ before.notes ++ forgets wait node.boot input qs =
+      let reported : after.notes ≡ before.notes ++ forgets wait node.boot input qs =
       u.notes ∙ (ap (λ n. before.notes ++ forgets_then wait n (event_input before.now event) after.quarantine) up
       ∙ (ap (λ x. before.notes ++ forgets_then wait (Some node) x after.quarantine) i ∙ ap (λ r. before.notes ++ forgets wait node.boot input r) same)) in
       let fresh : AllByRecursion (IsFresh (new_places node input node.stage)) before.notes =
       subst (λ i. AllByRecursion (IsFresh (new_places_then (Some node) i)) before.notes) i
       (subst (λ n. AllByRecursion (IsFresh (new_places_then n (event_input before.now event))) before.notes) up u.fresh) in
-      kept_as (record before.now { node = Some later; packets = before.now.packets ++ sent }) after.now (before.notes ++ forgets wait node.boot input qs) after.notes qs after.quarantine is told same
+      kept_as (record before.now { node = Some later; packets = before.now.packets ++ sent }) after.now (before.notes ++ forgets wait node.boot input qs) after.notes qs after.quarantine is reported same
       (turned_kept service before.now o before.notes before.quarantine k input node later sent up turn sent (λ P a. a) fresh wait brought (later_stands.distinct later now))
   by_event event u (was_elsewhere i e) = elsewhere service wait before after (Joint_event event) sent o k u i e
   by_event event u (has_booted boot isn none_comes down larger s is) =
@@ -162,9 +162,9 @@ module _ {State : Type 0} (service : Machine State) (wait : ℕ) (before after :
       kept_as _ after.now before.notes after.notes [] after.quarantine is (down_notes service wait before after (Joint_event event) sent o k u down) none
       (booted_kept before.now boot isn sent before.notes before.quarantine larger.0 s k)
   by_event event u (is_down why s is) =
-      let told : after.notes ≡ before.notes =
+      let reported : after.notes ≡ before.notes =
       ⊎_elim (λ down. down_notes service wait before after (Joint_event event) sent o k u down) (λ none. silent_notes service wait before after (Joint_event event) sent o k u none) why in
-      kept_as _ after.now before.notes after.notes after.quarantine after.quarantine is told refl (down_kept before.now sent before.notes before.quarantine after.quarantine k)
+      kept_as _ after.now before.notes after.notes after.quarantine after.quarantine is reported refl (down_kept before.now sent before.notes before.quarantine after.quarantine k)
 
   usual_kept : (step : LongStep) → is_by_message step ≡ false → Usually service wait before step sent after → KeepsAll after
   usual_kept (Joint_event event) b u = by_event event u (went service before.now event sent after.now u.passes.0)
@@ -224,11 +224,11 @@ module _ {State : Type 0} (service : Machine State) (wait : ℕ) (before after :
       let same : after.quarantine ≡ qs =
       d.quarantine ∙ (ap (λ n. quarantine_then n (event_input before.now event) d.there.node before.quarantine) up
       ∙ (ap (λ x. quarantine_then (Some node) x d.there.node before.quarantine) i ∙ ap (λ n. quarantine_then (Some node) (Some input) n before.quarantine) now)) in
-      let told : after.notes ≡ before.notes ++ forgets wait node.boot input qs =
+      let reported : after.notes ≡ before.notes ++ forgets wait node.boot input qs =
       d.notes ∙ (sym (append-nil before.notes) ∙ ap (λ fs. before.notes ++ fs) (sym (full_forgets input wait node.boot qs full_input))) in (
         (full_refuses service node later input d.all full_input turn, ap (λ w. w.packets) is),
         kept_as (record before.now { node = Some later; packets = before.now.packets ++ [] }) after.now (before.notes ++ forgets wait node.boot input qs) after.notes qs after.quarantine
-            (d.now_is ∙ (ap (λ (w : World). record w { packets = before.now.packets }) is ∙ ap (λ (ps : List Packet). record before.now { node = Some later; packets = ps }) (sym (append-nil before.now.packets)))) told same
+            (d.now_is ∙ (ap (λ (w : World). record w { packets = before.now.packets }) is ∙ ap (λ (ps : List Packet). record before.now { node = Some later; packets = ps }) (sym (append-nil before.now.packets)))) reported same
             (turned_kept service before.now o before.notes before.quarantine k input node later d.all up turn [] (λ P a. tt) (full_fresh before.notes node input full_input) wait brought (later_stands.distinct later now)),
       )
 
@@ -344,7 +344,7 @@ module _ {State : Type 0} (service : Machine State) (small : HasSmallOutputs ser
           past = now.past;
           acknowledged = now.shown.acknowledged;
           restart = now.shown.restart;
-          told = all_told service moment.world.now now.shown.stands;
+          reported = all_reported service moment.world.now now.shown.stands;
         },
       )
 

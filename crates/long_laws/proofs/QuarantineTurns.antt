@@ -10,7 +10,7 @@ use Rattle.seq_arith.specs.Packet.{Segment}
 use Rattle.seq_arith.specs.Message.{Body}
 use Rattle.seq_arith.specs.Message.Body.{DoneMsg}
 use Rattle.ft_model.specs.Keys.{has_key}
-use Rattle.ft_model.specs.Connection.{ConnectionTurn, told_by}
+use Rattle.ft_model.specs.Connection.{ConnectionTurn, reported_by}
 use Rattle.ft_model.specs.Copy.{copies}
 use Rattle.ft_model.specs.Network.{Packet, source_of}
 use Rattle.ft_model.specs.Network.Packet.{To_client}
@@ -22,15 +22,15 @@ use Rattle.ft_model.specs.Node.Input.{Packet_comes, Message_comes, Noise_comes, 
 use Rattle.ft_model.specs.Node.Stage.{Asking, Fetching, Serving, Fenced}
 use Rattle.ft_model.specs.Opening.{is_syn, numbers_for, point_opened, timestamping_for}
 use Rattle.ft_model.specs.Point.{Point}
-use Rattle.ft_model.specs.Reads.{reads_told, read_messages, first_told}
+use Rattle.ft_model.specs.Reads.{reads_reported, read_messages, first_reported}
 use Rattle.ft_model.specs.Refusal.{as_listen}
-use Rattle.ft_model.specs.ResetAndEnd.{dones, tells_done}
+use Rattle.ft_model.specs.ResetAndEnd.{dones, reports_done}
 use Rattle.ft_model.specs.Segments.{segments_of}
 use Rattle.ft_model.specs.ServingTurn.{PlaceTurn, AllGo, newcomers, refusals, is_strange, ServingTurn}
 use Rattle.ft_model.proofs.Copied.{all_copies}
 use Rattle.ft_model.proofs.Keys.{absent_key}
 use Rattle.ft_model.proofs.Lists.{all_append, all_map, all_of, same_key, or_left, or_cases}
-use Rattle.ft_model.proofs.PlaceTurns.{PlaceWent, place_went, serving_goes_on}
+use Rattle.ft_model.proofs.PlaceTurns.{PlaceWent, place_went, serving_proceeds}
 use Rattle.ft_model.proofs.PlaceTurns.PlaceWent.{stayed, went_on, began, dropped, ended, refused}
 use Rattle.ft_model.proofs.StageTurns.{StageWent, either_turn}
 use Rattle.ft_model.proofs.StageTurns.StageWent.{was_fenced, waited, held_off, asked_on, resumed, served}
@@ -52,7 +52,7 @@ Unasked key packet = asks_about key packet ≡ false
 abbrev NotAbout : Key → Body → Type 0
 NotAbout key body = is_about key body ≡ false
 
-bodies_unasked : (key : Key) (boot : ℕ) (bodies : List Body) → AllByRecursion (NotAbout key) bodies → AllByRecursion (Unasked key) (map (told_by boot) bodies)
+bodies_unasked : (key : Key) (boot : ℕ) (bodies : List Body) → AllByRecursion (NotAbout key) bodies → AllByRecursion (Unasked key) (map (reported_by boot) bodies)
 bodies_unasked key boot [] a = tt
 bodies_unasked key boot (body ∷ bodies) a = (a.0, bodies_unasked key boot bodies a.1)
 
@@ -60,13 +60,13 @@ reads_unasked : (key own : Key) → key_eq own key ≡ false → (index : ℕ) (
 reads_unasked key own other index [] = tt
 reads_unasked key own other index (n ∷ lengths) = (other, reads_unasked key own other (index + 1) lengths)
 
-told_unasked : (key : Key) (news : News) (p q : Point) → key_eq q.key key ≡ false → AllByRecursion (NotAbout key) (reads_told news p q)
-unfolding reads_told
-told_unasked key news p q other = reads_unasked key q.key other (first_told news p q) (drop (first_told news p q) q.lengths)
+reported_unasked : (key : Key) (news : News) (p q : Point) → key_eq q.key key ≡ false → AllByRecursion (NotAbout key) (reads_reported news p q)
+unfolding reads_reported
+reported_unasked key news p q other = reads_unasked key q.key other (first_reported news p q) (drop (first_reported news p q) q.lengths)
 
 dones_unasked : (key : Key) (news : News) (p q : Point) → key_eq q.key key ≡ false → AllByRecursion (NotAbout key) (dones news p q)
 unfolding dones
-dones_unasked key news p q other = holds_if (AllByRecursion (NotAbout key)) (tells_done news p q) (DoneMsg q.key ∷ []) [] (λ t. (other, tt)) (λ t. tt)
+dones_unasked key news p q other = holds_if (AllByRecursion (NotAbout key)) (reports_done news p q) (DoneMsg q.key ∷ []) [] (λ t. (other, tt)) (λ t. tt)
 
 copies_unasked : (key : Key) (news : News) (p q : Point) → key_eq q.key key ≡ false → AllByRecursion (NotAbout key) (copies news p q)
 copies_unasked key news p q other = all_copies (NotAbout key) news p q (λ part c. ap (λ k. key_eq k key) c.key ∙ other)
@@ -81,9 +81,9 @@ connection_unasked service key server boot news p q sent other =
     (λ t. subst (AllByRecursion (Unasked key)) (sym t.packets) (bodies_unasked key boot (dones news p q) (dones_unasked key news p q other)))
     (λ t. subst (AllByRecursion (Unasked key)) (sym t.packets)
     (all_append (Unasked key) (map To_client (segments_of service server news p q)) _ (segments_unasked key (segments_of service server news p q))
-    (bodies_unasked key boot (copies news p q ++ (reads_told news p q ++ dones news p q))
+    (bodies_unasked key boot (copies news p q ++ (reads_reported news p q ++ dones news p q))
     (all_append (NotAbout key) (copies news p q) _ (copies_unasked key news p q other)
-    (all_append (NotAbout key) (reads_told news p q) (dones news p q) (told_unasked key news p q other) (dones_unasked key news p q other))))))
+    (all_append (NotAbout key) (reads_reported news p q) (dones news p q) (reported_unasked key news p q other) (dones_unasked key news p q other))))))
 
 -- a place of the key is one that is done
 abbrev ClearAt : Key → Place → Type 0
@@ -167,7 +167,7 @@ pub serving_stays : {State : Type 0} (service : Machine State) (key : Key) (node
     → IsDoneThere key before → ServingTurn service node input opened before after sent → IsDoneThere key after × AllByRecursion (Unasked key) sent
 serving_stays service key node input opened before after sent d t =
     let both : AllByRecursion (ClearAt key) after × AllByRecursion (Unasked key) sent =
-    serving_goes_on service node input opened (ClearAt key) (ClearAt key) (Unasked key) before after sent (place_clear service key node input)
+    serving_proceeds service node input opened (ClearAt key) (ClearAt key) (Unasked key) before after sent (place_clear service key node input)
     (fresh_clear key node input opened before d.1) (refusals_unasked key node input before) (λ numbers s c. never_true (key_eq numbers.key key) (λ h. c h)) d.0 t in
     let went : Knows t.went key = known_on service key node input before t.went t.by_places d.0 t.all_go d.1 in
     ((both.0, subst (λ l. Knows l key) (sym t.places) (knows_front t.went (newcomers node input opened before) key went)), both.1)

@@ -25,7 +25,7 @@ use Rattle.ft_model.specs.declared.event.Event.{Event}
 use Rattle.ft_model.proofs.Distinct.{StageDistinct}
 use Rattle.ft_model.proofs.Keys.{absent_key, finds_itself, all_from_get}
 use Rattle.ft_model.proofs.Lists.{all_weaker, all_append, all_of, all_slice_get, found_passes, same_key, key_is, or_left, or_cases, none_is_some, some_is}
-use Rattle.ft_model.proofs.PlaceTurns.{PlaceWent, place_went, all_go_on}
+use Rattle.ft_model.proofs.PlaceTurns.{PlaceWent, place_went, all_proceed}
 use Rattle.ft_model.proofs.PlaceTurns.PlaceWent.{stayed, went_on, began, dropped, ended, refused}
 use Rattle.ft_model.proofs.Resumed.{map_append}
 use Rattle.ft_model.proofs.Running.{HasSmallOutputs}
@@ -36,7 +36,7 @@ use Rattle.long_laws.specs.Forgetting.{Named, ForgetAnswer, answer_to_forget}
 use Rattle.long_laws.specs.Forgetting.ForgetAnswer.{About_forgetting, Of_log}
 use Rattle.long_laws.specs.LongTrace.{LongStep, others, places_at, stage_without}
 use Rattle.long_laws.specs.LongTrace.LongStep.{Joint_event, Recycles, Forgets, Arrives, Lets_go, Keeps_alive}
-use Rattle.long_laws.specs.Quarantine.{Quarantined, aged, named_point, named_head, named_place, or_nothing, fetched_now, named_in, quarantined_at, goes_on_or_begins, quarantine_of, quarantine_after, ended_early, taken_away}
+use Rattle.long_laws.specs.Quarantine.{Quarantined, aged, named_point, named_head, named_place, or_nothing, fetched_now, named_in, quarantined_at, proceeds_or_begins, quarantine_of, quarantine_after, ended_early, taken_away}
 use Rattle.long_laws.specs.QuarantineWorld.{QuarantineWorld, QuarantineStep, QuarantineMoment, MayQuarantine, QuarantineJoint, Usually, DropsSilently, event_input, step_input, quarantine_then, drops, is_full_input, is_by_message, recycled_by, recycled_world, with_answer, without_place, after_moments, IsHeld, AllAreHeld}
 use Rattle.long_laws.specs.QuarantineWorld.QuarantineStep.{Usual, To_log, To_node, Is_lost, Ends_early}
 use Rattle.long_laws.proofs.Forgotten.{Was, was}
@@ -97,7 +97,7 @@ aged_key (Message_comes message) q = refl
 aged_key Noise_comes q = refl
 
 from_source : (node : Node) (input : Input) (qs : List Quarantined) (key : Key) (q : Option Quarantined) (n : Option Named) → quarantined_at key qs ≡ q → named_in node input node.stage key ≡ n
-    → Source node input qs (Ended key) → Has (goes_on_or_begins input q n) key
+    → Source node input qs (Ended key) → Has (proceeds_or_begins input q n) key
 from_source node input qs key (Some q) n e f s =
     or_left (key_eq (aged input q).named.key key) false (ap (λ k. key_eq k key) (aged_key input q) ∙ found_passes (λ x. key_eq x.named.key key) qs q e)
 from_source node input qs key None (Some n) e f s = or_left (key_eq n.key key) false (ap (λ k. key_eq k key) (named_key node input node.stage key n f) ∙ key_is key)
@@ -219,13 +219,13 @@ module _ {State : Type 0} (service : Machine State) (node : Node) (input : Input
   stage_sources sent after d a (asked_on count fetched p f s) = no_places (Source node input qs) after (ap is_restarting f)
   stage_sources sent after d a (resumed count fetched places p none f t) =
       subst (λ stage. AllByRecursion (Source node input qs) (places_at stage)) (sym f)
-      (all_go_on (Revives service node) (Source node input qs) (Source node input qs) Nothing (λ place now some s goes. (revive_source place now some s goes, nothing_of some))
+      (all_proceed (Revives service node) (Source node input qs) (Source node input qs) Nothing (λ place now some s goes. (revive_source place now some s goes, nothing_of some))
       (all_restored service node.profile fetched) places sent (progress_source count fetched p) t).0
   stage_sources sent after d a (served opened places later b f t) =
       let before : AllByRecursion (Before places qs) places =
       all_before places qs (subst StageDistinct b d) (subst (λ stage. AllByRecursion (HasIts qs) (places_at stage)) b a) in
       let here : AllByRecursion (Source node input qs) t.went =
-      (all_go_on (PlaceTurn service node input) (Before places qs) (Source node input qs) Nothing
+      (all_proceed (PlaceTurn service node input) (Before places qs) (Source node input qs) Nothing
       (λ place now some x turn. (one_goes opened places b place now some x (place_went service node input place now some turn), nothing_of some)) places t.went t.by_places before t.all_go).0 in
       subst (λ stage. AllByRecursion (Source node input qs) (places_at stage)) (sym f)
       (subst (AllByRecursion (Source node input qs)) (sym t.places) (all_append (Source node input qs) t.went (newcomers node input opened places) here (new_source (Source node input qs) (λ n s. tt) node input opened places)))
@@ -263,7 +263,7 @@ module _ {State : Type 0} (service : Machine State) (node : Node) (segment : Seg
   packet_stage sent after a (resumed count fetched places p none f t) = absurd (true≢false (ap is_packet p.comes))
   packet_stage sent after a (served opened places later b f t) =
       let here : AllByRecursion (HasIts qs) t.went =
-      (all_go_on (PlaceTurn service node (Packet_comes segment)) (HasIts qs) (HasIts qs) Nothing
+      (all_proceed (PlaceTurn service node (Packet_comes segment)) (HasIts qs) (HasIts qs) Nothing
       (λ place now some x turn. (packet_keeps place now some x (place_went service node (Packet_comes segment) place now some turn), nothing_of some)) places t.went t.by_places
       (subst (λ stage. AllByRecursion (HasIts qs) (places_at stage)) b a) t.all_go).0 in
       subst (λ stage. AllByRecursion (HasIts qs) (places_at stage)) (sym f)

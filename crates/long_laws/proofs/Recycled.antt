@@ -26,9 +26,9 @@ use Rattle.ft_model.proofs.Fetching.{AgreesWith}
 use Rattle.ft_model.proofs.Lists.{all_both}
 use Rattle.ft_model.proofs.Scripts.{EntryFits}
 use Rattle.ft_model.proofs.Seen.{IsSeen}
-use Rattle.ft_model.proofs.Services.{prefix_length, reads_go_on}
-use Rattle.ft_model.proofs.ToldLast.{WasTold}
-use Rattle.ft_model.proofs.ToldOver.{StageTold}
+use Rattle.ft_model.proofs.Services.{prefix_length, reads_proceed}
+use Rattle.ft_model.proofs.ReportedLast.{WasReported}
+use Rattle.ft_model.proofs.ReportedOver.{StageReported}
 use Rattle.ft_io.proofs.Choices.{holds_if, if_false}
 use Rattle.long_laws.specs.LongTrace.{others, concerns, places_at, IsEnded, without_entry, recycled, MayRecycle}
 use Rattle.long_laws.proofs.Others.{all_others, find_others, distinct_others, last_others}
@@ -48,7 +48,7 @@ pub nothing_made : {State : Type 0} (service : Machine State) (bytes lengths scr
 unfolding reference
 nothing_made service bytes lengths script short =
     let more : length service.greeting ≤ length (reference service bytes lengths).output =
-    prefix_length service.greeting (reference service bytes lengths).output (reads_go_on service bytes [] lengths (lengths, refl)).output in
+    prefix_length service.greeting (reference service bytes lengths).output (reads_proceed service bytes [] lengths (lengths, refl)).output in
     le_trans more short
 
 pub short_without : {State : Type 0} (service : Machine State) (script : Key → List ℕ) (key : Key) (author : Key → List ℕ)
@@ -85,14 +85,14 @@ stage_older logged node entries (Fetching count fetched) less l r = absurd (omeg
 stage_older logged node entries (Serving opened places) less l r = tt
 stage_older logged node entries (Fenced newer) less l r = tt
 
-told_without : (key : Key) (packets : List Packet) (place : Place) → (key_eq (key_of place) key ≡ true → IsEnded place) → WasTold packets place → WasTold (others (concerns key) packets) place
-told_without key packets (Lives p) clear t = on (key_eq p.key key) refl
+reported_without : (key : Key) (packets : List Packet) (place : Place) → (key_eq (key_of place) key ≡ true → IsEnded place) → WasReported packets place → WasReported (others (concerns key) packets) place
+reported_without key packets (Lives p) clear t = on (key_eq p.key key) refl
   where
-    on : (b : Bool) → key_eq p.key key ≡ b → WasTold (others (concerns key) packets) (Lives p)
+    on : (b : Bool) → key_eq p.key key ≡ b → WasReported (others (concerns key) packets) (Lives p)
     on true e = absurd (clear e)
     on false e = λ r. last_others key p.key packets e ∙ t r
-told_without key packets (Opens n timestamping) clear t = tt
-told_without key packets (Ended k) clear t = tt
+reported_without key packets (Opens n timestamping) clear t = tt
+reported_without key packets (Ended k) clear t = tt
 
 module _ {State : Type 0} (service : Machine State) (key : Key) (w : World) (o : Stands service w) (may : MayRecycle key w) where
   abbrev now : Log
@@ -134,11 +134,11 @@ module _ {State : Type 0} (service : Machine State) (key : Key) (w : World) (o :
   backed_here (Fetching count fetched) clear f = tt
   backed_here (Fenced newer) clear f = tt
 
-  told_here : (stage : Stage) → AreClear key (places_at stage) → StageTold w.packets stage → StageTold (others (concerns key) w.packets) stage
-  told_here (Serving opened places) clear f = stage_of (WasTold w.packets) (WasTold (others (concerns key) w.packets)) key places (told_without key w.packets) clear f
-  told_here Asking clear f = tt
-  told_here (Fetching count fetched) clear f = tt
-  told_here (Fenced newer) clear f = tt
+  reported_here : (stage : Stage) → AreClear key (places_at stage) → StageReported w.packets stage → StageReported (others (concerns key) w.packets) stage
+  reported_here (Serving opened places) clear f = stage_of (WasReported w.packets) (WasReported (others (concerns key) w.packets)) key places (reported_without key w.packets) clear f
+  reported_here Asking clear f = tt
+  reported_here (Fetching count fetched) clear f = tt
+  reported_here (Fenced newer) clear f = tt
 
   pub stands_without : Stands service (recycled key w)
   stands_without = record {
@@ -188,7 +188,7 @@ module _ {State : Type 0} (service : Machine State) (key : Key) (w : World) (o :
           (λ e a f. entry_backed service key o.script o.script o.isn o.isn w.log now script_here isn_here entry_here e a f) o.backed.entries;
       stage = λ n e. backed_here n.stage (may.clear n e) (o.backed.stage n e);
     };
-    telling = λ n e. told_here n.stage (may.clear n e) (o.telling n e);
+    reporting = λ n e. reported_here n.stage (may.clear n e) (o.reporting n e);
   }
 
   pub same_without : AreSame o stands_without

@@ -7,8 +7,8 @@ use Rattle.server_trait.specs.Service.{Machine}
 use Rattle.seq_arith.specs.Packet.{has_ack}
 use Rattle.seq_arith.specs.Message.{Body, Message}
 use Rattle.seq_arith.specs.Message.Body.{FullMsg}
-use Rattle.ft_model.specs.Lawful.{LawfulTurn, NodeTurn, StageTurn, Rests, Fetches, fence, count_told, summary_count, fetched_then}
-use Rattle.ft_model.specs.Masked.{last_told, told_to, or_before}
+use Rattle.ft_model.specs.Lawful.{LawfulTurn, NodeTurn, StageTurn, Rests, Fetches, fence, count_reported, summary_count, fetched_then}
+use Rattle.ft_model.specs.Masked.{last_reported, reported_to, or_before}
 use Rattle.ft_model.specs.Network.{Packet, destination_of}
 use Rattle.ft_model.specs.Network.Packet.{To_server, To_client, To_logger, From_logger}
 use Rattle.ft_model.specs.News.{News}
@@ -29,12 +29,12 @@ use Rattle.ft_model.proofs.Backed.{PacketBacked}
 use Rattle.ft_model.proofs.Faithful.{PacketFits}
 use Rattle.ft_model.proofs.Fenced.{HasBoot, IsNoChange}
 use Rattle.ft_model.proofs.Lists.{all_of, all_append}
-use Rattle.ft_model.proofs.PlaceTurns.{PlaceWent, IsNews, place_went, all_go_on}
+use Rattle.ft_model.proofs.PlaceTurns.{PlaceWent, IsNews, place_went, all_proceed}
 use Rattle.ft_model.proofs.PlaceTurns.PlaceWent.{stayed, went_on, began, dropped, ended, refused}
 use Rattle.long_laws.specs.Quarantine.{Quarantined, forgets}
 use Rattle.long_laws.specs.LongResets.{says_full}
 use Rattle.long_laws.specs.QuarantineWorld.{is_full_input, IsRefusal}
-use Rattle.long_laws.proofs.LetGo.{stage_told}
+use Rattle.long_laws.proofs.LetGo.{stage_reported}
 use Rattle.long_laws.proofs.Stands.{Stands}
 
 pub full_forgets : (input : Input) (wait boot : ℕ) (qs : List Quarantined) → is_full_input (Some input) ≡ true → forgets wait boot input qs ≡ []
@@ -90,7 +90,7 @@ serving_refuses : {State : Type 0} (service : Machine State) (node : Node) (mess
     → ServingTurn service node (Message_comes message) opened before after sent → AllByRecursion IsRefusal sent
 serving_refuses service node message opened before after sent f t =
     let went : AllByRecursion Anywhere t.went × AllByRecursion IsRefusal t.by_places =
-    all_go_on (PlaceTurn service node (Message_comes message)) Anywhere Anywhere IsRefusal
+    all_proceed (PlaceTurn service node (Message_comes message)) Anywhere Anywhere IsRefusal
     (λ place now some u turn. (all_of Anywhere now (λ p. tt), place_refuses service node message place now some f (place_went service node (Message_comes message) place now some turn)))
     before t.went t.by_places (all_of Anywhere before (λ p. tt)) t.all_go in
     subst (AllByRecursion IsRefusal) (sym t.packets) (all_append IsRefusal t.by_places _ went.1 (none_sent _ (asks_nothing node message after)))
@@ -116,7 +116,7 @@ nothing_fetched (Some w) fetched body f = full_body (λ b. fetched_after (Some w
 stage_refuses : {State : Type 0} (service : Machine State) (node : Node) (message : Message) (stage after : Stage) (sent : List Packet) → says_full message.body ≡ true
     → StageTurn service node stage (Message_comes message) after sent → AllByRecursion IsRefusal sent
 stage_refuses service node message Asking after sent f t =
-    let none : count_told node message ≡ None = if_none (message.boot == node.boot) (summary_count message.body) (full_body (λ b. summary_count b ≡ None) (λ key. refl) message.body f) in
+    let none : count_reported node message ≡ None = if_none (message.boot == node.boot) (summary_count message.body) (full_body (λ b. summary_count b ≡ None) (λ key. refl) message.body f) in
     none_sent sent (subst (λ o. MatchOption o (Rests Asking after sent) (λ count. Fetches service node count [] after sent)) none t).1
 stage_refuses service node message (Fetching count fetched) after sent f t =
     let none : fetched_then node message count fetched ≡ None =
@@ -143,25 +143,25 @@ all_front_of : {A : Type 0} (P : A → Type 0) (xs ys : List A) → AllByRecursi
 all_front_of P [] ys a = tt
 all_front_of P (x ∷ xs) ys a = (a.0, all_front_of P xs ys a.1)
 
-rst_tells_none : (key : Key) (packet : Packet) → IsRefusal packet → told_to key packet ≡ None
-rst_tells_none key (To_client segment) r =
+rst_reports_none : (key : Key) (packet : Packet) → IsRefusal packet → reported_to key packet ≡ None
+rst_reports_none key (To_client segment) r =
     ap (λ b. if b then Some segment.head.ack else None) (ap (λ b. key_eq (destination_of segment) key && has_ack segment && not b) r ∙ never (key_eq (destination_of segment) key) (has_ack segment))
   where
     never : (a b : Bool) → (a && b && false) ≡ false
     never true true = refl
     never true false = refl
     never false b = refl
-rst_tells_none key (To_server segment) r = absurd r
-rst_tells_none key (To_logger message) r = absurd r
-rst_tells_none key (From_logger message) r = absurd r
+rst_reports_none key (To_server segment) r = absurd r
+rst_reports_none key (To_logger message) r = absurd r
+rst_reports_none key (From_logger message) r = absurd r
 
-rsts_tell_none : (key : Key) (packets : List Packet) → AllByRecursion IsRefusal packets → last_told key packets ≡ None
-rsts_tell_none key [] a = refl
-rsts_tell_none key (p ∷ packets) a = ap (λ o. or_before o (told_to key p)) (rsts_tell_none key packets a.1) ∙ rst_tells_none key p a.0
+rsts_report_none : (key : Key) (packets : List Packet) → AllByRecursion IsRefusal packets → last_reported key packets ≡ None
+rsts_report_none key [] a = refl
+rsts_report_none key (p ∷ packets) a = ap (λ o. or_before o (reported_to key p)) (rsts_report_none key packets a.1) ∙ rst_reports_none key p a.0
 
-same_told : (key : Key) (xs ys : List Packet) → AllByRecursion IsRefusal ys → last_told key (xs ++ ys) ≡ last_told key xs
-same_told key [] ys a = rsts_tell_none key ys a
-same_told key (x ∷ xs) ys a = ap (λ o. or_before o (told_to key x)) (same_told key xs ys a)
+same_reported : (key : Key) (xs ys : List Packet) → AllByRecursion IsRefusal ys → last_reported key (xs ++ ys) ≡ last_reported key xs
+same_reported key [] ys a = rsts_report_none key ys a
+same_reported key (x ∷ xs) ys a = ap (λ o. or_before o (reported_to key x)) (same_reported key xs ys a)
 
 pub stands_without_refusals : {State : Type 0} (service : Machine State) (w : World) (xs ys : List Packet) → w.packets ≡ xs ++ ys → AllByRecursion IsRefusal ys
     → Stands service w → Stands service (record w { packets = xs })
@@ -201,5 +201,5 @@ stands_without_refusals service w xs ys are a o =
         entries = o.backed.entries;
         stage = o.backed.stage;
       };
-      telling = λ n e. stage_told w.packets xs (λ k. ap (last_told k) are ∙ same_told k xs ys a) n.stage (o.telling n e);
+      reporting = λ n e. stage_reported w.packets xs (λ k. ap (last_reported k) are ∙ same_reported k xs ys a) n.stage (o.reporting n e);
     }

@@ -33,7 +33,7 @@ not_forgotten key w e found may = none_is_some e (sym may.absent ∙ found)
 pub not_arrived : (c : Client) (w : World) (packet : Packet) → WasSent w packet → concerns c.key packet ≡ true → MayArrive c w → ⊥
 not_arrived c w packet (zero, sent) about may = none_is_some packet sent
 not_arrived c w packet (suc n, sent) about may =
-    true≢false (sym about ∙ all_slice_get (λ p. concerns c.key p ≡ false) w.packets n packet may.unheard sent)
+    true≢false (sym about ∙ all_slice_get (λ p. concerns c.key p ≡ false) w.packets n packet may.unreceived sent)
 
 pub not_done : MayRecycle common.key run.not_done → ⊥
 not_done = not_recycled common.key run.not_done run.acknowledged_entry refl refl

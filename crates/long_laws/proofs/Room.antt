@@ -15,7 +15,7 @@ use Rattle.ft_model.specs.declared.event.Event.{Event}
 use Rattle.ft_model.specs.declared.event.Event.TheVariants.{Boot, Crash, Tick, Deliver, Flip, Begin, Send, Fin, Ack, Reset, Stop}
 use Rattle.ft_model.proofs.Fenced.{IsOurs, turn_ours}
 use Rattle.ft_model.proofs.Happened.{Happened, happened, all_sent, answers}
-use Rattle.ft_model.proofs.Happened.Happened.{log_heard, client_heard, client_moved, server_turned, server_booted, server_down}
+use Rattle.ft_model.proofs.Happened.Happened.{log_received, client_received, client_moved, server_turned, server_booted, server_down}
 use Rattle.ft_model.proofs.Lists.{all_weaker, all_append}
 use Rattle.ft_model.proofs.Refused.{Says, answers_say}
 use Rattle.ft_model.proofs.Resumed.{length_map}
@@ -23,7 +23,7 @@ use Rattle.ft_model.proofs.Running.{HasSmallOutputs}
 use Rattle.ft_model.proofs.StageTurns.{stage_went}
 use Rattle.long_laws.specs.LongTrace.{LongWorld, LongStep, LongMoment, LongJoint, MayPass, long_after, concerns, keep_alive, last_rst}
 use Rattle.long_laws.specs.LongTrace.LongStep.{Joint_event, Recycles, Forgets, Arrives, Lets_go, Keeps_alive}
-use Rattle.long_laws.specs.LongResets.{says_full, is_full, brings_full, hears_full, HasRoom}
+use Rattle.long_laws.specs.LongResets.{says_full, is_full, brings_full, receives_full, HasRoom}
 use Rattle.long_laws.proofs.Others.{all_others}
 use Rattle.long_laws.proofs.Spared.{moment_spares}
 
@@ -52,13 +52,13 @@ ours_not_full boot (From_logger message) o = absurd o
 
 event_room : {State : Type 0} (service : Machine State) (before : World) (sent : List Packet) (after : World) → NoneFull before → Happened service before sent after
     → length after.log.entries < 64 → NoneFull after
-event_room service before sent after k (log_heard message under s e) few =
+event_room service before sent after k (log_received message under s e) few =
     let log : Log = log_after before.log message in
     let room : length log.entries < 64 = subst (λ w. length w.log.entries < 64) e few in
     subst NoneFull (sym e)
     (all_append IsNotFull before.packets sent k
     (subst (AllByRecursion IsNotFull) (sym s) (all_weaker (Says log) IsNotFull (answers before.log message) (room_packet log room) (answers_say before.log message))))
-event_room service before sent after k (client_heard segment under s e) few =
+event_room service before sent after k (client_received segment under s e) few =
     subst NoneFull (sym e) (all_append IsNotFull before.packets sent k (subst (AllByRecursion IsNotFull) (sym s) tt))
 event_room service before sent after k (client_moved number m) few =
     subst NoneFull (sym m.after_is) (all_append IsNotFull before.packets sent k (subst (AllByRecursion IsNotFull) (sym m.sent_is) (refl, tt)))
@@ -97,28 +97,28 @@ found_not_full : (w : World) (number : ℕ) (o : Option Packet) → NoneFull w �
 found_not_full w number None k e = refl
 found_not_full w number (Some p) k e = or_from (is_full p) false (all_sent IsNotFull w p k (number, e)) refl
 
-event_hears : (w : World) (event : Event) → NoneFull w → brings_full w event ≡ false
-event_hears w (Deliver number) k = found_not_full w number (packet_at w.packets number) k refl
-event_hears w (Boot boot isn) k = refl
-event_hears w Crash k = refl
-event_hears w Tick k = refl
-event_hears w (Flip number bit) k = refl
-event_hears w (Begin client window) k = refl
-event_hears w (Send client from len) k = refl
-event_hears w (Fin client) k = refl
-event_hears w (Ack client window) k = refl
-event_hears w (Reset client) k = refl
-event_hears w (Stop part) k = refl
+event_receives : (w : World) (event : Event) → NoneFull w → brings_full w event ≡ false
+event_receives w (Deliver number) k = found_not_full w number (packet_at w.packets number) k refl
+event_receives w (Boot boot isn) k = refl
+event_receives w Crash k = refl
+event_receives w Tick k = refl
+event_receives w (Flip number bit) k = refl
+event_receives w (Begin client window) k = refl
+event_receives w (Send client from len) k = refl
+event_receives w (Fin client) k = refl
+event_receives w (Ack client window) k = refl
+event_receives w (Reset client) k = refl
+event_receives w (Stop part) k = refl
 
-step_hears : (w : World) (step : LongStep) → NoneFull w → hears_full w step ≡ false
-step_hears w (Joint_event event) k = event_hears w event k
-step_hears w (Recycles key) k = refl
-step_hears w (Forgets key) k = refl
-step_hears w (Arrives c) k = refl
-step_hears w (Lets_go key) k = refl
-step_hears w (Keeps_alive key) k = refl
+step_receives : (w : World) (step : LongStep) → NoneFull w → receives_full w step ≡ false
+step_receives w (Joint_event event) k = event_receives w event k
+step_receives w (Recycles key) k = refl
+step_receives w (Forgets key) k = refl
+step_receives w (Arrives c) k = refl
+step_receives w (Lets_go key) k = refl
+step_receives w (Keeps_alive key) k = refl
 
 pub room_spares : {State : Type 0} (service : Machine State) → HasSmallOutputs service → (start : World) (moment : LongMoment) (earlier : List LongMoment) → LongJoint service start (moment ∷ earlier)
     → HasRoom earlier → AllByRecursion (ResetsNoLogged moment.world.now.log) moment.sent
 room_spares service small start moment earlier j r =
-    moment_spares service small start moment earlier j (step_hears (long_after start earlier).now moment.step (all_room service start earlier j.0 r))
+    moment_spares service small start moment earlier j (step_receives (long_after start earlier).now moment.step (all_room service start earlier j.0 r))

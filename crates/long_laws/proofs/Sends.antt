@@ -27,7 +27,7 @@ use Rattle.ft_model.specs.Sending.{acknowledges, acknowledged_by, acknowledged_a
 use Rattle.ft_model.specs.Timer.{expires, probes, must_run, rest_after}
 use Rattle.ft_model.proofs.Authored.{take_of_prefix}
 use Rattle.ft_model.proofs.Running.{taken_grows}
-use Rattle.ft_model.proofs.Services.{RunExtends, more_bytes, reads_go_on, sum_take, units_go_on}
+use Rattle.ft_model.proofs.Services.{RunExtends, more_bytes, reads_proceed, sum_take, units_proceed}
 use Rattle.ft_model.proofs.Turns.{all_is_sent}
 
 pub record Sends {State : Type 0} (service : Machine State) (p : Point) : Type 0 where
@@ -56,11 +56,11 @@ extends service p q c taken lengths more =
     subst (λ l. IsPrefix l (take q.reads_answered q.lengths)) (take_of_prefix a p.lengths q.lengths lengths c.counts) (take_less a q.reads_answered q.lengths more) in
     subst (λ r. RunExtends r (answered_run service q))
     (more_bytes service p.taken q.taken (take a p.lengths) taken (le_trans (sum_take a p.lengths) c.enough))
-    (reads_go_on service q.taken (take a p.lengths) (take q.reads_answered q.lengths) front)
+    (reads_proceed service q.taken (take a p.lengths) (take q.reads_answered q.lengths) front)
 
 target_grows : {State : Type 0} (service : Machine State) (p q : Point) → CountsOwn p → IsPrefix p.taken q.taken → IsPrefix p.lengths q.lengths → p.reads_answered ≤ q.reads_answered
     → target service p ≤ target service q
-target_grows service p q c taken lengths more = units_go_on (answered_run service p) (answered_run service q) (extends service p q c taken lengths more)
+target_grows service p q c taken lengths more = units_proceed (answered_run service p) (answered_run service q) (extends service p q c taken lengths more)
 
 answered_more : (news : News) (p : Point) → p.reads_answered ≤ reads_answered_after news p
 unfolding reads_answered_after

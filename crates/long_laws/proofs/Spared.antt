@@ -37,10 +37,10 @@ use Rattle.ft_model.proofs.Seen.{IsSeen}
 use Rattle.ft_model.proofs.StageTurns.{stage_went}
 use Rattle.long_laws.specs.LongTrace.{LongWorld, LongStep, LongMoment, LongJoint, MayPass, long_after, others, is_about, concerns, places_at, stage_without, without_entry, recycled, forgotten, with_new, MayForget, MayArrive, LetsGo, SendsKeepAlive, last_rst, keep_alive}
 use Rattle.long_laws.specs.LongTrace.LongStep.{Joint_event, Recycles, Forgets, Arrives, Lets_go, Keeps_alive}
-use Rattle.long_laws.specs.LongResets.{is_full, brings_full, hears_full}
+use Rattle.long_laws.specs.LongResets.{is_full, brings_full, receives_full}
 use Rattle.long_laws.proofs.Again.{none_there, all_others_fail}
-use Rattle.long_laws.proofs.Answered.{IsHeard, IsCaller, asks_for, opens_key, IsOver, PlaceOver, BodyEnds, SaysEnded, is_full_input, IsThere, each_there}
-use Rattle.long_laws.proofs.Answering.{StageAnswers, IsAnswering, Spares, turn_answers, over_still, stage_still, answering_goes_on}
+use Rattle.long_laws.proofs.Answered.{IsReceived, IsCaller, asks_for, opens_key, IsOver, PlaceOver, BodyEnds, SaysEnded, is_full_input, IsThere, each_there}
+use Rattle.long_laws.proofs.Answering.{StageAnswers, IsAnswering, Spares, turn_answers, over_still, stage_still, answering_proceeds}
 use Rattle.long_laws.proofs.Forgotten.{was}
 use Rattle.long_laws.proofs.LetGo.{with_packets, with_rst}
 use Rattle.long_laws.proofs.Long.{all_stand}
@@ -97,7 +97,7 @@ module _ (key : Key) (log : Log) (clients : List Client) (packets : List Packet)
 
   pub stage_here : (stage : Stage) → StageAnswers log clients packets stage → StageAnswers now (others (λ c. key_eq c.key key) clients) (others (concerns key) packets) stage
   stage_here (Serving opened places) k = record {
-    heard = all_others (IsHeard places) (IsHeard places) (concerns key) packets (λ p a h. h) k.heard;
+    receipt = all_others (IsReceived places) (IsReceived places) (concerns key) packets (λ p a h. h) k.receipt;
     callers = all_others (IsCaller places) (IsCaller places) (λ c. key_eq c.key key) clients (λ c a f. f) k.callers;
     over = all_weaker (PlaceOver log packets) (PlaceOver now (others (concerns key) packets)) places over_here k.over;
   }
@@ -120,19 +120,19 @@ module _ {State : Type 0} (service : Machine State) (key : Key) (w : World) (o :
   settled_left places k e true t f s = none_is_some e (sym may.absent ∙ (sym (ap (λ x. entry_of x w.log) (same_key k key t)) ∙ f))
   settled_left places k e false t f s = settled_others key k places t s
 
-  heard_left : (places : List Place) (p : Packet) → PacketBacked service o.script w.log p × Speaks service o.script w.log p → IsHeard places p → IsHeard (left places) p
-  heard_left places (To_server segment) x h = λ a. let y = x.0 a in settled_left places (source_of segment) y.0 (key_eq (source_of segment) key) refl y.1 (h a)
-  heard_left places (To_client segment) x h = λ r. let y = x.1 r in settled_left places (destination_of segment) y.entry (key_eq (destination_of segment) key) refl y.found (h r)
-  heard_left places (To_logger message) x h = tt
-  heard_left places (From_logger message) x h = tt
+  received_left : (places : List Place) (p : Packet) → PacketBacked service o.script w.log p × Speaks service o.script w.log p → IsReceived places p → IsReceived (left places) p
+  received_left places (To_server segment) x h = λ a. let y = x.0 a in settled_left places (source_of segment) y.0 (key_eq (source_of segment) key) refl y.1 (h a)
+  received_left places (To_client segment) x h = λ r. let y = x.1 r in settled_left places (destination_of segment) y.entry (key_eq (destination_of segment) key) refl y.found (h r)
+  received_left places (To_logger message) x h = tt
+  received_left places (From_logger message) x h = tt
 
   caller_left : (places : List Place) (c : Client) → IsSeen service o.script w.log c → IsCaller places c → IsCaller (left places) c
   caller_left places c s f = λ x. let y = s.sisn x in settled_left places c.key y.0 (key_eq c.key key) refl y.1 (f x)
 
   stage_left : (stage : Stage) → StageAnswers w.log w.clients w.packets stage → StageAnswers w.log w.clients w.packets (stage_without key stage)
   stage_left (Serving opened places) k = record {
-    heard = all_both (λ p. PacketBacked service o.script w.log p × Speaks service o.script w.log p) (IsHeard places) (IsHeard (left places)) w.packets (heard_left places)
-        (all_both (PacketBacked service o.script w.log) (Speaks service o.script w.log) _ w.packets (λ p a b. (a, b)) o.backed.packets o.author.spoken) k.heard;
+    receipt = all_both (λ p. PacketBacked service o.script w.log p × Speaks service o.script w.log p) (IsReceived places) (IsReceived (left places)) w.packets (received_left places)
+        (all_both (PacketBacked service o.script w.log) (Speaks service o.script w.log) _ w.packets (λ p a b. (a, b)) o.backed.packets o.author.spoken) k.receipt;
     callers = all_both (IsSeen service o.script w.log) (IsCaller places) (IsCaller (left places)) w.clients (caller_left places) o.sees k.callers;
     over = all_others (PlaceOver w.log w.packets) (PlaceOver w.log w.packets) (λ p. key_eq (key_of p) key) places (λ x t p. p) k.over;
   }
@@ -150,7 +150,7 @@ module _ {State : Type 0} (service : Machine State) (key : Key) (w : World) (o :
 with_caller : (log : Log) (clients : List Client) (packets : List Packet) (c : Client) (stage : Stage) → ((places : List Place) → IsCaller places c) → StageAnswers log clients packets stage
     → StageAnswers log (clients ++ c ∷ []) packets stage
 with_caller log clients packets c (Serving opened places) f k =
-    record { heard = k.heard; callers = all_append (IsCaller places) clients (c ∷ []) k.callers (f places, tt); over = k.over }
+    record { receipt = k.receipt; callers = all_append (IsCaller places) clients (c ∷ []) k.callers (f places, tt); over = k.over }
 with_caller log clients packets c Asking f k = tt
 with_caller log clients packets c (Fetching count fetched) f k = tt
 with_caller log clients packets c (Fenced newer) f k = tt
@@ -177,7 +177,7 @@ over_less log xs ys rst (Opens n timestamping) o = tt
 stage_less : (log : Log) (clients : List Client) (xs ys : List Packet) (rst : Segment) (stage : Stage) → StageAnswers log clients ((xs ++ To_server rst ∷ []) ++ ys) stage
     → StageAnswers log clients (xs ++ ys) stage
 stage_less log clients xs ys rst (Serving opened places) k = record {
-  heard = all_but_one (IsHeard places) xs ys (To_server rst) k.heard;
+  receipt = all_but_one (IsReceived places) xs ys (To_server rst) k.receipt;
   callers = k.callers;
   over = all_weaker (PlaceOver log ((xs ++ To_server rst ∷ []) ++ ys)) (PlaceOver log (xs ++ ys)) places (over_less log xs ys rst) k.over;
 }
@@ -205,7 +205,7 @@ let_go_answering service key w sent after o k l =
     let answers : IsAnswering there = with_one w l.node.server l.point k in
     let t = turn_answers service there l.node (Packet_comes rst) sent l.later.stage stands answers l.up brought (stage_went service l.node l.later (Packet_comes rst) sent l.turn) in
     subst (λ x. Fine x sent) (sym l.after_is) (
-      without_one (record w { node = Some l.later }) w.packets sent rst (answering_goes_on service there sent then_ stands answers turn),
+      without_one (record w { node = Some l.later }) w.packets sent rst (answering_proceeds service there sent then_ stands answers turn),
       all_weaker (Spares false w.log) (ResetsNoLogged w.log) sent (λ p f. f refl) t.1,
     )
 
@@ -215,7 +215,7 @@ stage_kept : (log : Log) (clients : List Client) (packets : List Packet) (server
 stage_kept log clients packets server p key (Serving opened places) at k =
     let there : is_settled p.key places ≡ true = all_find (IsThere places) (λ place. key_eq (key_of place) key) places (Lives p) (each_there places) at in
     record {
-      heard = all_append (IsHeard places) packets (To_client (keep_alive server p) ∷ []) k.heard ((λ r. there), tt);
+      receipt = all_append (IsReceived places) packets (To_client (keep_alive server p) ∷ []) k.receipt ((λ r. there), tt);
       callers = k.callers;
       over = all_weaker (PlaceOver log packets) _ places (over_still log packets (To_client (keep_alive server p) ∷ []) (λ key. (refl, tt))) k.over;
     }
@@ -305,14 +305,14 @@ module _ {State : Type 0} (service : Machine State) (before : World) (o : Stands
 module _ {State : Type 0} (service : Machine State) (before after : LongWorld) (sent : List Packet) (o : Stands service before.now) (k : IsAnswering before.now) where
   pub step_answers : (step : LongStep) → MayPass service before step sent after → IsAnswering after.now
   step_answers (Joint_event event) h =
-      ⊎_elim (λ x. answering_goes_on service before.now sent after.now o k x) (λ q. subst IsAnswering (sym q.1) k) (happened service before.now event sent after.now h.0)
+      ⊎_elim (λ x. answering_proceeds service before.now sent after.now o k x) (λ q. subst IsAnswering (sym q.1) k) (happened service before.now event sent after.now h.0)
   step_answers (Recycles key) h = subst IsAnswering (sym h.2) (answering_without key before.now k)
   step_answers (Forgets key) h = subst IsAnswering (sym h.2) (answering_forgotten service key before.now o h.0 k)
   step_answers (Arrives c) h = subst IsAnswering (sym h.2) (answering_arrived c before.now h.0 k)
   step_answers (Lets_go key) h = (let_go_answering service key before.now sent after.now o k h.0).0
   step_answers (Keeps_alive key) h = (kept_answering service key before.now sent after.now k h.0).0
 
-  pub step_spares : (step : LongStep) → hears_full before.now step ≡ false → MayPass service before step sent after → AllByRecursion (ResetsNoLogged after.now.log) sent
+  pub step_spares : (step : LongStep) → receives_full before.now step ≡ false → MayPass service before step sent after → AllByRecursion (ResetsNoLogged after.now.log) sent
   step_spares (Joint_event event) full h = event_spares service before.now o k sent after.now event full h.0
   step_spares (Recycles key) full h = subst (AllByRecursion (ResetsNoLogged after.now.log)) (sym h.1) tt
   step_spares (Forgets key) full h = subst (AllByRecursion (ResetsNoLogged after.now.log)) (sym h.1) tt
@@ -330,6 +330,6 @@ all_answering service small start (moment ∷ earlier) j =
 
 -- .. and each moment
 pub moment_spares : {State : Type 0} (service : Machine State) → HasSmallOutputs service → (start : World) (moment : LongMoment) (earlier : List LongMoment) → LongJoint service start (moment ∷ earlier)
-    → hears_full (long_after start earlier).now moment.step ≡ false → AllByRecursion (ResetsNoLogged moment.world.now.log) moment.sent
+    → receives_full (long_after start earlier).now moment.step ≡ false → AllByRecursion (ResetsNoLogged moment.world.now.log) moment.sent
 moment_spares service small start moment earlier j full =
     step_spares service (long_after start earlier) moment.world moment.sent (all_stand service small start earlier j.0).0 (all_answering service small start earlier j.0) moment.step full j.1

@@ -4,32 +4,32 @@ use Rattle.std.specs.List.{AllByRecursion}
 use Rattle.ft_io.specs.declared.Key.{Key}
 use Rattle.server_trait.specs.Service.{Machine, reference}
 use Rattle.ft_model.specs.Growth.{IsPrefix, logged_lengths}
-use Rattle.ft_model.specs.Masked.{SeesFront, AcknowledgesLogged, RestartIsExact, AllAreTold, unfailing}
+use Rattle.ft_model.specs.Masked.{SeesFront, AcknowledgesLogged, RestartIsExact, AllAreReported, unfailing}
 use Rattle.ft_model.specs.Network.{Packet}
 use Rattle.ft_model.specs.World.{World, Happens, IsStart}
 use Rattle.ft_model.specs.declared.event.Event.{Event}
 use Rattle.ft_model.proofs.Acknowledged.{short_scripts, fit_acknowledges}
-use Rattle.ft_model.proofs.Asked.{IsAsked, asked_goes_on}
+use Rattle.ft_model.proofs.Asked.{IsAsked, asked_proceeds}
 use Rattle.ft_model.proofs.Authored.{logged_run}
 use Rattle.ft_model.proofs.AuthorOver.{HasAuthor}
-use Rattle.ft_model.proofs.AuthorWorld.{author_goes_on}
+use Rattle.ft_model.proofs.AuthorWorld.{author_proceeds}
 use Rattle.ft_model.proofs.Backed.{IsBacked}
-use Rattle.ft_model.proofs.BackedOver.{backed_goes_on}
+use Rattle.ft_model.proofs.BackedOver.{backed_proceeds}
 use Rattle.ft_model.proofs.Distinct.{IsDistinct, distinct_after}
 use Rattle.ft_model.proofs.Exact.{exact_moment, same_exact}
 use Rattle.ft_model.proofs.Faithful.{IsFit}
 use Rattle.ft_model.proofs.FaithfulKept.{ClientFits, IsFaithful}
-use Rattle.ft_model.proofs.FaithfulOver.{script_of, isn_of, turn_faithful, faithful_goes_on}
-use Rattle.ft_model.proofs.Fenced.{IsFenced, fenced_goes_on}
+use Rattle.ft_model.proofs.FaithfulOver.{script_of, isn_of, turn_faithful, faithful_proceeds}
+use Rattle.ft_model.proofs.Fenced.{IsFenced, fenced_proceeds}
 use Rattle.ft_model.proofs.Happened.{Happened, happened}
-use Rattle.ft_model.proofs.Happened.Happened.{log_heard, client_heard, client_moved, server_turned, server_booted, server_down}
+use Rattle.ft_model.proofs.Happened.Happened.{log_received, client_received, client_moved, server_turned, server_booted, server_down}
 use Rattle.ft_model.proofs.JointMasked.{AllSee, sees_on, JointInvariant, start_sound}
 use Rattle.ft_model.proofs.Lists.{all_both, all_weaker, none_is_some}
 use Rattle.ft_model.proofs.LogAnswers.{all_answers}
 use Rattle.ft_model.proofs.Running.{HasSmallOutputs}
 use Rattle.ft_model.proofs.Seen.{IsSeen}
 use Rattle.ft_model.proofs.StageTurns.{stage_went}
-use Rattle.ft_model.proofs.ToldOver.{IsTelling, telling_goes_on, node_told}
+use Rattle.ft_model.proofs.ReportedOver.{IsReporting, reporting_proceeds, node_reported}
 
 pub record Stands {State : Type 0} (service : Machine State) (w : World) : Type 0 where
   pub script : Key → List ℕ
@@ -42,7 +42,7 @@ pub record Stands {State : Type 0} (service : Machine State) (w : World) : Type 
   pub author : HasAuthor service script w
   pub sees : AllSee service script w
   pub backed : IsBacked service script w
-  pub telling : IsTelling w
+  pub reporting : IsReporting w
 
 -- it has the scripts and numbers of another
 abbrev pub AreSame : {State : Type 0} {service : Machine State} {was is : World} → Stands service was → Stands service is → Type 0
@@ -62,23 +62,23 @@ at_start service small start s =
       author = j.author;
       sees = j.sees;
       backed = j.backed;
-      telling = λ n e. none_is_some n (sym s.node ∙ e);
+      reporting = λ n e. none_is_some n (sym s.node ∙ e);
     }
 
-unfoldable pub goes_on : {State : Type 0} (service : Machine State) → HasSmallOutputs service → (before : World) (sent : List Packet) (after : World)
+unfoldable pub proceeds : {State : Type 0} (service : Machine State) → HasSmallOutputs service → (before : World) (sent : List Packet) (after : World)
     → Stands service before → Happened service before sent after → Stands service after
-goes_on service small before sent after o h = record {
+proceeds service small before sent after o h = record {
   script = o.script;
   isn = o.isn;
   short = o.short;
-  fenced = fenced_goes_on service before sent after o.fenced h;
-  asked = asked_goes_on service before sent after o.fenced o.asked h;
-  faithful = faithful_goes_on service o.script o.isn before sent after o.short o.asked o.faithful h;
+  fenced = fenced_proceeds service before sent after o.fenced h;
+  asked = asked_proceeds service before sent after o.fenced o.asked h;
+  faithful = faithful_proceeds service o.script o.isn before sent after o.short o.asked o.faithful h;
   distinct = distinct_after service before sent after o.asked o.distinct h;
-  author = author_goes_on service o.script o.isn before sent after small o.short o.fenced o.asked o.faithful o.distinct o.author h;
+  author = author_proceeds service o.script o.isn before sent after small o.short o.fenced o.asked o.faithful o.distinct o.author h;
   sees = sees_on service o.script before sent after o.author o.sees h;
-  backed = backed_goes_on service o.script o.isn before sent after o.asked o.faithful o.author o.sees o.backed h;
-  telling = telling_goes_on service before sent after o.asked o.distinct o.telling h;
+  backed = backed_proceeds service o.script o.isn before sent after o.asked o.faithful o.author o.sees o.backed h;
+  reporting = reporting_proceeds service before sent after o.asked o.distinct o.reporting h;
 }
 
 -- the facts
@@ -93,14 +93,14 @@ sees_front service w o =
       ended = λ e. subst (λ r. (r.closed ≡ true) × (c.accepted ≡ r.output)) same (s.ended e);
     }) o.sees o.faithful.clients
 
-pub all_told : {State : Type 0} (service : Machine State) (w : World) → Stands service w → AllAreTold w.packets w.node
-all_told service w o = node_told w.packets w.node o.telling
+pub all_reported : {State : Type 0} (service : Machine State) (w : World) → Stands service w → AllAreReported w.packets w.node
+all_reported service w o = node_reported w.packets w.node o.reporting
 
 pub acknowledges : {State : Type 0} (service : Machine State) (before : World) (sent : List Packet) (after : World) → Stands service before → Happened service before sent after
     → AllByRecursion (AcknowledgesLogged after.log after.clients) sent
-acknowledges service before sent after o (log_heard message under t e) =
+acknowledges service before sent after o (log_received message under t e) =
     subst (AllByRecursion (AcknowledgesLogged after.log after.clients)) (sym t) (all_answers (AcknowledgesLogged after.log after.clients) before.log message (λ body a. tt))
-acknowledges service before sent after o (client_heard segment under t e) = subst (AllByRecursion (AcknowledgesLogged after.log after.clients)) (sym t) tt
+acknowledges service before sent after o (client_received segment under t e) = subst (AllByRecursion (AcknowledgesLogged after.log after.clients)) (sym t) tt
 acknowledges service before sent after o (client_moved number m) = subst (AllByRecursion (AcknowledgesLogged after.log after.clients)) (sym m.sent_is) (tt, tt)
 acknowledges service before sent after o (server_turned input node later brought is turn e) =
     let t = turn_faithful service o.script o.isn before node input sent later.stage o.short o.asked o.faithful is brought (stage_went service node later input sent turn) in
@@ -118,7 +118,7 @@ pub record Shown {State : Type 0} (service : Machine State) (before : World) (se
 pub shown : {State : Type 0} (service : Machine State) → HasSmallOutputs service → (before : World) (sent : List Packet) (after : World) → Stands service before
     → Happened service before sent after → Shown service before sent after
 shown service small before sent after o h = record {
-  stands = goes_on service small before sent after o h;
+  stands = proceeds service small before sent after o h;
   acknowledged = acknowledges service before sent after o h;
   restart = exact_moment service before sent after (o.fenced, o.asked) h;
 }

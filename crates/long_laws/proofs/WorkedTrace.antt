@@ -57,7 +57,7 @@ arrives = record {
   apart = refl;
   absent = refl;
   clear = is_clear run.moment_30.world.now (run.serving 1 (Ended key ∷ [])) refl ((λ same. tt), tt);
-  unheard = (refl, (refl, tt));
+  unreceived = (refl, (refl, tt));
 }
 
 forgets : MayForget key run.moment_32.world.now

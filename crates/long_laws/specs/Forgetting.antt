@@ -73,9 +73,9 @@ pub data ForgetAnswer : Type 0 where
   About_forgetting : ForgetMessage → ForgetAnswer
   Of_log : Message → ForgetAnswer
 
-abbrev pub told_of : ℕ → ForgetBody → Log → Option ForgetAnswer
-told_of boot (ForgetMsg n) log = if list_any (is_entry_of n) log.entries then None else Some (About_forgetting (forgotten_message boot n))
-told_of boot (ForgottenMsg n) log = None
+abbrev pub reported_of : ℕ → ForgetBody → Log → Option ForgetAnswer
+reported_of boot (ForgetMsg n) log = if list_any (is_entry_of n) log.entries then None else Some (About_forgetting (forgotten_message boot n))
+reported_of boot (ForgottenMsg n) log = None
 
 abbrev pub is_forget_answer : ForgetBody → Bool
 is_forget_answer (ForgetMsg n) = false
@@ -87,4 +87,4 @@ unfoldable pub answer_to_forget : Log → ForgetMessage → Option ForgetAnswer
 answer_to_forget log message =
     if is_forget_answer message.body then None
     else (if nat_lt message.boot log.boot then Some (Of_log (record { boot = message.boot; body = StaleMsg log.boot }))
-    else (if message.boot == log.boot then told_of message.boot message.body (after_forget log message) else None))
+    else (if message.boot == log.boot then reported_of message.boot message.body (after_forget log message) else None))

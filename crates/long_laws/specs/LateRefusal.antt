@@ -16,7 +16,7 @@ use Rattle.ft_model.specs.World.{World, Moment}
 use Rattle.ft_model.specs.declared.event.Event.TheVariants.{Boot, Deliver, Begin, Send, Ack}
 use Rattle.ft_model.specs.WorkedRuns.Common.{server, key, hello_text, client_with, start_with, from_client, to_log, from_log, numbers}
 use Rattle.ft_model.specs.WorkedRuns.FirstPath.{moment, packet_1, packet_2, packet_3, packet_4, packet_5, packet_6, packet_7, packet_8, packet_9}
-use Rattle.ft_model.specs.WorkedRuns.FirstPath.{packet_10, packet_11, opening, open_client, told_client, opened_entry, log_with, open_point}
+use Rattle.ft_model.specs.WorkedRuns.FirstPath.{packet_10, packet_11, opening, open_client, reported_client, opened_entry, log_with, open_point}
 use Rattle.ft_model.specs.WorkedRuns.FirstPath.{taken_point, begun_point, node_at, node_live}
 
 abbrev pub live : Client → Client
@@ -76,7 +76,7 @@ abbrev pub moment_11 : Moment
 moment_11 = moment (Deliver 8) [] (record moment_10.world { node = Some (node_live open_point) })
 
 abbrev pub moment_12 : Moment
-moment_12 = moment (Send 1 0 5) (packet_8 ∷ []) (record moment_11.world { clients = live told_client ∷ [] })
+moment_12 = moment (Send 1 0 5) (packet_8 ∷ []) (record moment_11.world { clients = live reported_client ∷ [] })
 
 abbrev pub moment_13 : Moment
 moment_13 = moment (Deliver 9) (packet_9 ∷ packet_10 ∷ packet_11 ∷ []) (record moment_12.world { node = Some (node_live taken_point) })

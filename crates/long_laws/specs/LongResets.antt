@@ -43,9 +43,9 @@ brings_full w (Reset client) = false
 brings_full w (Stop part) = false
 
 -- .. and in this step
-abbrev pub hears_full : World → LongStep → Bool
-hears_full w (Joint_event event) = brings_full w event
-hears_full w _ = false
+abbrev pub receives_full : World → LongStep → Bool
+receives_full w (Joint_event event) = brings_full w event
+receives_full w _ = false
 
 abbrev pub is_reset : Packet → Bool
 is_reset (To_client segment) = has_rst segment
@@ -62,7 +62,7 @@ ResetsOnlyLogged log (From_logger message) = Unit {0}
 -- at a key that is not forgotten yet is merely lost. The SYN is sent again (RFC 9293, 3.8.1). By the law of a turn a pending opening answers Full with a RST:
 -- so the first says that no Full reaches one
 pub record IsDiscreet (before : World) (moment : LongMoment) : Type 0 where
-  pub full : hears_full before moment.step ≡ true → AllByRecursion (λ packet. is_reset packet ≡ false) moment.sent
+  pub full : receives_full before moment.step ≡ true → AllByRecursion (λ packet. is_reset packet ≡ false) moment.sent
   pub unlogged : AllByRecursion (ResetsOnlyLogged moment.world.now.log) moment.sent
 
 -- .. in every moment of a trace

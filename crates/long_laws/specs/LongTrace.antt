@@ -19,7 +19,7 @@ use Rattle.ft_model.specs.Client.{Client, is_ended}
 use Rattle.ft_model.specs.Growth.{IsPrefix, logged_lengths}
 use Rattle.ft_model.specs.Lawful.{LawfulTurn}
 use Rattle.ft_model.specs.Log.{Log, Entry, entry_of}
-use Rattle.ft_model.specs.Masked.{SeesFront, AcknowledgesLogged, RestartIsExact, AllAreTold, is_restarting}
+use Rattle.ft_model.specs.Masked.{SeesFront, AcknowledgesLogged, RestartIsExact, AllAreReported, is_restarting}
 use Rattle.ft_model.specs.Network.{Packet, source_of, destination_of}
 use Rattle.ft_model.specs.Network.Packet.{To_server, To_client, To_logger, From_logger}
 use Rattle.ft_model.specs.Node.{Node, Place, Stage, key_of, place_at}
@@ -123,7 +123,7 @@ pub record MayArrive (c : Client) (w : World) : Type 0 where
   pub apart : is_apart w.server c.key w.clients ≡ true
   pub absent : entry_of c.key w.log ≡ None
   pub clear : IsClear c.key w
-  pub unheard : AllByRecursion (λ p. concerns c.key p ≡ false) w.packets
+  pub unreceived : AllByRecursion (λ p. concerns c.key p ≡ false) w.packets
 
 -- The server lets go of a client that is silent for too long (RFC 9293, 3.8.3: the second threshold is reached; 3.8.4: keep-alives stay unanswered),
 -- half-open or established. It takes the turn of a RST at exactly the next number, which nobody sent: the connection is reset, and the client isn't told
@@ -246,7 +246,7 @@ pub record IsMaskedMoment {State : Type 0} (service : Machine State) (before : W
   pub past : AllByRecursion (SawFront service) after.past
   pub acknowledged : AllByRecursion (AcknowledgesLogged after.now.log after.now.clients) sent
   pub restart : RestartIsExact service after.now.log before.node after.now.node
-  pub told : AllAreTold after.now.packets after.now.node
+  pub reported : AllAreReported after.now.packets after.now.node
 
 -- .. and after every moment of a trace
 abbrev pub AreMasked : {State : Type 0} → Machine State → World → List LongMoment → Type 0

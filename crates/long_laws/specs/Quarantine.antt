@@ -72,13 +72,13 @@ abbrev pub quarantined_at : Key → List Quarantined → Option Quarantined
 quarantined_at key qs = find (λ q. key_eq q.named.key key) qs
 
 -- the quarantine of a connection goes on, or begins
-abbrev pub goes_on_or_begins : Input → Option Quarantined → Option Named → List Quarantined
-goes_on_or_begins input (Some q) named = aged input q ∷ []
-goes_on_or_begins input None (Some named) = begun named ∷ []
-goes_on_or_begins input None None = []
+abbrev pub proceeds_or_begins : Input → Option Quarantined → Option Named → List Quarantined
+proceeds_or_begins input (Some q) named = aged input q ∷ []
+proceeds_or_begins input None (Some named) = begun named ∷ []
+proceeds_or_begins input None None = []
 
 abbrev pub quarantine_of : Node → Input → List Quarantined → Place → List Quarantined
-quarantine_of node input qs (Ended key) = goes_on_or_begins input (quarantined_at key qs) (named_in node input node.stage key)
+quarantine_of node input qs (Ended key) = proceeds_or_begins input (quarantined_at key qs) (named_in node input node.stage key)
 quarantine_of node input qs (Lives p) = []
 quarantine_of node input qs (Opens numbers timestamping) = []
 
@@ -124,5 +124,5 @@ abbrev pub HasWaited : (wait boot : ℕ) → Input → ForgetMessage → Type 0
 HasWaited wait boot input message = (q : Quarantined) × (message ≡ forget boot q.named) × (wait ≤ q.age) × (input ≡ Tick_comes)
 
 -- it was in quarantine before the turn, and a tick has raised its age by one; or its quarantine begins, with the age 0
-abbrev pub GoesOnOrBegins : Input → List Quarantined → Quarantined → Type 0
-GoesOnOrBegins input qs r = ((key : Key) × (q : Quarantined) × (quarantined_at key qs ≡ Some q) × (r ≡ aged input q)) ⊎ (r.age ≡ 0)
+abbrev pub ProceedsOrBegins : Input → List Quarantined → Quarantined → Type 0
+ProceedsOrBegins input qs r = ((key : Key) × (q : Quarantined) × (quarantined_at key qs ≡ Some q) × (r ≡ aged input q)) ⊎ (r.age ≡ 0)

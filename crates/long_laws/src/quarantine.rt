@@ -17,7 +17,7 @@ ghost use Rattle.ft_model.specs.declared.event.Event.TheVariants.{Deliver};
 ghost use Rattle.long_laws.specs.Forgetting.{Named, ForgetMessage};
 ghost use Rattle.long_laws.specs.LongTrace.{MayForget};
 ghost use Rattle.long_laws.specs.LongTrace.LongStep.{Joint_event};
-ghost use Rattle.long_laws.specs.Quarantine.{Quarantined, is_leaving, quarantine_after, forgets, taken_away, HasWaited, GoesOnOrBegins};
+ghost use Rattle.long_laws.specs.Quarantine.{Quarantined, is_leaving, quarantine_after, forgets, taken_away, HasWaited, ProceedsOrBegins};
 ghost use Rattle.long_laws.specs.QuarantineWorld.{QuarantineWorld, QuarantineMoment, QuarantineJoint, MayQuarantine, AreLongSteps, AreMaskedMoments};
 ghost use Rattle.long_laws.specs.QuarantineWorld.{IsRecycling, after_moments, with_one, IsForgotten, AllAreHeld};
 ghost use Rattle.long_laws.specs.QuarantineWorld.QuarantineStep.{Usual};
@@ -75,7 +75,7 @@ pub fn quarantines_end<S: Service>()
 pub fn quarantines_last()
     ensures forgets { (wait boot : ℕ) (input : Input) (qs : List Quarantined) → AllByRecursion (HasWaited wait boot input) (forgets wait boot input qs) }
     ensures ages { (node : Node) (input : Input) (later : Stage) (qs : List Quarantined)
-        → AllByRecursion (GoesOnOrBegins input qs) (quarantine_after node input later qs) }
+        → AllByRecursion (ProceedsOrBegins input qs) (quarantine_after node input later qs) }
 {}
 
 /// A segment of a connection that is leaving is dropped: nothing is sent, and nothing changes. So no RST answers a new client's SYN.

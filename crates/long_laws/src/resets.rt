@@ -14,7 +14,7 @@ ghost use Rattle.ft_model.specs.Node.Place.{Opens};
 ghost use Rattle.ft_model.specs.Node.Stage.{Serving};
 ghost use Rattle.ft_model.specs.Refusal.{full_rst};
 ghost use Rattle.ft_model.specs.declared.event.Event.TheVariants.{Deliver};
-ghost use Rattle.long_laws.specs.LongResets.{hears_full, HasRoom, AreDiscreet};
+ghost use Rattle.long_laws.specs.LongResets.{receives_full, HasRoom, AreDiscreet};
 ghost use Rattle.ft_model.specs.Resets.{ResetsNoLogged};
 ghost use Rattle.std.specs.List.{AllByRecursion};
 ghost use Rattle.ft_model.specs.declared.phase.Phase.TheVariants.{Established, Reset};
@@ -29,7 +29,7 @@ use server_trait::Service;
 pub fn no_logged_connection_is_sent_a_reset<S: Service>()
     ensures { (kind : ℕ) (start : World) (moment : LongMoment) (earlier : List LongMoment)
         → LongJoint (machine (S.started kind) S.after S.greeting) start (moment ∷ earlier)
-        → hears_full (long_after start earlier).now moment.step ≡ false → AllByRecursion (ResetsNoLogged moment.world.now.log) moment.sent }
+        → receives_full (long_after start earlier).now moment.step ≡ false → AllByRecursion (ResetsNoLogged moment.world.now.log) moment.sent }
 {}
 
 /// While the log has room, the server never hears that it is full. So if the log had room after all earlier moments of a long trace, no RST is sent to a client

@@ -28,10 +28,10 @@ abbrev after_read : Read → List ℕ → List Reply
 after_read read rest = onto_replies read.due (replies_in read.next rest)
 
 -- a byte that doesn't end it
-goes_on : (phase : Phase) (accepted : ℕ) (held : List ℕ) (long returned : Bool) (byte : ℕ) (rest : List ℕ) → IsCommandPhase phase → (returned && byte == 10) ≡ false
+proceeds : (phase : Phase) (accepted : ℕ) (held : List ℕ) (long returned : Bool) (byte : ℕ) (rest : List ℕ) → IsCommandPhase phase → (returned && byte == 10) ≡ false
     → replies_in (state_of phase accepted held long returned) (byte ∷ rest) ≡ replies_in (longer (state_of phase accepted held long returned) byte) rest
 unfolding command_byte
-goes_on phase accepted held long returned byte rest is other =
+proceeds phase accepted held long returned byte rest is other =
     ap (λ read. after_read read rest) (in_line_phase phase (state_of phase accepted held long returned) byte is)
     ∙ ap (λ (b : Bool). after_read (if b then line_end (state_of phase accepted held long returned) else record { next = longer (state_of phase accepted held long returned) byte; due = None }) rest) other
 
@@ -80,14 +80,14 @@ pub short_line : (phase : Phase) (accepted : ℕ) (held line rest : List ℕ) (r
     → replies_in (state_of phase accepted held false returned) (line ++ 13 ∷ 10 ∷ rest)
     ≡ Fixed (step phase (command_of (held ++ line))).reply ∷ replies_in (at_line (step phase (command_of (held ++ line))).next accepted) rest
 short_line phase accepted held [] rest returned is none fits =
-    goes_on phase accepted held false returned 13 (10 ∷ rest) is (last_free returned)
+    proceeds phase accepted held false returned 13 (10 ∷ rest) is (last_free returned)
     ∙ ap (λ state. replies_in state (10 ∷ rest)) (holds_more phase accepted held false returned 13 (omega (arith, fits)))
     ∙ ends phase accepted (held ++ 13 ∷ []) false rest is
     ∙ ap (λ (l : List ℕ). Fixed (step phase (command_of l)).reply ∷ replies_in (at_line (step phase (command_of l)).next accepted) rest) (without_one held ∙ sym (append-nil held))
 short_line phase accepted held (byte ∷ line) rest returned is none fits =
     let both = parts returned byte line none in
     let size = length-append held (byte ∷ []) in
-    goes_on phase accepted held false returned byte (line ++ 13 ∷ 10 ∷ rest) is both.0
+    proceeds phase accepted held false returned byte (line ++ 13 ∷ 10 ∷ rest) is both.0
     ∙ ap (λ state. replies_in state (line ++ 13 ∷ 10 ∷ rest)) (holds_more phase accepted held false returned byte (omega (arith, fits)))
     ∙ short_line phase accepted (held ++ byte ∷ []) line rest (byte == 13) is both.1 (omega (arith, fits, size))
     ∙ ap (λ (l : List ℕ). Fixed (step phase (command_of l)).reply ∷ replies_in (at_line (step phase (command_of l)).next accepted) rest) (append_assoc held (byte ∷ []) line)
@@ -97,12 +97,12 @@ full_line : (phase : Phase) (accepted : ℕ) (held line rest : List ℕ) (long r
     → replies_in (state_of phase accepted held long returned) (line ++ 13 ∷ 10 ∷ rest) ≡ Fixed LongLine ∷ replies_in (at_line phase accepted) rest
 unfolding step
 full_line phase accepted held [] rest long returned is none full =
-    goes_on phase accepted held long returned 13 (10 ∷ rest) is (last_free returned)
+    proceeds phase accepted held long returned 13 (10 ∷ rest) is (last_free returned)
     ∙ ap (λ state. replies_in state (10 ∷ rest)) (is_full phase accepted held long returned 13 full)
     ∙ ends phase accepted held true rest is
 full_line phase accepted held (byte ∷ line) rest long returned is none full =
     let both = parts returned byte line none in
-    goes_on phase accepted held long returned byte (line ++ 13 ∷ 10 ∷ rest) is both.0
+    proceeds phase accepted held long returned byte (line ++ 13 ∷ 10 ∷ rest) is both.0
     ∙ ap (λ state. replies_in state (line ++ 13 ∷ 10 ∷ rest)) (is_full phase accepted held long returned byte full)
     ∙ full_line phase accepted held line rest true (byte == 13) is both.1 full
 
@@ -117,7 +117,7 @@ long_line phase accepted held (byte ∷ line) rest returned is none fits long =
     let both = parts returned byte line none in
     let size = length-append held (byte ∷ []) in
     by_room (length held) (nat_lt (length held) 511) refl fits
-    (λ below. goes_on phase accepted held false returned byte (line ++ 13 ∷ 10 ∷ rest) is both.0
+    (λ below. proceeds phase accepted held false returned byte (line ++ 13 ∷ 10 ∷ rest) is both.0
     ∙ ap (λ state. replies_in state (line ++ 13 ∷ 10 ∷ rest)) (holds_more phase accepted held false returned byte below)
     ∙ long_line phase accepted (held ++ byte ∷ []) line rest (byte == 13) is both.1 (omega (arith, below, size)) (omega (arith, long, size)))
     (λ full. full_line phase accepted held (byte ∷ line) rest false returned is none full)

@@ -19,8 +19,8 @@ use Rattle.ft_model.proofs.Resumed.{nothing_missing, restored_at}
 use Rattle.std.proofs.lemmas.Option.{slice_get_within}
 use Rattle.ft_model.proofs.Lists.{none_is_some, some_is, same_key, take_first, all_slice_get}
 use Rattle.ft_model.specs.FetchedFronts.{AreFetched}
-use Rattle.ft_model.proofs.Fetching.{AgreesWith, told_agrees, fetched_agrees, chosen_is}
-use Rattle.mark_laws.specs.MarkedLog.{MarkedLog, AnyMessage, no_mark, after_mark, answer_above, answer_to_mark, is_below, is_mark_answer, told_of_mark, about_mark}
+use Rattle.ft_model.proofs.Fetching.{AgreesWith, reported_agrees, fetched_agrees, chosen_is}
+use Rattle.mark_laws.specs.MarkedLog.{MarkedLog, AnyMessage, no_mark, after_mark, answer_above, answer_to_mark, is_below, is_mark_answer, reported_of_mark, about_mark}
 use Rattle.mark_laws.specs.MarkedLog.AnyMessage.{About_mark, Of_log}
 use Rattle.mark_laws.specs.Runs.{IsRunOf}
 use Rattle.mark_laws.specs.Front.{bytes_below, lengths_below}
@@ -43,7 +43,7 @@ body_agrees log message answer e =
     let Ends : Option Body → Type 0 = λ o. o ≡ Some answer → AgreesWith log.entries answer in
     holds_if Ends (is_answer message.body) None _ (λ t n. none_is_some answer n)
     (λ t. holds_if Ends (nat_lt message.boot log.boot) (Some (StaleMsg log.boot)) _ (λ s n. subst (AgreesWith log.entries) (some_is _ _ n) tt)
-    (λ s. holds_if Ends (is_hello message.body || message.boot == log.boot) (answer_from message.body log) None (λ r n. told_agrees message.body log answer n) (λ r n. none_is_some answer n))) e
+    (λ s. holds_if Ends (is_hello message.body || message.boot == log.boot) (answer_from message.body log) None (λ r n. reported_agrees message.body log answer n) (λ r n. none_is_some answer n))) e
 
 answer_agrees : (log : Log) (message answer : Message) → log_after log message ≡ log → answer_to log message ≡ Some answer → AgreesWith log.entries answer.body
 unfolding answer_to
@@ -67,16 +67,16 @@ abbrev held_key : MarkBody → Key → Key
 held_key (HeldMsg key m) other = key
 held_key _ other = other
 
-body_told : (l : MarkedLog) (body answer : MarkBody) → told_of_mark body l ≡ Some answer → (key : Key) (m : Mark) → answer ≡ HeldMsg key m → m ≡ l.marks key
-body_told l (MarkMsg k mark) answer e key m is =
+body_reported : (l : MarkedLog) (body answer : MarkBody) → reported_of_mark body l ≡ Some answer → (key : Key) (m : Mark) → answer ≡ HeldMsg key m → m ≡ l.marks key
+body_reported l (MarkMsg k mark) answer e key m is =
     let parts = mapped_some (λ x. MarkedMsg k (l.marks k).reads) (entry_of k l.log) answer e in none_is_some m (ap held_mark (parts.2 ∙ is))
-body_told l (AskMsg k) answer e key m is =
+body_reported l (AskMsg k) answer e key m is =
     let parts = mapped_some (λ x. HeldMsg k (l.marks k)) (entry_of k l.log) answer e in
     let mark : l.marks k ≡ m = some_is _ _ (ap held_mark (parts.2 ∙ is)) in
     let same : k ≡ key = ap (λ b. held_key b k) (parts.2 ∙ is) in
     sym mark ∙ ap l.marks same
-body_told l (MarkedMsg k reads) answer e key m is = none_is_some answer e
-body_told l (HeldMsg k mark) answer e key m is = none_is_some answer e
+body_reported l (MarkedMsg k reads) answer e key m is = none_is_some answer e
+body_reported l (HeldMsg k mark) answer e key m is = none_is_some answer e
 
 mark_agrees : (l : MarkedLog) (message : MarkMessage) (answer : AnyMessage) → after_mark l message ≡ l → answer_to_mark l message ≡ Some answer → Agrees l answer
 unfolding answer_to_mark
@@ -84,9 +84,9 @@ mark_agrees l message answer same =
     let Ends : Option AnyMessage → Type 0 = λ o. o ≡ Some answer → Agrees l answer in
     holds_if Ends (is_mark_answer message.body) None _ (λ t n. none_is_some answer n)
     (λ t. holds_if Ends (nat_lt message.boot l.log.boot) (Some (Of_log (record { boot = message.boot; body = StaleMsg l.log.boot }))) _ (λ s n. subst (Agrees l) (some_is _ _ n) tt)
-    (λ s. holds_if Ends (message.boot == l.log.boot) (option_map (about_mark message.boot) (told_of_mark message.body (after_mark l message))) None
-    (λ r n. let parts = mapped_some (about_mark message.boot) (told_of_mark message.body (after_mark l message)) answer n in
-    subst (Agrees l) parts.2 (λ key m is. body_told l message.body parts.0 (ap (told_of_mark message.body) (sym same) ∙ parts.1) key m is))
+    (λ s. holds_if Ends (message.boot == l.log.boot) (option_map (about_mark message.boot) (reported_of_mark message.body (after_mark l message))) None
+    (λ r n. let parts = mapped_some (about_mark message.boot) (reported_of_mark message.body (after_mark l message)) answer n in
+    subst (Agrees l) parts.2 (λ key m is. body_reported l message.body parts.0 (ap (reported_of_mark message.body) (sym same) ∙ parts.1) key m is))
     (λ r n. none_is_some answer n)))
 
 pub answers_agree : (l : MarkedLog) (asked answer : AnyMessage) → IsQuestion l asked → answer_of l asked ≡ Some answer → Agrees l answer

@@ -28,7 +28,7 @@ use Rattle.mark_laws.specs.Marking.{Marking, MarkedTurn, Outgoing, is_due, marki
 use Rattle.mark_laws.specs.Marking.Outgoing.{Plain, Mark_to_logger}
 use Rattle.mark_laws.specs.Quiet.{is_quiet, mark_of}
 use Rattle.mark_laws.specs.Restart.{FetchedSoFar, begun_on, fetched_on, log_question, mark_question, mark_reported, next_question, or_else}
-use Rattle.mark_laws.specs.MarkedNode.{Marker, MarkedNode, MarkedInput, Continues, FetchesMarked, HearsOfMark, InputTurn, MarkTurn, PlainTurn, RestsMarked, ServesMarked, UnlessFenced, is_tick_input, live_at, marking_fetched, marking_then, marks_at, marks_in, outgoing, so_far, with_marking, with_stage}
+use Rattle.mark_laws.specs.MarkedNode.{Marker, MarkedNode, MarkedInput, Continues, FetchesMarked, ReceivesOfMark, InputTurn, MarkTurn, PlainTurn, RestsMarked, ServesMarked, UnlessFenced, is_tick_input, live_at, marking_fetched, marking_then, marks_at, marks_in, outgoing, so_far, with_marking, with_stage}
 use Rattle.mark_laws.specs.MarkedNode.MarkedInput.{Plain_comes, Mark_comes}
 use Rattle.mark_laws.proofs.Truth.{gone_all, plain_all}
 
@@ -223,19 +223,19 @@ answered_turn by node reads (Some (Opens n timestamping)) out later a t = rests 
 answered_turn by node reads (Some (Ended key)) out later a t = rests by node.plain.boot node out later a t
 answered_turn by node reads None out later a t = rests by node.plain.boot node out later a t
 
-hears_turn : {State : Type 0} (by : Marker State) (node : MarkedNode) (places : List Place) (body : MarkBody) (b : Bool) (out : List Outgoing) (later : MarkedNode) → ((key : Key) → AllCount by.every (node.marking key))
-    → MatchBool b (HearsOfMark by node places body out later) (RestsMarked node out later) → TurnCounts by node.plain.boot out later
-hears_turn by node places (MarkedMsg key reads) true out later a t = answered_turn by node reads (place_at key places) out later a t
-hears_turn by node places (MarkMsg key m) true out later a t = rests by node.plain.boot node out later a t
-hears_turn by node places (AskMsg key) true out later a t = rests by node.plain.boot node out later a t
-hears_turn by node places (HeldMsg key m) true out later a t = rests by node.plain.boot node out later a t
-hears_turn by node places body false out later a t = rests by node.plain.boot node out later a t
+receives_turn : {State : Type 0} (by : Marker State) (node : MarkedNode) (places : List Place) (body : MarkBody) (b : Bool) (out : List Outgoing) (later : MarkedNode) → ((key : Key) → AllCount by.every (node.marking key))
+    → MatchBool b (ReceivesOfMark by node places body out later) (RestsMarked node out later) → TurnCounts by node.plain.boot out later
+receives_turn by node places (MarkedMsg key reads) true out later a t = answered_turn by node reads (place_at key places) out later a t
+receives_turn by node places (MarkMsg key m) true out later a t = rests by node.plain.boot node out later a t
+receives_turn by node places (AskMsg key) true out later a t = rests by node.plain.boot node out later a t
+receives_turn by node places (HeldMsg key m) true out later a t = rests by node.plain.boot node out later a t
+receives_turn by node places body false out later a t = rests by node.plain.boot node out later a t
 
 mark_turn : {State : Type 0} (by : Marker State) (node : MarkedNode) (bytes lengths : List ℕ) (stage : Stage) (message : MarkMessage) (out : List Outgoing) (later : MarkedNode) → ((key : Key) → AllCount by.every (node.marking key))
     → MarkTurn by bytes lengths node stage message out later → TurnCounts by node.plain.boot out later
 mark_turn by node bytes lengths (Fetching count fetched) message out later a t =
     reported_turn by node count fetched message.body bytes lengths (mark_reported by.writing node.plain.boot message (so_far node fetched)) out later a t
-mark_turn by node bytes lengths (Serving opened places) message out later a t = hears_turn by node places message.body (message.boot == node.plain.boot) out later a t
+mark_turn by node bytes lengths (Serving opened places) message out later a t = receives_turn by node places message.body (message.boot == node.plain.boot) out later a t
 mark_turn by node bytes lengths Asking message out later a t = rests by node.plain.boot node out later a t
 mark_turn by node bytes lengths (Fenced newer) message out later a t = rests by node.plain.boot node out later a t
 

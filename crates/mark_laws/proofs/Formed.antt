@@ -26,16 +26,16 @@ use Rattle.ft_model.proofs.Faithful.{EntriesFit, PlaceFits}
 use Rattle.ft_model.proofs.FaithfulOver.{script_of, isn_of, points_fit, restored_all}
 use Rattle.ft_model.specs.FetchedFronts.{AreFetched}
 use Rattle.ft_model.proofs.Formed.{HasClient, IsBoot, PacketFormed, StartFormed, EntryFormed, PlaceFormed, StageFormed, NodeFormed, WorldFormed}
-use Rattle.ft_model.proofs.FormedLog.{EntryTells, AckedWithin, entries_tell}
+use Rattle.ft_model.proofs.FormedLog.{EntryReports, AckedWithin, entries_report}
 use Rattle.ft_model.proofs.FormedOver.{Knows, turn_formed, no_places, point_formed, revived_formed, wanted_formed}
 use Rattle.ft_model.proofs.FormedTurns.{PlaceSound}
 use Rattle.ft_model.proofs.FormedWorld.{moment_formed}
 use Rattle.ft_model.proofs.Happened.{answers, happened}
 use Rattle.ft_model.proofs.Lists.{all_append, all_both, all_weaker}
-use Rattle.ft_model.proofs.PlaceTurns.{all_go_on}
+use Rattle.ft_model.proofs.PlaceTurns.{all_proceed}
 use Rattle.ft_model.proofs.Resumed.{nothing_missing}
 use Rattle.ft_model.proofs.StageTurns.{stage_went}
-use Rattle.mark_laws.specs.MarkedLog.{MarkedLog, AnyMessage, acknowledging, after_mark, answer_above, answer_to_mark, about_mark, is_below, is_mark_answer, keeps, told_of_mark, with_mark, with_mark_body}
+use Rattle.mark_laws.specs.MarkedLog.{MarkedLog, AnyMessage, acknowledging, after_mark, answer_above, answer_to_mark, about_mark, is_below, is_mark_answer, keeps, reported_of_mark, with_mark, with_mark_body}
 use Rattle.mark_laws.specs.MarkedLog.AnyMessage.{Of_log}
 use Rattle.mark_laws.specs.MarkedNode.{MarkedNode}
 use Rattle.mark_laws.specs.MarkedWorld.{Parcel, MarkedWorld, answered_as, seen, usual}
@@ -66,14 +66,14 @@ with_stage_formed : (start : World) (node later : Node) (stage : Stage) → Node
 with_stage_formed start node later stage n s e = subst (NodeFormed start) (sym e) (record { server = n.server; profile = n.profile; boot = n.boot; stage = s })
 
 module _ {State : Type 0} (service : Machine State) (start u : World) (node : Node) (writes : WritesBytes service) (s : StartFormed start) (k : Knows start u) (up : u.node ≡ Some node) where
-  tells : AllByRecursion (EntryTells start) u.log.entries
-  tells = entries_tell start s u.log.entries k.formed.entries k.truth.1.entries k.acked
+  reports : AllByRecursion (EntryReports start) u.log.entries
+  reports = entries_report start s u.log.entries k.formed.entries k.truth.1.entries k.acked
 
   continued : (count : ℕ) (now : List Fetched) (stage : Stage) (sent : List Packet) (later : Node) (w : Option Wanted) → count ≡ length u.log.entries → AreFetched u.log.entries now → wanted count now ≡ w
       → PlainContinues service node count now w stage sent → later ≡ record node { stage = stage } → TurnFormed start later sent
   continued count now stage sent later (Some w) whole are e t same =
       let n : NodeFormed start node = k.formed.node node up in
-      let formed : WantedFormed start w = wanted_formed start u.log.entries count now w (subst (λ m. m ≤ 64) (sym whole) k.formed.few) tells are e in (
+      let formed : WantedFormed start w = wanted_formed start u.log.entries count now w (subst (λ m. m ≤ 64) (sym whole) k.formed.few) reports are e in (
         with_stage_formed start node later stage n (subst (StageFormed start) (sym t.0) tt) same,
         subst (AllByRecursion (PacketFormed start)) (sym t.1) (asked_formed start node w n.boot formed),
       )
@@ -83,7 +83,7 @@ module _ {State : Type 0} (service : Machine State) (start u : World) (node : No
       let points : AllByRecursion (λ x. PlaceSound start u.log (Lives (point_of service node.profile x))) u.log.entries =
       all_both (λ x. PlaceFits (script_of start) (isn_of start) u.log (Lives (point_of service node.profile x))) (EntryFormed start) _ u.log.entries (λ x f h. (f, point_formed service node.profile start x n.profile h))
       (points_fit service node.profile (script_of start) (isn_of start) u.log s.short k.truth.0.1.distinct k.truth.1.entries) k.formed.entries in
-      let went = all_go_on (Revives service node) (PlaceSound start u.log) (PlaceSound start u.log) (PacketFormed start)
+      let went = all_proceed (Revives service node) (PlaceSound start u.log) (PlaceSound start u.log) (PacketFormed start)
       (revived_formed service start u.log node writes s k.truth.1.entries n.server n.boot) (all_restored service node.profile now) t.0 sent
       (restored_all (PlaceSound start u.log) service node.profile u.log.entries now points (λ key. (tt, tt)) are all.0) t.2 in (
         with_stage_formed start node later stage n (subst (StageFormed start) (sym t.1) (all_weaker (PlaceSound start u.log) (PlaceFormed start) t.0 (λ p h. h.1) went.0)) same,
@@ -157,15 +157,15 @@ none_usual : (start : World) (boot : ℕ) (o : Option MarkBody) → AnswersForme
 none_usual start boot (Some body) = tt
 none_usual start boot None = tt
 
-pub told_formed : (start : World) (l : MarkedLog) (message : MarkMessage) → IsBoot message.boot → l.log.boot < 2 ^ 64 → AnswersFormed start (map answered_as (option_to_list (answer_to_mark l message)))
+pub reported_formed : (start : World) (l : MarkedLog) (message : MarkMessage) → IsBoot message.boot → l.log.boot < 2 ^ 64 → AnswersFormed start (map answered_as (option_to_list (answer_to_mark l message)))
 unfolding answer_to_mark
-told_formed start l message boot below =
+reported_formed start l message boot below =
     let Are : Option AnyMessage → Type 0 = λ o. AnswersFormed start (map answered_as (option_to_list o)) in
     holds_if Are (is_mark_answer message.body) None _ (λ t. tt)
     (λ t. holds_if Are (nat_lt message.boot l.log.boot) (Some (Of_log (record { boot = message.boot; body = StaleMsg l.log.boot }))) _
     (λ older. (((boot, (ltb-true message.boot l.log.boot older, below)), tt), tt))
-    (λ newer. holds_either_way Are (message.boot == l.log.boot) (option_map (about_mark message.boot) (told_of_mark message.body (after_mark l message))) None
-    (none_usual start message.boot (told_of_mark message.body (after_mark l message))) tt))
+    (λ newer. holds_either_way Are (message.boot == l.log.boot) (option_map (about_mark message.boot) (reported_of_mark message.body (after_mark l message))) None
+    (none_usual start message.boot (reported_of_mark message.body (after_mark l message))) tt))
 
 pub next_formed_world : (start : World) (w : MarkedWorld) (log : MarkedLog) (boot : ℕ) (node : Option MarkedNode) (new : List Parcel) → WorldFormed start (seen w) → LogFormed start log.log
     → AnswersFormed start new → ((n : MarkedNode) → node ≡ Some n → NodeFormed start n.plain) → WorldFormed start (seen (record w { log = log; boot = boot; node = node; parcels = w.parcels ++ new }))

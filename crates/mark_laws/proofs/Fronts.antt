@@ -43,11 +43,11 @@ use Rattle.mark_laws.specs.Runs.{IsRunOf}
 use Rattle.mark_laws.specs.MarkedNode.{Marker, MarkedNode, RestsMarked, so_far, Continues, FetchesMarked, marking_fetched}
 use Rattle.mark_laws.proofs.Packets.{Sound, MayStand, with_packets, fewer, more}
 use Rattle.mark_laws.proofs.Steps.{Stepped, went, last_under_way}
-use Rattle.mark_laws.proofs.Turns.{At, TurnSteps, GoesOn, turned, plain_turn, rests, lawful_at, fits_stage, goes_on, new_fetched, AwaitsNewest, wants_lengths}
+use Rattle.mark_laws.proofs.Turns.{At, TurnSteps, Proceeds, turned, plain_turn, rests, lawful_at, fits_stage, proceeds, new_fetched, AwaitsNewest, wants_lengths}
 
 -- what is below a mark that is told: nothing, or the beginning of its entry, of which it is true
-abbrev pub IsToldFront : {State : Type 0} → Machine State → Writing State → Log → Key → Mark → (bytes lengths : List ℕ) → Type 0
-IsToldFront service writing log key m bytes lengths =
+abbrev pub IsReportedFront : {State : Type 0} → Machine State → Writing State → Log → Key → Mark → (bytes lengths : List ℕ) → Type 0
+IsReportedFront service writing log key m bytes lengths =
     ((bytes ≡ []) × (lengths ≡ [])) ⊎ ((e : Entry) × (entry_of key log ≡ Some e) × (bytes ≡ bytes_below m e) × (lengths ≡ lengths_below m e) × IsRunOf service writing e m)
 
 -- reads of no closing read within the bytes follow one another
@@ -83,9 +83,9 @@ follow size fin before (n ∷ later) b m h =
     both a b p q = grind (arith, p, q)
 
 -- what agrees with the log may be told to its own incarnation
-told_stands : {State : Type 0} (service : Machine State) (start u : World) (message : Message) (author : Key → List ℕ) → Sound service start u → message.boot ≡ u.log.boot → AgreesWith u.log.entries message.body
+reported_stands : {State : Type 0} (service : Machine State) (start u : World) (message : Message) (author : Key → List ℕ) → Sound service start u → message.boot ≡ u.log.boot → AgreesWith u.log.entries message.body
     → AnswerFits u.log message.body → NamesAtMost u.boot message.body → BodySays u.log message.body → MayStand service start u author (From_logger message)
-told_stands service start u message author s own agrees fits names says =
+reported_stands service start u message author s own agrees fits names says =
     let low = s.joint.fenced.log in
     record {
       boot = (omega (arith, own, low), λ c. le_of_eq own);
@@ -178,7 +178,7 @@ empty_front : {State : Type 0} (by : Marker State) (start u : World) (node : Mar
 empty_front by start u node count head earlier marking out later at is may t =
     let now : List Fetched = new_fetched head ∷ earlier in
     let sent : List Packet = without_marks out in
-    let g : GoesOn by.service node.plain count now out later = goes_on by node count now marking out later (wanted count now) refl t in
+    let g : Proceeds by.service node.plain count now out later = proceeds by node count now marking out later (wanted count now) refl t in
     let asks : (g.stage ≡ Fetching count now) × (sent ≡ asked node.plain (Some (Its_lengths head.key 0))) =
     subst (λ w. PlainContinues by.service node.plain count now w g.stage sent) (wants_lengths count head earlier may) g.fetches in
     record {
@@ -211,14 +211,14 @@ whole_front by start u node count head earlier e bytes lengths marking out later
     (subst (λ w. PlainContinues service node.plain count middle w (Fetching count middle) asks) (sym (wants_bytes count head earlier lengths may some)) (refl, refl))) in
     let u1 : World = with_packets u (u.packets ++ From_logger first ∷ []) in
     let s1 : Sound service start u1 =
-    more service start u (From_logger first) at.sound (told_stands service start u first at.sound.joint.author.author at.sound (sym own) (e, found, of_lengths) tt tt tt) in
+    more service start u (From_logger first) at.sound (reported_stands service start u first at.sound.joint.author.author at.sound (sym own) (e, found, of_lengths) tt tt tt) in
     let step_one : Stepped service start u1 asks (turned u1 half asks) =
     went service at.small start u1 asks (turned u1 half asks) at.starts s1 (server_turned (Message_comes first) node.plain half (last_under_way u (From_logger first)) at.up turn_one refl) in
     let w1 : World = turned u1 half asks in
     let u2 : World = with_packets w1 (w1.packets ++ From_logger second ∷ []) in
     let s2 : Sound service start u2 =
-    more service start w1 (From_logger second) step_one.sound (told_stands service start w1 second step_one.sound.joint.author.author step_one.sound (sym own) (e, found, of_bytes) tt tt tt) in
-    let g : GoesOn service node.plain count now out later = goes_on by node count now marking out later (wanted count now) refl t in
+    more service start w1 (From_logger second) step_one.sound (reported_stands service start w1 second step_one.sound.joint.author.author step_one.sound (sym own) (e, found, of_bytes) tt tt tt) in
+    let g : Proceeds service node.plain count now out later = proceeds by node count now marking out later (wanted count now) refl t in
     let next : Node = record node.plain { stage = g.stage } in
     let turn_two : LawfulTurn service half (Message_comes second) sent next =
     lawful_at service half (Message_comes second) sent (Fetching count middle) g.stage refl (if_none (node.plain.boot == node.plain.boot) None refl) refl
@@ -268,9 +268,9 @@ by_lengths by start u node count head earlier e m bytes (n ∷ lengths) marking 
 
 by_newest : {State : Type 0} (by : Marker State) (start u : World) (node : MarkedNode) (count : ℕ) (fetched : List Fetched) (body : MarkBody) (m : Mark) (bytes lengths : List ℕ) (marking : Key → Marking)
     (out : List Outgoing) (later : MarkedNode) → At by start u node → node.plain.stage ≡ Fetching count fetched → AwaitsNewest (Fetching count fetched)
-    → ((key : Key) (held : Mark) → body ≡ HeldMsg key held → IsToldFront by.service by.writing u.log key held bytes lengths)
+    → ((key : Key) (held : Mark) → body ≡ HeldMsg key held → IsReportedFront by.service by.writing u.log key held bytes lengths)
     → mark_of_newest by.writing body fetched ≡ Some m → FetchesMarked by node count (begun_on bytes lengths (so_far node fetched)) marking out later → TurnSteps by start u out later
-by_newest by start u node count (f ∷ earlier) (HeldMsg key held) m bytes lengths marking out later at is awaits told got t =
+by_newest by start u node count (f ∷ earlier) (HeldMsg key held) m bytes lengths marking out later at is awaits reported got t =
     let parts = some_if (key_eq key f.head.key && mark_fits by.writing f.head held) (Some held) m got in
     let same : key ≡ f.head.key = same_key key f.head.key (and_parts (key_eq key f.head.key) (mark_fits by.writing f.head held) parts.0).0 in
     let own : u.log.boot ≡ node.plain.boot = subst (IsLogged u.log.boot node.plain) is (at.sound.joint.fenced.node node.plain at.up).logged in
@@ -288,29 +288,29 @@ by_newest by start u node count (f ∷ earlier) (HeldMsg key held) m bytes lengt
     (λ front. let one : front.0 ≡ e = some_is front.0 e (sym front.1 ∙ (ap (λ k. entry_of k u.log) same ∙ found)) in
     by_lengths by start u node count f.head earlier e held bytes lengths marking out later at now_is awaits.1 own found head_is
     (front.2 ∙ ap (bytes_below held) one) (front.3 ∙ ap (lengths_below held) one) (subst (λ x. IsRunOf by.service by.writing x held) one front.4) t)
-    (told key held refl)
-by_newest by start u node count [] (HeldMsg key held) m bytes lengths marking out later at is awaits told got t = absurd awaits
-by_newest by start u node count fetched (MarkMsg key held) m bytes lengths marking out later at is awaits told got t = none_is_some m got
-by_newest by start u node count fetched (MarkedMsg key reads) m bytes lengths marking out later at is awaits told got t = none_is_some m got
-by_newest by start u node count fetched (AskMsg key) m bytes lengths marking out later at is awaits told got t = none_is_some m got
+    (reported key held refl)
+by_newest by start u node count [] (HeldMsg key held) m bytes lengths marking out later at is awaits reported got t = absurd awaits
+by_newest by start u node count fetched (MarkMsg key held) m bytes lengths marking out later at is awaits reported got t = none_is_some m got
+by_newest by start u node count fetched (MarkedMsg key reads) m bytes lengths marking out later at is awaits reported got t = none_is_some m got
+by_newest by start u node count fetched (AskMsg key) m bytes lengths marking out later at is awaits reported got t = none_is_some m got
 
 by_report : {State : Type 0} (by : Marker State) (start u : World) (node : MarkedNode) (count : ℕ) (fetched : List Fetched) (message : MarkMessage) (o : Option Mark) (bytes lengths : List ℕ)
     (out : List Outgoing) (later : MarkedNode) → At by start u node → node.plain.stage ≡ Fetching count fetched
-    → ((key : Key) (held : Mark) → message.body ≡ HeldMsg key held → IsToldFront by.service by.writing u.log key held bytes lengths)
+    → ((key : Key) (held : Mark) → message.body ≡ HeldMsg key held → IsReportedFront by.service by.writing u.log key held bytes lengths)
     → mark_reported by.writing node.plain.boot message (so_far node fetched) ≡ o
     → MatchOption o (RestsMarked node out later) (λ m. FetchesMarked by node count (begun_on bytes lengths (so_far node fetched)) (marking_fetched message.body node.marking) out later)
     → TurnSteps by start u out later
-by_report by start u node count fetched message None bytes lengths out later at is told e t = rests by start u node out later at t
-by_report by start u node count fetched message (Some m) bytes lengths out later at is told e t =
+by_report by start u node count fetched message None bytes lengths out later at is reported e t = rests by start u node out later at t
+by_report by start u node count fetched message (Some m) bytes lengths out later at is reported e t =
     let parts = some_if (message.boot == node.plain.boot && node.awaits_mark) (mark_of_newest by.writing message.body fetched) m e in
     let awaits : node.awaits_mark ≡ true = (and_parts (message.boot == node.plain.boot) node.awaits_mark parts.0).1 in
-    by_newest by start u node count fetched message.body m bytes lengths (marking_fetched message.body node.marking) out later at is (subst AwaitsNewest is (at.awaiting awaits)) told parts.1 t
+    by_newest by start u node count fetched message.body m bytes lengths (marking_fetched message.body node.marking) out later at is (subst AwaitsNewest is (at.awaiting awaits)) reported parts.1 t
 
 pub mark_fetched : {State : Type 0} (by : Marker State) (start u : World) (node : MarkedNode) (count : ℕ) (fetched : List Fetched) (message : MarkMessage) (bytes lengths : List ℕ)
     (out : List Outgoing) (later : MarkedNode) → At by start u node → node.plain.stage ≡ Fetching count fetched
-    → ((key : Key) (held : Mark) → message.body ≡ HeldMsg key held → IsToldFront by.service by.writing u.log key held bytes lengths)
+    → ((key : Key) (held : Mark) → message.body ≡ HeldMsg key held → IsReportedFront by.service by.writing u.log key held bytes lengths)
     → MatchOption (mark_reported by.writing node.plain.boot message (so_far node fetched)) (RestsMarked node out later)
     (λ m. FetchesMarked by node count (begun_on bytes lengths (so_far node fetched)) (marking_fetched message.body node.marking) out later)
     → TurnSteps by start u out later
-mark_fetched by start u node count fetched message bytes lengths out later at is told t =
-    by_report by start u node count fetched message (mark_reported by.writing node.plain.boot message (so_far node fetched)) bytes lengths out later at is told refl t
+mark_fetched by start u node count fetched message bytes lengths out later at is reported t =
+    by_report by start u node count fetched message (mark_reported by.writing node.plain.boot message (so_far node fetched)) bytes lengths out later at is reported refl t

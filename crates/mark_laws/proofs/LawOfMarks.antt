@@ -9,7 +9,7 @@ use Rattle.seq_arith.specs.Message.{Body}
 use Rattle.seq_arith.specs.Message.Body.{DoneMsg}
 use Rattle.seq_arith.specs.Packet.{Segment}
 use Rattle.server_trait.specs.Service.{Machine}
-use Rattle.ft_model.specs.Connection.{ConnectionTurn, sent_by, told_by}
+use Rattle.ft_model.specs.Connection.{ConnectionTurn, sent_by, reported_by}
 use Rattle.ft_model.specs.Copy.{copies}
 use Rattle.ft_model.specs.Network.{Packet}
 use Rattle.ft_model.specs.Network.Packet.{To_client}
@@ -17,8 +17,8 @@ use Rattle.ft_model.specs.News.{News}
 use Rattle.ft_model.specs.Node.{Place}
 use Rattle.ft_model.specs.Node.Place.{Lives}
 use Rattle.ft_model.specs.Point.{Point}
-use Rattle.ft_model.specs.Reads.{read_messages, reads_told, first_told}
-use Rattle.ft_model.specs.ResetAndEnd.{dones, tells_done}
+use Rattle.ft_model.specs.Reads.{read_messages, reads_reported, first_reported}
+use Rattle.ft_model.specs.ResetAndEnd.{dones, reports_done}
 use Rattle.ft_model.specs.Segments.{segments_of}
 use Rattle.ft_model.specs.ServingTurn.{LivesOn}
 use Rattle.ft_model.specs.Timer.{is_tick}
@@ -36,40 +36,40 @@ segments_none : (segments : List Segment) → filter is_done (map To_client segm
 segments_none [] = refl
 segments_none (segment ∷ segments) = segments_none segments
 
-bodies_none : (boot : ℕ) (bodies : List Body) → AllByRecursion (λ b. says_done b ≡ false) bodies → filter is_done (map (told_by boot) bodies) ≡ []
+bodies_none : (boot : ℕ) (bodies : List Body) → AllByRecursion (λ b. says_done b ≡ false) bodies → filter is_done (map (reported_by boot) bodies) ≡ []
 bodies_none boot [] a = refl
 bodies_none boot (body ∷ bodies) a =
-    if_false (says_done body) (told_by boot body ∷ filter is_done (map (told_by boot) bodies)) (filter is_done (map (told_by boot) bodies)) a.0 ∙ bodies_none boot bodies a.1
+    if_false (says_done body) (reported_by boot body ∷ filter is_done (map (reported_by boot) bodies)) (filter is_done (map (reported_by boot) bodies)) a.0 ∙ bodies_none boot bodies a.1
 
 reads_none : (key : Key) (index : ℕ) (lengths : List ℕ) → AllByRecursion (λ b. says_done b ≡ false) (read_messages key index lengths)
 reads_none key index [] = tt
 reads_none key index (n ∷ lengths) = (refl, reads_none key (index + 1) lengths)
 
-told_none : (news : News) (p q : Point) → AllByRecursion (λ b. says_done b ≡ false) (reads_told news p q)
-unfolding reads_told
-told_none news p q = reads_none q.key (first_told news p q) (drop (first_told news p q) q.lengths)
+reported_none : (news : News) (p q : Point) → AllByRecursion (λ b. says_done b ≡ false) (reads_reported news p q)
+unfolding reads_reported
+reported_none news p q = reads_none q.key (first_reported news p q) (drop (first_reported news p q) q.lengths)
 
-dones_all : (boot : ℕ) (news : News) (p q : Point) → length (filter is_done (map (told_by boot) (dones news p q))) ≡ length (dones news p q)
+dones_all : (boot : ℕ) (news : News) (p q : Point) → length (filter is_done (map (reported_by boot) (dones news p q))) ≡ length (dones news p q)
 unfolding dones
 dones_all boot news p q =
-    holds_if (λ (bodies : List Body). length (filter is_done (map (told_by boot) bodies)) ≡ length bodies) (tells_done news p q) (DoneMsg q.key ∷ []) [] (λ t. refl) (λ t. refl)
+    holds_if (λ (bodies : List Body). length (filter is_done (map (reported_by boot) bodies)) ≡ length bodies) (reports_done news p q) (DoneMsg q.key ∷ []) [] (λ t. refl) (λ t. refl)
 
-map_append : (boot : ℕ) (xs ys : List Body) → map (told_by boot) (xs ++ ys) ≡ map (told_by boot) xs ++ map (told_by boot) ys
+map_append : (boot : ℕ) (xs ys : List Body) → map (reported_by boot) (xs ++ ys) ≡ map (reported_by boot) xs ++ map (reported_by boot) ys
 map_append boot [] ys = refl
-map_append boot (x ∷ xs) ys = ap (λ l. told_by boot x ∷ l) (map_append boot xs ys)
+map_append boot (x ∷ xs) ys = ap (λ l. reported_by boot x ∷ l) (map_append boot xs ys)
 
 behind_none : (xs ys : List Packet) → filter is_done xs ≡ [] → length (filter is_done (xs ++ ys)) ≡ length (filter is_done ys)
 behind_none xs ys none = ap length (filter-append is_done xs ys ∙ ap (λ l. l ++ filter is_done ys) none)
 
 live_dones : {State : Type 0} (service : Machine State) (server : Addr) (boot : ℕ) (news : News) (p q : Point) → length (filter is_done (sent_by service server boot news p q)) ≡ length (dones news p q)
 live_dones service server boot news p q =
-    let told : List Packet = map (told_by boot) (copies news p q ++ (reads_told news p q ++ dones news p q)) in
-    let parts : told ≡ map (told_by boot) (copies news p q) ++ (map (told_by boot) (reads_told news p q) ++ map (told_by boot) (dones news p q)) =
-    map_append boot (copies news p q) (reads_told news p q ++ dones news p q) ∙ ap (λ l. map (told_by boot) (copies news p q) ++ l) (map_append boot (reads_told news p q) (dones news p q)) in
-    behind_none (map To_client (segments_of service server news p q)) told (segments_none (segments_of service server news p q))
+    let reported : List Packet = map (reported_by boot) (copies news p q ++ (reads_reported news p q ++ dones news p q)) in
+    let parts : reported ≡ map (reported_by boot) (copies news p q) ++ (map (reported_by boot) (reads_reported news p q) ++ map (reported_by boot) (dones news p q)) =
+    map_append boot (copies news p q) (reads_reported news p q ++ dones news p q) ∙ ap (λ l. map (reported_by boot) (copies news p q) ++ l) (map_append boot (reads_reported news p q) (dones news p q)) in
+    behind_none (map To_client (segments_of service server news p q)) reported (segments_none (segments_of service server news p q))
     ∙ (ap (λ l. length (filter is_done l)) parts
-    ∙ (behind_none (map (told_by boot) (copies news p q)) _ (bodies_none boot (copies news p q) (all_copies (λ b. says_done b ≡ false) news p q (λ part c. refl)))
-    ∙ (behind_none (map (told_by boot) (reads_told news p q)) (map (told_by boot) (dones news p q)) (bodies_none boot (reads_told news p q) (told_none news p q)) ∙ dones_all boot news p q)))
+    ∙ (behind_none (map (reported_by boot) (copies news p q)) _ (bodies_none boot (copies news p q) (all_copies (λ b. says_done b ≡ false) news p q (λ part c. refl)))
+    ∙ (behind_none (map (reported_by boot) (reads_reported news p q)) (map (reported_by boot) (dones news p q)) (bodies_none boot (reads_reported news p q) (reported_none news p q)) ∙ dones_all boot news p q)))
 
 turn_dones : {State : Type 0} (service : Machine State) (server : Addr) (boot : ℕ) (news : News) (p q : Point) (packets : List Packet) → ConnectionTurn service server boot news p q packets
     → length (filter is_done packets) ≡ length (dones news p q)

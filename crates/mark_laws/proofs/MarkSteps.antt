@@ -26,12 +26,12 @@ use Rattle.mark_laws.specs.MarkedLog.{MarkedLog, no_mark}
 use Rattle.mark_laws.specs.Marking.{Marking, Outgoing, new_marks, marking_answered, without_marks, MarkedTurn}
 use Rattle.mark_laws.specs.Marking.Outgoing.{Plain, Mark_to_logger}
 use Rattle.mark_laws.proofs.MarksSent.{without_out}
-use Rattle.mark_laws.specs.MarkedNode.{Marker, MarkedNode, MarkedInput, RestsMarked, PlainTurn, UnlessFenced, MarkTurn, HearsOfMark, InputTurn, LawfulMarkedTurn, live_at, with_marking}
+use Rattle.mark_laws.specs.MarkedNode.{Marker, MarkedNode, MarkedInput, RestsMarked, PlainTurn, UnlessFenced, MarkTurn, ReceivesOfMark, InputTurn, LawfulMarkedTurn, live_at, with_marking}
 use Rattle.mark_laws.specs.MarkedNode.MarkedInput.{Plain_comes, Mark_comes}
-use Rattle.mark_laws.specs.MarkedWorld.{Parcel, MarkedWorld, usual, seen, parcel_at, parcel_of, Elsewhere, bytes_held, lengths_held, bytes_told, lengths_told, ServerMoves, ServerTurn}
+use Rattle.mark_laws.specs.MarkedWorld.{Parcel, MarkedWorld, usual, seen, parcel_at, parcel_of, Elsewhere, bytes_held, lengths_held, bytes_reported, lengths_reported, ServerMoves, ServerTurn}
 use Rattle.mark_laws.specs.MarkedWorld.Parcel.{Usual, Mark_sent, Mark_answered}
-use Rattle.mark_laws.specs.TrueMarks.{IsTrueMark, IsTrueOrNone, TellsTrueMark, HasTrueMark, MarksAreTrue}
-use Rattle.mark_laws.proofs.Fronts.{IsToldFront, mark_fetched}
+use Rattle.mark_laws.specs.TrueMarks.{IsTrueMark, IsTrueOrNone, ReportsTrueMark, HasTrueMark, MarksAreTrue}
+use Rattle.mark_laws.proofs.Fronts.{IsReportedFront, mark_fetched}
 use Rattle.mark_laws.proofs.Packets.{Sound}
 use Rattle.mark_laws.proofs.Steps.{Stepped, went, nothing_went}
 use Rattle.mark_laws.proofs.Strip.{usual_append, usual_of, usual_out}
@@ -124,26 +124,26 @@ not_sent_quiet boot (Mark_answered message) n = tt
 pub or_none_later : {State : Type 0} (by : Marker State) (before after : Log) (key : Key) (m : Mark) → MarkLaws by → LogGrows before after → IsTrueOrNone by before key m → IsTrueOrNone by after key m
 or_none_later by before after key m laws g t = ⊎_elim (λ n. inl n) (λ x. inr (true_later by before after key m laws g x)) t
 
-tells_later : {State : Type 0} (by : Marker State) (before after : Log) (body : MarkBody) → MarkLaws by → LogGrows before after → TellsTrueMark by before body → TellsTrueMark by after body
-tells_later by before after (MarkMsg key m) laws g t = true_later by before after key m laws g t
-tells_later by before after (HeldMsg key m) laws g t = or_none_later by before after key m laws g t
-tells_later by before after (MarkedMsg key reads) laws g t = tt
-tells_later by before after (AskMsg key) laws g t = tt
+reports_later : {State : Type 0} (by : Marker State) (before after : Log) (body : MarkBody) → MarkLaws by → LogGrows before after → ReportsTrueMark by before body → ReportsTrueMark by after body
+reports_later by before after (MarkMsg key m) laws g t = true_later by before after key m laws g t
+reports_later by before after (HeldMsg key m) laws g t = or_none_later by before after key m laws g t
+reports_later by before after (MarkedMsg key reads) laws g t = tt
+reports_later by before after (AskMsg key) laws g t = tt
 
 parcel_later : {State : Type 0} (by : Marker State) (before after : Log) → MarkLaws by → LogGrows before after → (parcel : Parcel) → HasTrueMark by before parcel → HasTrueMark by after parcel
 parcel_later by before after laws g (Usual packet) t = tt
-parcel_later by before after laws g (Mark_sent message) t = tells_later by before after message.body laws g t
-parcel_later by before after laws g (Mark_answered message) t = tells_later by before after message.body laws g t
+parcel_later by before after laws g (Mark_sent message) t = reports_later by before after message.body laws g t
+parcel_later by before after laws g (Mark_answered message) t = reports_later by before after message.body laws g t
 
 -- a log that has grown, other clients, and parcels that no server sent
 pub grown_kept : {State : Type 0} (by : Marker State) (start : World) (before : MarkedWorld) (clients : List Client) (log : MarkedLog) (new : List Parcel) → Grounds by start → Kept by start before
     → LogGrows before.log.log log.log → ((key : Key) → IsTrueOrNone by log.log key (log.marks key)) → AllByRecursion (HasTrueMark by log.log) new → AllByRecursion IsNotSent new
     → Sound by.service start (seen (record before { clients = clients; log = log; parcels = before.parcels ++ new }))
     → Kept by start (record before { clients = clients; log = log; parcels = before.parcels ++ new })
-grown_kept by start before clients log new g k grows kept tells not_sent sound = record {
+grown_kept by start before clients log new g k grows kept reports not_sent sound = record {
   sound = sound;
   marks = record {
-    under_way = all_append (HasTrueMark by log.log) before.parcels new (all_weaker (HasTrueMark by before.log.log) (HasTrueMark by log.log) before.parcels (parcel_later by before.log.log log.log g.laws grows) k.marks.under_way) tells;
+    under_way = all_append (HasTrueMark by log.log) before.parcels new (all_weaker (HasTrueMark by before.log.log) (HasTrueMark by log.log) before.parcels (parcel_later by before.log.log log.log g.laws grows) k.marks.under_way) reports;
     kept = kept;
     outstanding = λ n e key. all_weaker (IsTrueMark by before.log.log key) (IsTrueMark by log.log key) _ (λ m t. true_later by before.log.log log.log key m g.laws grows t) (k.marks.outstanding n e key);
   };
@@ -183,19 +183,19 @@ seen_turned w later out =
 -- what comes to the server was sent
 abbrev pub Brings : {State : Type 0} → Marker State → MarkedWorld → MarkedInput → Type 0
 Brings by w (Plain_comes input) = IsBrought (seen w) input
-Brings by w (Mark_comes message) = TellsTrueMark by w.log.log message.body
+Brings by w (Mark_comes message) = ReportsTrueMark by w.log.log message.body
 
 pub nothing_below : (key : Key) (m : Mark) (log : Log) (o : Option Entry) → m ≡ no_mark → (option_map_or (bytes_below m) o [] ≡ []) × (option_map_or (lengths_below m) o [] ≡ [])
 nothing_below key m log None e = (refl, refl)
 nothing_below key m log (Some x) e = (ap (λ (y : Mark). bytes_below y x) e, ap (λ (y : Mark). lengths_below y x) e)
 
-held_front : {State : Type 0} (by : Marker State) (log : Log) (body : MarkBody) → TellsTrueMark by log body → (key : Key) (m : Mark) → body ≡ HeldMsg key m
-    → IsToldFront by.service by.writing log key m (bytes_held log body) (lengths_held log body)
-held_front by log body told key m is =
-    subst (λ b. IsToldFront by.service by.writing log key m (bytes_held log b) (lengths_held log b)) (sym is)
+held_front : {State : Type 0} (by : Marker State) (log : Log) (body : MarkBody) → ReportsTrueMark by log body → (key : Key) (m : Mark) → body ≡ HeldMsg key m
+    → IsReportedFront by.service by.writing log key m (bytes_held log body) (lengths_held log body)
+held_front by log body reported key m is =
+    subst (λ b. IsReportedFront by.service by.writing log key m (bytes_held log b) (lengths_held log b)) (sym is)
     (⊎_elim (λ none. inl (nothing_below key m log (entry_of key log) none))
     (λ t. inr (t.0, t.1, ap (λ (o : Option Entry). option_map_or (bytes_below m) o []) t.1, ap (λ (o : Option Entry). option_map_or (lengths_below m) o []) t.1, t.2))
-    (subst (TellsTrueMark by log) is told))
+    (subst (ReportsTrueMark by log) is reported))
 
 same_plain : {State : Type 0} (by : Marker State) (start u : World) (node : MarkedNode) (out : List Outgoing) (later : MarkedNode) → At by start u node → without_marks out ≡ [] → later.plain ≡ node.plain
     → later.awaits_mark ≡ node.awaits_mark → TurnSteps by start u out later
@@ -214,24 +214,24 @@ answer_steps by start u node reads (Some (Opens n timestamping)) out later at t 
 answer_steps by start u node reads (Some (Ended k)) out later at t = rests by start u node out later at t
 answer_steps by start u node reads None out later at t = rests by start u node out later at t
 
-hears_steps : {State : Type 0} (by : Marker State) (start u : World) (node : MarkedNode) (places : List Place) (body : MarkBody) (b : Bool) (out : List Outgoing) (later : MarkedNode) → At by start u node
-    → MatchBool b (HearsOfMark by node places body out later) (RestsMarked node out later) → TurnSteps by start u out later
-hears_steps by start u node places (MarkedMsg key reads) true out later at t = answer_steps by start u node reads (place_at key places) out later at t
-hears_steps by start u node places (MarkMsg key m) true out later at t = rests by start u node out later at t
-hears_steps by start u node places (AskMsg key) true out later at t = rests by start u node out later at t
-hears_steps by start u node places (HeldMsg key m) true out later at t = rests by start u node out later at t
-hears_steps by start u node places body false out later at t = rests by start u node out later at t
+receives_steps : {State : Type 0} (by : Marker State) (start u : World) (node : MarkedNode) (places : List Place) (body : MarkBody) (b : Bool) (out : List Outgoing) (later : MarkedNode) → At by start u node
+    → MatchBool b (ReceivesOfMark by node places body out later) (RestsMarked node out later) → TurnSteps by start u out later
+receives_steps by start u node places (MarkedMsg key reads) true out later at t = answer_steps by start u node reads (place_at key places) out later at t
+receives_steps by start u node places (MarkMsg key m) true out later at t = rests by start u node out later at t
+receives_steps by start u node places (AskMsg key) true out later at t = rests by start u node out later at t
+receives_steps by start u node places (HeldMsg key m) true out later at t = rests by start u node out later at t
+receives_steps by start u node places body false out later at t = rests by start u node out later at t
 
 mark_steps : {State : Type 0} (by : Marker State) (start u : World) (node : MarkedNode) (stage : Stage) (message : MarkMessage) (out : List Outgoing) (later : MarkedNode) → At by start u node → node.plain.stage ≡ stage
-    → TellsTrueMark by u.log message.body → MarkTurn by (bytes_held u.log message.body) (lengths_held u.log message.body) node stage message out later → TurnSteps by start u out later
-mark_steps by start u node (Fetching count fetched) message out later at is told t =
-    mark_fetched by start u node count fetched message (bytes_held u.log message.body) (lengths_held u.log message.body) out later at is (held_front by u.log message.body told) t
-mark_steps by start u node (Serving opened places) message out later at is told t = hears_steps by start u node places message.body (message.boot == node.plain.boot) out later at t
-mark_steps by start u node Asking message out later at is told t = rests by start u node out later at t
-mark_steps by start u node (Fenced newer) message out later at is told t = rests by start u node out later at t
+    → ReportsTrueMark by u.log message.body → MarkTurn by (bytes_held u.log message.body) (lengths_held u.log message.body) node stage message out later → TurnSteps by start u out later
+mark_steps by start u node (Fetching count fetched) message out later at is reported t =
+    mark_fetched by start u node count fetched message (bytes_held u.log message.body) (lengths_held u.log message.body) out later at is (held_front by u.log message.body reported) t
+mark_steps by start u node (Serving opened places) message out later at is reported t = receives_steps by start u node places message.body (message.boot == node.plain.boot) out later at t
+mark_steps by start u node Asking message out later at is reported t = rests by start u node out later at t
+mark_steps by start u node (Fenced newer) message out later at is reported t = rests by start u node out later at t
 
 turn_steps : {State : Type 0} (by : Marker State) (start : World) (w : MarkedWorld) (node : MarkedNode) (input : MarkedInput) (out : List Outgoing) (later : MarkedNode) → At by start (seen w) node → Brings by w input
-    → InputTurn by (bytes_told w.log.log input) (lengths_told w.log.log input) node input out later → TurnSteps by start (seen w) out later
+    → InputTurn by (bytes_reported w.log.log input) (lengths_reported w.log.log input) node input out later → TurnSteps by start (seen w) out later
 turn_steps by start w node (Plain_comes input) out later at brought t = input_steps by start (seen w) node input out later at brought t
 turn_steps by start w node (Mark_comes message) out later at brought t = mark_steps by start (seen w) node node.plain.stage message out later at refl brought t
 
@@ -260,20 +260,20 @@ live_where by node later reads (Some (Opens n timestamping)) out t = ap (λ (n :
 live_where by node later reads (Some (Ended k)) out t = ap (λ (n : MarkedNode). n.plain) t.1
 live_where by node later reads None out t = ap (λ (n : MarkedNode). n.plain) t.1
 
-hears_where : {State : Type 0} (by : Marker State) (node later : MarkedNode) (places : List Place) (body : MarkBody) (b : Bool) (out : List Outgoing)
-    → MatchBool b (HearsOfMark by node places body out later) (RestsMarked node out later) → later.plain ≡ node.plain
-hears_where by node later places (MarkedMsg key reads) true out t = live_where by node later reads (place_at key places) out t
-hears_where by node later places (MarkMsg key m) true out t = ap (λ (n : MarkedNode). n.plain) t.1
-hears_where by node later places (AskMsg key) true out t = ap (λ (n : MarkedNode). n.plain) t.1
-hears_where by node later places (HeldMsg key m) true out t = ap (λ (n : MarkedNode). n.plain) t.1
-hears_where by node later places body false out t = ap (λ (n : MarkedNode). n.plain) t.1
+receives_where : {State : Type 0} (by : Marker State) (node later : MarkedNode) (places : List Place) (body : MarkBody) (b : Bool) (out : List Outgoing)
+    → MatchBool b (ReceivesOfMark by node places body out later) (RestsMarked node out later) → later.plain ≡ node.plain
+receives_where by node later places (MarkedMsg key reads) true out t = live_where by node later reads (place_at key places) out t
+receives_where by node later places (MarkMsg key m) true out t = ap (λ (n : MarkedNode). n.plain) t.1
+receives_where by node later places (AskMsg key) true out t = ap (λ (n : MarkedNode). n.plain) t.1
+receives_where by node later places (HeldMsg key m) true out t = ap (λ (n : MarkedNode). n.plain) t.1
+receives_where by node later places body false out t = ap (λ (n : MarkedNode). n.plain) t.1
 
 mark_where : {State : Type 0} (by : Marker State) (node later : MarkedNode) (bytes lengths : List ℕ) (stage : Stage) (message : MarkMessage) (out : List Outgoing) → node.plain.stage ≡ stage
     → MarkTurn by bytes lengths node stage message out later → is_restarting later.plain.stage ≡ true → is_restarting node.plain.stage ≡ true
 mark_where by node later bytes lengths Asking message out is t r = ap is_restarting is
 mark_where by node later bytes lengths (Fetching count fetched) message out is t r = ap is_restarting is
 mark_where by node later bytes lengths (Serving opened places) message out is t r =
-    sym (ap (λ (n : Node). is_restarting n.stage) (hears_where by node later places message.body (message.boot == node.plain.boot) out t)) ∙ r
+    sym (ap (λ (n : Node). is_restarting n.stage) (receives_where by node later places message.body (message.boot == node.plain.boot) out t)) ∙ r
 mark_where by node later bytes lengths (Fenced newer) message out is t r = rests_where node later out t r
 
 turn_where : {State : Type 0} (by : Marker State) (node later : MarkedNode) (bytes lengths : List ℕ) (input : MarkedInput) (out : List Outgoing) → InputTurn by bytes lengths node input out later
@@ -300,7 +300,7 @@ pub up_plain : (w : MarkedWorld) (node : MarkedNode) → w.node ≡ Some node �
 up_plain w node e = ap (option_map (λ (n : MarkedNode). n.plain)) e
 
 lawful_steps : {State : Type 0} (by : Marker State) (start : World) (w : MarkedWorld) (node : MarkedNode) (input : MarkedInput) (out : List Outgoing) (later : MarkedNode) → Grounds by start → Kept by start w → w.node ≡ Some node
-    → Brings by w input → LawfulMarkedTurn by (bytes_told w.log.log input) (lengths_told w.log.log input) node input out later
+    → Brings by w input → LawfulMarkedTurn by (bytes_reported w.log.log input) (lengths_reported w.log.log input) node input out later
     → MarkStep by start w (map parcel_of out) (record w { node = Some later; parcels = w.parcels ++ map parcel_of out })
 lawful_steps by start w node input out later g k up brought t =
     let after : MarkedWorld = record w { node = Some later; parcels = w.parcels ++ map parcel_of out } in
@@ -310,7 +310,7 @@ lawful_steps by start w node input out later g k up brought t =
     let was : node.plain.boot ≡ w.boot = (k.sound.joint.fenced.node node.plain (up_plain w node up)).boot in
     let now : later.plain.boot ≡ w.boot = (step.sound.joint.fenced.node later.plain refl).boot in
     let truth : OutGoesTrue by node w.log.log out later =
-    turn_true by start (seen after) node later (bytes_told w.log.log input) (lengths_told w.log.log input) input out g.laws step.sound refl (k.marks.outstanding node up) t.turn in
+    turn_true by start (seen after) node later (bytes_reported w.log.log input) (lengths_reported w.log.log input) input out g.laws step.sound refl (k.marks.outstanding node up) t.turn in
     record {
       stepped = subst (λ ps. Stepped by.service start (seen w) ps (seen after)) (sym (usual_out out)) step;
       kept = record {
@@ -324,7 +324,7 @@ lawful_steps by start w node input out later g k up brought t =
         quiet = λ n e. subst (λ x. is_restarting x.plain.stage ≡ true → AllByRecursion (IsNoMarkOf x.plain.boot) (w.parcels ++ map parcel_of out)) (some_is later n e)
             (λ r. subst (λ b. AllByRecursion (IsNoMarkOf b) (w.parcels ++ map parcel_of out)) (was ∙ sym now)
             (all_append (IsNoMarkOf node.plain.boot) w.parcels (map parcel_of out)
-            (k.quiet node up (turn_where by node later (bytes_told w.log.log input) (lengths_told w.log.log input) input out t.turn r)) (out_quiet node.plain.boot out (truth.quiet r))));
+            (k.quiet node up (turn_where by node later (bytes_reported w.log.log input) (lengths_reported w.log.log input) input out t.turn r)) (out_quiet node.plain.boot out (truth.quiet r))));
         awaiting = λ n e. subst IsAwaiting (some_is later n e) ts.awaiting;
       };
     }

@@ -14,7 +14,7 @@ use Rattle.seq_arith.specs.Mark.{Mark}
 use Rattle.seq_arith.specs.Message.{Body}
 use Rattle.server_trait.specs.Service.{Machine}
 use Rattle.server_trait.specs.Saved.{Writing}
-use Rattle.ft_model.specs.Connection.{ConnectionTurn, LiveTurn, ResetTurn, sent_by, told_by}
+use Rattle.ft_model.specs.Connection.{ConnectionTurn, LiveTurn, ResetTurn, sent_by, reported_by}
 use Rattle.ft_model.specs.Copy.{copies}
 use Rattle.ft_model.specs.ResetAndEnd.{dones, reset_after}
 use Rattle.ft_model.specs.Growth.{IsPrefix}
@@ -25,18 +25,18 @@ use Rattle.ft_model.specs.News.{News}
 use Rattle.ft_model.specs.News.News.{Ticks}
 use Rattle.ft_model.specs.Answered.{reads_answered_after}
 use Rattle.ft_model.specs.Point.{Point, blank_point, made, whole_run}
-use Rattle.ft_model.specs.Reads.{next_read, next_length, may_read, MakesReads, reads_told}
+use Rattle.ft_model.specs.Reads.{next_read, next_length, may_read, MakesReads, reads_reported}
 use Rattle.ft_model.specs.Segments.{segments_of}
 use Rattle.ft_model.specs.Sending.{acknowledged_after}
 use Rattle.ft_model.specs.Taken.{taken_after, fin_after}
 use Rattle.ft_model.specs.Timer.{is_tick}
 use Rattle.ft_model.proofs.Lists.{all_append}
-use Rattle.ft_model.proofs.TurnTells.{settled_reads}
+use Rattle.ft_model.proofs.TurnReports.{settled_reads}
 use Rattle.ft_model.proofs.Running.{none_made}
 use Rattle.mark_laws.specs.MarkedLog.{has_closing}
 use Rattle.mark_laws.specs.Quiet.{IsQuiet, is_quiet, mark_of}
 use Rattle.mark_laws.specs.Runs.{IsRunOf}
-use Rattle.mark_laws.specs.Marking.{Marking, is_due, new_marks, with_new, outstanding_in, repeated, marking_answered, marks_sent, Outgoing, marks_out, with_marks, without_marks, MarkingTurn, MarkedTurn, IsSettled, MarksNothing, OnlyRepeats, AreTrue, TellsTruth}
+use Rattle.mark_laws.specs.Marking.{Marking, is_due, new_marks, with_new, outstanding_in, repeated, marking_answered, marks_sent, Outgoing, marks_out, with_marks, without_marks, MarkingTurn, MarkedTurn, IsSettled, MarksNothing, OnlyRepeats, AreTrue, ReportsTruth}
 use Rattle.mark_laws.specs.Marking.Outgoing.{Plain, Mark_to_logger}
 use Rattle.mark_laws.proofs.Runs.{quiet_marks}
 
@@ -102,21 +102,21 @@ before_the_last marks xs ys =
     ap (λ n. map Plain (take n (xs ++ ys)) ++ (marks ++ map Plain (drop n (xs ++ ys)))) k
     ∙ ap₂ (λ a b. map Plain a ++ (marks ++ map Plain b)) (take-append_seam xs ys) (drop-append_seam xs ys)
 
-same_length : (boot : ℕ) (bodies : List Body) → length (map (told_by boot) bodies) ≡ length bodies
+same_length : (boot : ℕ) (bodies : List Body) → length (map (reported_by boot) bodies) ≡ length bodies
 same_length boot [] = refl
 same_length boot (body ∷ bodies) = ap suc (same_length boot bodies)
 
 pub stand_before_done : {State : Type 0} (service : Machine State) (server : Addr) (boot : ℕ) (news : News) (p q : Point) (marks : List Outgoing)
     → with_marks (length (dones news p q)) marks (sent_by service server boot news p q)
-    ≡ map Plain (map To_client (segments_of service server news p q) ++ map (told_by boot) (copies news p q ++ reads_told news p q)) ++ (marks ++ map Plain (map (told_by boot) (dones news p q)))
+    ≡ map Plain (map To_client (segments_of service server news p q) ++ map (reported_by boot) (copies news p q ++ reads_reported news p q)) ++ (marks ++ map Plain (map (reported_by boot) (dones news p q)))
 stand_before_done service server boot news p q marks =
     let segments : List Packet = map To_client (segments_of service server news p q) in
-    let told : List Packet = map (told_by boot) (copies news p q ++ reads_told news p q) in
-    let last : List Packet = map (told_by boot) (dones news p q) in
-    let parts : sent_by service server boot news p q ≡ segments ++ told ++ last =
-    ap (λ l. segments ++ map (told_by boot) l) (sym (append_assoc (copies news p q) (reads_told news p q) (dones news p q)))
-    ∙ (ap (λ l. segments ++ l) (map-append (told_by boot) (copies news p q ++ reads_told news p q) (dones news p q)) ∙ sym (append_assoc segments told last)) in
-    ap₂ (λ n l. with_marks n marks l) (sym (same_length boot (dones news p q))) parts ∙ before_the_last marks (segments ++ told) last
+    let reported : List Packet = map (reported_by boot) (copies news p q ++ reads_reported news p q) in
+    let last : List Packet = map (reported_by boot) (dones news p q) in
+    let parts : sent_by service server boot news p q ≡ segments ++ reported ++ last =
+    ap (λ l. segments ++ map (reported_by boot) l) (sym (append_assoc (copies news p q) (reads_reported news p q) (dones news p q)))
+    ∙ (ap (λ l. segments ++ l) (map-append (reported_by boot) (copies news p q ++ reads_reported news p q) (dones news p q)) ∙ sym (append_assoc segments reported last)) in
+    ap₂ (λ n l. with_marks n marks l) (sym (same_length boot (dones news p q))) parts ∙ before_the_last marks (segments ++ reported) last
 
 -- a node that marks nothing
 pub plain_map : (k : ℕ) (packets : List Packet) → with_marks k [] packets ≡ map Plain packets
@@ -275,10 +275,10 @@ repeated_true : {State : Type 0} (service : Machine State) (writing : Writing St
     → AreTrue service writing e (repeated news m)
 repeated_true service writing news m e held = holds_if (AreTrue service writing e) (is_tick news) (outstanding_in m) [] (λ on. held) (λ off. tt)
 
-pub tells_truth : {State : Type 0} (service : Machine State) (writing : Writing State) (every : ℕ) (news : News) (script : List ℕ) (m : Marking) (q : Point) (e : Entry)
+pub reports_truth : {State : Type 0} (service : Machine State) (writing : Writing State) (every : ℕ) (news : News) (script : List ℕ) (m : Marking) (q : Point) (e : Entry)
     → IsPrefix q.taken script → sum q.lengths ≤ length q.taken → IsPrefix e.bytes script → sum e.lengths ≤ length e.bytes → IsPrefix e.lengths q.lengths → q.reads_answered ≤ length e.lengths
-    → AreTrue service writing e (outstanding_in m) → TellsTruth service writing every news m q e
-tells_truth service writing every news script m q e taken within fits enough front known held =
+    → AreTrue service writing e (outstanding_in m) → ReportsTruth service writing every news m q e
+reports_truth service writing every news script m q e taken within fits enough front known held =
     let is_true : IsQuiet service q → IsRunOf service writing e (mark_of service writing q) = quiet_marks service writing script q e taken within fits enough front known in
     record {
       sent = all_append (IsRunOf service writing e) (repeated news m) (new_marks service writing every m q) (repeated_true service writing news m e held)

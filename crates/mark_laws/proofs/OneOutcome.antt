@@ -13,7 +13,7 @@ use Rattle.mark_laws.specs.MarkedWorld.{MarkedWorld, MarkedMoment, MarkedHappens
 use Rattle.mark_laws.specs.MarkedLegal.{marked_start, marked_refusal, marked_events_of, IsMarkedAllowed, AllMarkedAllowed, IsMarkedLegalFor, marked_packets_sent}
 use Rattle.mark_laws.specs.MarkedOutcome.{IsMarkedWhole, IsMarkedRefused, IsMarkedPastPackets}
 use Rattle.mark_laws.proofs.OneTrace.{legal_once}
-use Rattle.mark_laws.proofs.OneWorld.{marked_once, marked_goes_on}
+use Rattle.mark_laws.proofs.OneWorld.{marked_once, marked_proceeds}
 
 -- an allowed event is done by scripted clients
 record Goes {State : Type 0} (by : Marker State) (before : MarkedWorld) (event : Event) (after : MarkedWorld) : Type 0 where
@@ -38,9 +38,9 @@ module _ {State : Type 0} (by : Marker State) where
       (subst (λ e. IsMarkedAllowed before (record g.moment { event = e })) same g.allowed).scripted h.allowed.scripted
       ∙ h.ends)
 
-  goes_on : (event : Event) (before w : MarkedWorld) → Goes by before event w → length before.parcels ≤ length w.parcels
-  goes_on event before w g =
-      let grown : w.parcels ≡ before.parcels ++ g.moment.sent = ap (λ v. v.parcels) (sym g.ends) ∙ marked_goes_on by g.moment.event before g.moment.world g.moment.sent g.happens in
+  proceeds : (event : Event) (before w : MarkedWorld) → Goes by before event w → length before.parcels ≤ length w.parcels
+  proceeds event before w g =
+      let grown : w.parcels ≡ before.parcels ++ g.moment.sent = ap (λ v. v.parcels) (sym g.ends) ∙ marked_proceeds by g.moment.event before g.moment.world g.moment.sent g.happens in
       let long : length w.parcels ≡ length before.parcels + length g.moment.sent = ap length grown ∙ length-append before.parcels g.moment.sent in
       omega arith
 
@@ -49,7 +49,7 @@ module _ {State : Type 0} (by : Marker State) where
 
   runs_on : (events : List Event) (before w : MarkedWorld) → Runs by before events w → length before.parcels ≤ length w.parcels
   runs_on [] before w r = subst (λ v. length before.parcels ≤ length v.parcels) (sym r) (omega arith)
-  runs_on (event ∷ events) before w r = omega (arith, goes_on event before r.0 r.1, runs_on events r.0 w r.2)
+  runs_on (event ∷ events) before w r = omega (arith, proceeds event before r.0 r.1, runs_on events r.0 w r.2)
 
   -- the longer run begins with the shorter one
   runs_split : (events more : List Event) (before w x : MarkedWorld) → Runs by before events w → Runs by before (events ++ more) x → Runs by w more x

@@ -10,13 +10,13 @@ use Rattle.ft_model.specs.declared.event.Event.{Event}
 use Rattle.ft_model.specs.declared.schedule.Schedule.{Schedule}
 use Rattle.ft_model.proofs.Lists.{all_front, some_is}
 use Rattle.ft_model.proofs.ReportHeader.{IsSameHeader}
-use Rattle.ft_model.proofs.ReportTurns.{Telling, sent_in, lines_of}
-use Rattle.ft_model.proofs.ReportTells.{AreDetermined, its_clients, text_of, all_told, determined_told, same_schedule}
+use Rattle.ft_model.proofs.ReportTurns.{Reporting, sent_in, lines_of}
+use Rattle.ft_model.proofs.ReportDetermines.{AreDetermined, its_clients, text_of, all_reported, determined_reported, same_schedule}
 use Rattle.mark_laws.specs.MarkedLegal.{marked_start, marked_events_of, IsMarkedAllowed, AllMarkedAllowed, IsMarkedLegalFor, MarkedLegal}
 use Rattle.mark_laws.specs.MarkedNode.{Marker}
 use Rattle.mark_laws.specs.MarkedReport.{marked_parcel_lines, marked_parcel_count, marked_event_lines, marked_report}
 use Rattle.mark_laws.specs.MarkedWorld.{MarkedWorld, MarkedMoment, MarkedHappens, MarkedJoint, seen, marked_after}
-use Rattle.mark_laws.proofs.OneWorld.{marked_once, marked_goes_on}
+use Rattle.mark_laws.proofs.OneWorld.{marked_once, marked_proceeds}
 
 module _ {State : Type 0} (by : Marker State) where
   -- two moments of one event, from one world on, are the same
@@ -28,7 +28,7 @@ module _ {State : Type 0} (by : Marker State) where
       let world : m.world ≡ n.world = marked_once by n.event before m.world n.world m.sent n.sent there q allowed.scripted b.scripted in
       let sent : m.sent ≡ n.sent =
       append_cancel_left before.parcels m.sent n.sent
-      (sym (marked_goes_on by n.event before m.world m.sent there) ∙ (ap (λ v. v.parcels) world ∙ marked_goes_on by n.event before n.world n.sent q)) in
+      (sym (marked_proceeds by n.event before m.world m.sent there) ∙ (ap (λ v. v.parcels) world ∙ marked_proceeds by n.event before n.world n.sent q)) in
       λ i. record { event = e i; sent = sent i; world = world i }
 
   traces_once : (start : MarkedWorld) (trace other : List MarkedMoment) → MarkedJoint by start trace → MarkedJoint by start other → AllMarkedAllowed start trace → AllMarkedAllowed start other
@@ -68,8 +68,8 @@ size m = length m.sent
 abbrev lines : List Client → ℕ → MarkedMoment → List ℕ
 lines clients k m = marked_parcel_lines clients k m.sent
 
-abbrev moments : List Client → Telling MarkedMoment MarkedMoment
-moments = all_told (λ m. m.event) size lines
+abbrev moments : List Client → Reporting MarkedMoment MarkedMoment
+moments = all_reported (λ m. m.event) size lines
 
 counted : (clients : List Client) (trace : List MarkedMoment) → marked_parcel_count trace ≡ sent_in (moments clients) trace
 counted clients [] = refl
@@ -92,10 +92,10 @@ same_start schedule other h =
     λ i. marked_start (record { service = h.service i; server = h.server i; profile = h.profile i; twin = h.twin i; marks = h.marks i; lasting = h.lasting i; clients = h.clients i; events = schedule.events })
 
 -- the server marks after as many reads as its schedule says
-pub legal_told : {State : Type 0} (by : ℕ → ℕ → Marker State) (every often : ℕ) (schedule other : Schedule) (trace also : List MarkedMoment) → FitsSchedule schedule → FitsSchedule other
+pub legal_reported : {State : Type 0} (by : ℕ → ℕ → Marker State) (every often : ℕ) (schedule other : Schedule) (trace also : List MarkedMoment) → FitsSchedule schedule → FitsSchedule other
     → schedule.marks ≡ Some every → other.marks ≡ Some often → MarkedLegal (by every) schedule trace → MarkedLegal (by often) other also
     → marked_report schedule trace ≡ marked_report other also → (schedule ≡ other) × (trace ≡ also)
-legal_told {State} by every often schedule other trace also fits too here there l k e =
+legal_reported {State} by every often schedule other trace also fits too here there l k e =
     let start : MarkedWorld = marked_start schedule in
     let runs : Marker State = by every (kind_of schedule.service) in
     let same : IsSameHeader schedule other → IsPlayed runs start also =
@@ -104,6 +104,6 @@ legal_told {State} by every often schedule other trace also fits too here there 
     let marker : runs ≡ by often (kind_of other.service) = ap₂ (λ n name. by n (kind_of name)) number h.service in
     subst₂ (λ m w. IsPlayed m w also) (sym marker) (sym (same_start schedule other h)) (played (by often) other also too k) in
     let texts = sym (report_is schedule trace) ∙ (e ∙ report_is other also) in
-    let all = determined_told (λ (m : MarkedMoment). m.event) marked_events_of size lines schedule other (IsPlayed runs start) fits too (played_determined runs start)
+    let all = determined_reported (λ (m : MarkedMoment). m.event) marked_events_of size lines schedule other (IsPlayed runs start) fits too (played_determined runs start)
     trace also (seen (marked_after start trace)) (seen (marked_after (marked_start other) also)) (played (by every) schedule trace fits l) same texts in
     (same_schedule schedule other all.0 (sym l.events_are ∙ (ap marked_events_of all.1 ∙ k.events_are)), all.1)

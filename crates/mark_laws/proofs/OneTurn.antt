@@ -16,7 +16,7 @@ use Rattle.mark_laws.specs.MarkedLog.{AnyMessage}
 use Rattle.mark_laws.specs.Marking.{Marking, Outgoing, with_marks, MarkedTurn}
 use Rattle.mark_laws.specs.Marking.Outgoing.{Plain}
 use Rattle.mark_laws.specs.Restart.{FetchedSoFar, next_question, fetched_on, mark_reported, begun_on}
-use Rattle.mark_laws.specs.MarkedNode.{Marker, MarkedNode, MarkedInput, GoesMarked, AllGoMarked, ServesMarked, RestsMarked, Continues, FetchesMarked, PlainTurn, UnlessFenced, MarkTurn, HearsOfMark, InputTurn, LawfulMarkedTurn, with_stage, with_marking, marks_at, marking_then, is_done, so_far, live_at, marking_fetched}
+use Rattle.mark_laws.specs.MarkedNode.{Marker, MarkedNode, MarkedInput, GoesMarked, AllGoMarked, ServesMarked, RestsMarked, Continues, FetchesMarked, PlainTurn, UnlessFenced, MarkTurn, ReceivesOfMark, InputTurn, LawfulMarkedTurn, with_stage, with_marking, marks_at, marking_then, is_done, so_far, live_at, marking_fetched}
 use Rattle.mark_laws.specs.MarkedNode.MarkedInput.{Plain_comes, Mark_comes}
 use Rattle.mark_laws.proofs.Turns.{lawful_at}
 
@@ -130,13 +130,13 @@ live_mark_once by node later other reads (Some p) out also s t = (
   s.2 ∙ (ap (λ (m : Marking). record node { marking = with_marking p.key m node.marking }) (s.1.marking ∙ sym t.1.marking) ∙ sym t.2),
 )
 
-hears_mark_once : {State : Type 0} (by : Marker State) (node later other : MarkedNode) (places : List Place) (body : MarkBody) (b : Bool) (out also : List Outgoing)
-    → MatchBool b (HearsOfMark by node places body out later) (RestsMarked node out later) → MatchBool b (HearsOfMark by node places body also other) (RestsMarked node also other) → SameTurn out also later other
-hears_mark_once by node later other places (MarkedMsg key reads) true out also s t = live_mark_once by node later other reads (live_at (place_at key places)) out also s t
-hears_mark_once by node later other places (MarkMsg key m) true out also s t = rests_once node later other out also s t
-hears_mark_once by node later other places (AskMsg key) true out also s t = rests_once node later other out also s t
-hears_mark_once by node later other places (HeldMsg key m) true out also s t = rests_once node later other out also s t
-hears_mark_once by node later other places body false out also s t = rests_once node later other out also s t
+receives_mark_once : {State : Type 0} (by : Marker State) (node later other : MarkedNode) (places : List Place) (body : MarkBody) (b : Bool) (out also : List Outgoing)
+    → MatchBool b (ReceivesOfMark by node places body out later) (RestsMarked node out later) → MatchBool b (ReceivesOfMark by node places body also other) (RestsMarked node also other) → SameTurn out also later other
+receives_mark_once by node later other places (MarkedMsg key reads) true out also s t = live_mark_once by node later other reads (live_at (place_at key places)) out also s t
+receives_mark_once by node later other places (MarkMsg key m) true out also s t = rests_once node later other out also s t
+receives_mark_once by node later other places (AskMsg key) true out also s t = rests_once node later other out also s t
+receives_mark_once by node later other places (HeldMsg key m) true out also s t = rests_once node later other out also s t
+receives_mark_once by node later other places body false out also s t = rests_once node later other out also s t
 
 reported_once : {State : Type 0} (by : Marker State) (node later other : MarkedNode) (count : ℕ) (now : FetchedSoFar) (marking : Key → Marking) (o : Option Mark) (out also : List Outgoing)
     → MatchOption o (RestsMarked node out later) (λ m. FetchesMarked by node count now marking out later) → MatchOption o (RestsMarked node also other) (λ m. FetchesMarked by node count now marking also other)
@@ -148,7 +148,7 @@ mark_once : {State : Type 0} (by : Marker State) (bytes lengths : List ℕ) (nod
     → MarkTurn by bytes lengths node stage message out later → MarkTurn by bytes lengths node stage message also other → SameTurn out also later other
 mark_once by bytes lengths node later other (Fetching count fetched) message out also s t =
     reported_once by node later other count (begun_on bytes lengths (so_far node fetched)) (marking_fetched message.body node.marking) (mark_reported by.writing node.plain.boot message (so_far node fetched)) out also s t
-mark_once by bytes lengths node later other (Serving opened places) message out also s t = hears_mark_once by node later other places message.body (message.boot == node.plain.boot) out also s t
+mark_once by bytes lengths node later other (Serving opened places) message out also s t = receives_mark_once by node later other places message.body (message.boot == node.plain.boot) out also s t
 mark_once by bytes lengths node later other Asking message out also s t = rests_once node later other out also s t
 mark_once by bytes lengths node later other (Fenced newer) message out also s t = rests_once node later other out also s t
 

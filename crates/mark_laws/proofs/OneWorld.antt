@@ -13,7 +13,7 @@ use Rattle.ft_model.specs.Legal.{IsScripted}
 use Rattle.ft_model.specs.Network.{Packet, destination_of}
 use Rattle.ft_model.specs.Network.Packet.{To_server, To_client, To_logger, From_logger}
 use Rattle.ft_model.specs.Node.Input.{Packet_comes, Message_comes, Tick_comes}
-use Rattle.ft_model.specs.World.{World, ClientHears, ClientReads, Happens, client_at, segment_or_noise}
+use Rattle.ft_model.specs.World.{World, ClientReceives, ClientReads, Happens, client_at, segment_or_noise}
 use Rattle.ft_model.specs.declared.event.Event.{Event}
 use Rattle.ft_model.specs.declared.event.Event.TheVariants.{Boot, Crash, Tick, Deliver, Flip, Begin, Send, Fin, Ack, Reset, Stop}
 use Rattle.ft_model.proofs.Lists.{some_is}
@@ -21,7 +21,7 @@ use Rattle.mark_laws.specs.MarkedLog.{AnyMessage, after_mark, after_message}
 use Rattle.mark_laws.specs.MarkedLog.AnyMessage.{About_mark, Of_log}
 use Rattle.mark_laws.specs.MarkedNode.{Marker, MarkedNode, MarkedInput, booted_to_mark}
 use Rattle.mark_laws.specs.MarkedNode.MarkedInput.{Plain_comes, Mark_comes}
-use Rattle.mark_laws.specs.MarkedWorld.{Parcel, MarkedWorld, MarkedHappens, Elsewhere, ParcelComes, ComesAs, LogHears, LogReads, ServerTurn, ServerMoves, usual, seen, parcel_of, bytes_of, said_by, input_of, bytes_told, lengths_told}
+use Rattle.mark_laws.specs.MarkedWorld.{Parcel, MarkedWorld, MarkedHappens, Elsewhere, ParcelComes, ComesAs, LogReceives, LogReads, ServerTurn, ServerMoves, usual, seen, parcel_of, bytes_of, said_by, input_of, bytes_reported, lengths_reported}
 use Rattle.mark_laws.specs.MarkedWorld.Parcel.{Usual, Mark_sent, Mark_answered}
 use Rattle.mark_laws.proofs.OneTurn.{marked_turn_once}
 use Rattle.mark_laws.proofs.Strip.{usual_of}
@@ -30,14 +30,14 @@ module _ {State : Type 0} (by : Marker State) where
   server_by : (input : MarkedInput) (o : Option MarkedNode) (before w x : MarkedWorld) (s t : List Parcel) → ServerTurn by input o before s w → ServerTurn by input o before t x → w ≡ x
   server_by input None before w x s t p q = p.1 ∙ (ap (λ (ps : List Parcel). record before { parcels = before.parcels ++ ps }) (p.0 ∙ sym q.0) ∙ sym q.1)
   server_by input (Some node) before w x s t p q =
-      let once = marked_turn_once by (bytes_told before.log.log input) (lengths_told before.log.log input) node p.0 q.0 input p.1 q.1 p.2 q.2 in
+      let once = marked_turn_once by (bytes_reported before.log.log input) (lengths_reported before.log.log input) node p.0 q.0 input p.1 q.1 p.2 q.2 in
       let sent : s ≡ t = p.3 ∙ (ap (map parcel_of) once.0 ∙ sym q.3) in
       p.4 ∙ (ap₂ (λ (n : MarkedNode) (ps : List Parcel). record before { node = Some n; parcels = before.parcels ++ ps }) once.1 sent ∙ sym q.4)
 
   server_once : (input : MarkedInput) (before w x : MarkedWorld) (s t : List Parcel) → ServerMoves by input before s w → ServerMoves by input before t x → w ≡ x
   server_once input before w x s t p q = server_by input before.node before w x s t p q
 
-  log_once : (message : AnyMessage) (before w x : MarkedWorld) (s t : List Parcel) → LogHears message before s w → LogHears message before t x → w ≡ x
+  log_once : (message : AnyMessage) (before w x : MarkedWorld) (s t : List Parcel) → LogReceives message before s w → LogReceives message before t x → w ≡ x
   log_once (Of_log message) before w x s t p q =
       p.1 ∙ (ap (λ (ps : List Parcel). record before { log = after_message before.log message; parcels = before.parcels ++ ps }) (p.0 ∙ sym q.0) ∙ sym q.1)
   log_once (About_mark message) before w x s t p q =
@@ -53,18 +53,18 @@ module _ {State : Type 0} (by : Marker State) where
       p.3
       ∙ (ap₂ (λ (cs : List Client) (ps : List Parcel). record before { clients = cs; parcels = before.parcels ++ ps }) clients (p.1 ∙ (ap (map Usual) packets ∙ sym q.1)) ∙ sym q.3)
 
-  hears_once : (key : Key) (segment : Segment) (before w x : MarkedWorld) (s t : List Parcel) → Elsewhere (ClientHears key segment) before s w → Elsewhere (ClientHears key segment) before t x → w ≡ x
-  hears_once key segment before w x s t p q =
-      elsewhere_once (ClientHears key segment) before w x s t p q (ap (λ (v : World). v.clients) p.2.1 ∙ sym (ap (λ (v : World). v.clients) q.2.1)) (p.2.0 ∙ sym q.2.0)
+  receives_once : (key : Key) (segment : Segment) (before w x : MarkedWorld) (s t : List Parcel) → Elsewhere (ClientReceives key segment) before s w → Elsewhere (ClientReceives key segment) before t x → w ≡ x
+  receives_once key segment before w x s t p q =
+      elsewhere_once (ClientReceives key segment) before w x s t p q (ap (λ (v : World). v.clients) p.2.1 ∙ sym (ap (λ (v : World). v.clients) q.2.1)) (p.2.0 ∙ sym q.2.0)
 
   client_reads_once : (key : Key) (r : Result Segment BadPacket) (before w x : MarkedWorld) (s t : List Parcel) → Elsewhere (ClientReads key r) before s w → Elsewhere (ClientReads key r) before t x → w ≡ x
-  client_reads_once key (Ok segment) before w x s t p q = hears_once key segment before w x s t p q
+  client_reads_once key (Ok segment) before w x s t p q = receives_once key segment before w x s t p q
   client_reads_once key (Err why) before w x s t p q =
       elsewhere_once (ClientReads key (Err why)) before w x s t p q (ap (λ (v : World). v.clients) p.2.1 ∙ sym (ap (λ (v : World). v.clients) q.2.1)) (p.2.0 ∙ sym q.2.0)
 
   comes_once : (parcel : Parcel) (before w x : MarkedWorld) (s t : List Parcel) → ParcelComes by parcel before s w → ParcelComes by parcel before t x → w ≡ x
   comes_once (Usual (To_server segment)) before w x s t p q = server_once (Plain_comes (Packet_comes segment)) before w x s t p q
-  comes_once (Usual (To_client segment)) before w x s t p q = hears_once (destination_of segment) segment before w x s t p q
+  comes_once (Usual (To_client segment)) before w x s t p q = receives_once (destination_of segment) segment before w x s t p q
   comes_once (Usual (To_logger message)) before w x s t p q = log_once (Of_log message) before w x s t p q
   comes_once (Usual (From_logger message)) before w x s t p q = server_once (Plain_comes (Message_comes message)) before w x s t p q
   comes_once (Mark_sent message) before w x s t p q = log_once (About_mark message) before w x s t p q
@@ -112,7 +112,7 @@ module _ {State : Type 0} (by : Marker State) where
   server_on input None before w s p = ap (λ (v : MarkedWorld). v.parcels) p.1
   server_on input (Some node) before w s p = ap (λ (v : MarkedWorld). v.parcels) p.4
 
-  log_on : (message : AnyMessage) (before w : MarkedWorld) (s : List Parcel) → LogHears message before s w → w.parcels ≡ before.parcels ++ s
+  log_on : (message : AnyMessage) (before w : MarkedWorld) (s : List Parcel) → LogReceives message before s w → w.parcels ≡ before.parcels ++ s
   log_on (Of_log message) before w s p = ap (λ (v : MarkedWorld). v.parcels) p.1
   log_on (About_mark message) before w s p = ap (λ (v : MarkedWorld). v.parcels) p.1
 
@@ -136,10 +136,10 @@ module _ {State : Type 0} (by : Marker State) where
   changed_on (Mark_sent message) bytes before w s p = reads_on (said_by (grammar_of before.profile) bytes) before w s p
   changed_on (Mark_answered message) bytes before w s p = server_on (input_of (said_by (grammar_of before.profile) bytes)) before.node before w s p
 
-  pub marked_goes_on : (event : Event) (before w : MarkedWorld) (s : List Parcel) → MarkedHappens by before event s w → w.parcels ≡ before.parcels ++ s
-  marked_goes_on (Boot boot isn) before w s p = ap (λ (v : MarkedWorld). v.parcels) p.3
-  marked_goes_on Crash before w s p = ap (λ (v : MarkedWorld). v.parcels) p.2
-  marked_goes_on Tick before w s p = server_on (Plain_comes Tick_comes) before.node before w s p.1
-  marked_goes_on (Deliver number) before w s p = comes_on p.0 before w s p.2
-  marked_goes_on (Flip number bit) before w s p = changed_on p.0 (flipped bit (bytes_of (grammar_of before.profile) p.0)) before w s p.2.comes
-  marked_goes_on event before w s p = ap (λ (v : MarkedWorld). v.parcels) p.3
+  pub marked_proceeds : (event : Event) (before w : MarkedWorld) (s : List Parcel) → MarkedHappens by before event s w → w.parcels ≡ before.parcels ++ s
+  marked_proceeds (Boot boot isn) before w s p = ap (λ (v : MarkedWorld). v.parcels) p.3
+  marked_proceeds Crash before w s p = ap (λ (v : MarkedWorld). v.parcels) p.2
+  marked_proceeds Tick before w s p = server_on (Plain_comes Tick_comes) before.node before w s p.1
+  marked_proceeds (Deliver number) before w s p = comes_on p.0 before w s p.2
+  marked_proceeds (Flip number bit) before w s p = changed_on p.0 (flipped bit (bytes_of (grammar_of before.profile) p.0)) before w s p.2.comes
+  marked_proceeds event before w s p = ap (λ (v : MarkedWorld). v.parcels) p.3

@@ -12,7 +12,7 @@ use Rattle.ft_model.proofs.Fenced.{IsOurs, turn_ours}
 use Rattle.ft_model.proofs.FaithfulKept.{ClientFits, IsSameClient, received_same, clients_fit}
 use Rattle.ft_model.proofs.FaithfulOver.{script_of, isn_of, client_there}
 use Rattle.ft_model.proofs.Happened.{Happened}
-use Rattle.ft_model.proofs.Happened.Happened.{log_heard, client_heard, client_moved, server_turned, server_booted, server_down}
+use Rattle.ft_model.proofs.Happened.Happened.{log_received, client_received, client_moved, server_turned, server_booted, server_down}
 use Rattle.ft_model.proofs.JointMasked.{JointInvariant}
 use Rattle.ft_model.proofs.Lists.{all_append, all_weaker}
 use Rattle.ft_model.proofs.LogAnswers.{all_answers}
@@ -59,30 +59,30 @@ moved_own service start before number sent after j n o m =
     (more_own start before (with_client c.key (λ x. m.later) before.clients) sent o (subst (AllByRecursion (OwnNear isn)) (sym m.sent_is) (first, tt))
     (clients_fit IsScriptedClient c.key (λ x. m.later) before.clients (λ x k g. same.kind ∙ kind) o.clients))
 
-pub owns_goes_on : {State : Type 0} (service : Machine State) (start before : World) (sent : List Packet) (after : World) → JointInvariant service start before → SendsNear (isn_of start) before → Owns start before
+pub owns_proceeds : {State : Type 0} (service : Machine State) (start before : World) (sent : List Packet) (after : World) → JointInvariant service start before → SendsNear (isn_of start) before → Owns start before
     → Happened service before sent after → Owns start after
-owns_goes_on service start before sent after j n o (log_heard message under s e) scripted =
+owns_proceeds service start before sent after j n o (log_received message under s e) scripted =
     subst (OwnsNear start) (sym e)
     (record {
       packets = all_append (OwnNear (isn_of start)) before.packets sent (o scripted).packets (subst (AllByRecursion (OwnNear (isn_of start))) (sym s) (all_answers (OwnNear (isn_of start)) before.log message (λ body a. tt)));
       clients = (o scripted).clients;
     })
-owns_goes_on service start before sent after j n o (client_heard segment under s e) scripted =
+owns_proceeds service start before sent after j n o (client_received segment under s e) scripted =
     subst (OwnsNear start) (sym e)
     (more_own start before (with_client (destination_of segment) (λ c. received c segment) before.clients) sent (o scripted) (subst (AllByRecursion (OwnNear (isn_of start))) (sym s) tt)
     (clients_fit IsScriptedClient (destination_of segment) (λ c. received c segment) before.clients (λ c k g. (received_same c segment).kind ∙ g) (o scripted).clients))
-owns_goes_on service start before sent after j n o (client_moved number m) scripted = moved_own service start before number sent after j n (o scripted) m
-owns_goes_on service start before sent after j n o (server_turned input node later brought is turn e) scripted =
+owns_proceeds service start before sent after j n o (client_moved number m) scripted = moved_own service start before number sent after j n (o scripted) m
+owns_proceeds service start before sent after j n o (server_turned input node later brought is turn e) scripted =
     subst (OwnsNear start) (sym e)
     (record {
       packets = all_append (OwnNear (isn_of start)) before.packets sent (o scripted).packets
           (all_weaker (IsOurs node.boot) (OwnNear (isn_of start)) sent (ours_own (isn_of start) node.boot) (turn_ours service node input sent later.stage (stage_went service node later input sent turn)));
       clients = (o scripted).clients;
     })
-owns_goes_on service start before sent after j n o (server_booted boot isn down larger s e) scripted =
+owns_proceeds service start before sent after j n o (server_booted boot isn down larger s e) scripted =
     subst (OwnsNear start) (sym e)
     (record { packets = all_append (OwnNear (isn_of start)) before.packets sent (o scripted).packets (subst (AllByRecursion (OwnNear (isn_of start))) (sym s) (tt, tt)); clients = (o scripted).clients })
-owns_goes_on service start before sent after j n o (server_down s e) scripted =
+owns_proceeds service start before sent after j n o (server_down s e) scripted =
     subst (OwnsNear start) (sym e)
     (record { packets = all_append (OwnNear (isn_of start)) before.packets sent (o scripted).packets (subst (AllByRecursion (OwnNear (isn_of start))) (sym s) tt); clients = (o scripted).clients })
 

@@ -4,7 +4,7 @@ use Rattle.std.specs.List.{AllByRecursion}
 use Rattle.ft_io.specs.declared.Key.{Key}
 use Rattle.server_trait.specs.Service.{Machine}
 use Rattle.ft_model.specs.Log.{Log}
-use Rattle.ft_model.specs.Masked.{told_to, last_told, or_before}
+use Rattle.ft_model.specs.Masked.{reported_to, last_reported, or_before}
 use Rattle.ft_model.specs.Network.{Packet}
 use Rattle.ft_model.specs.Node.{Node, Place, Stage}
 use Rattle.ft_model.specs.Node.Place.{Lives, Opens, Ended}
@@ -23,8 +23,8 @@ use Rattle.ft_model.proofs.JointMasked.{JointInvariant}
 use Rattle.ft_model.proofs.KnownKeys.{Asks, StageKnows, KnowsLog}
 use Rattle.ft_model.proofs.Lists.{all_append, all_weaker}
 use Rattle.ft_model.proofs.Refused.{HasCaller, ResetsEnded, Says}
-use Rattle.ft_model.proofs.ToldLast.{IsSilentTo, WasTold, last_append, or_none}
-use Rattle.ft_model.proofs.ToldOver.{IsTelling, StageTold}
+use Rattle.ft_model.proofs.ReportedLast.{IsSilentTo, WasReported, last_append, or_none}
+use Rattle.ft_model.proofs.ReportedOver.{IsReporting, StageReported}
 use Rattle.ft_model.proofs.Unfenced.{Unfenced, StaleWithin}
 use Rattle.ft_model.proofs.FormedWorld.{all_behind}
 use Rattle.trace_laws.proofs.FinsBelow.{FinsBelow, PacketBelow}
@@ -35,7 +35,7 @@ use Rattle.mark_laws.proofs.Own.{Owns}
 -- all that is kept true in a joint trace
 pub record Sound {State : Type 0} (service : Machine State) (start w : World) : Type 0 where
   pub joint : JointInvariant service start w
-  pub telling : IsTelling w
+  pub reporting : IsReporting w
   pub below : FinsBelow (script_of start) w
   pub near : SendsNear (isn_of start) w
   pub unfenced : Unfenced w
@@ -52,21 +52,21 @@ pub all_without : {A : Type 0} (P : A → Type 0) (xs hs ys : List A) → AllByR
 all_without P [] hs ys a = all_behind P hs ys a
 all_without P (x ∷ xs) hs ys a = (a.0, all_without P xs hs ys a.1)
 
-last_without : (key : Key) (xs hs ys : List Packet) → IsSilentTo key hs → last_told key (xs ++ (hs ++ ys)) ≡ last_told key (xs ++ ys)
+last_without : (key : Key) (xs hs ys : List Packet) → IsSilentTo key hs → last_reported key (xs ++ (hs ++ ys)) ≡ last_reported key (xs ++ ys)
 last_without key xs hs ys silent =
     last_append key xs (hs ++ ys)
-    ∙ (ap (λ o. or_before o (last_told key xs)) (last_append key hs ys ∙ (ap (or_before (last_told key ys)) silent ∙ sym (or_none (last_told key ys)))) ∙ sym (last_append key xs ys))
+    ∙ (ap (λ o. or_before o (last_reported key xs)) (last_append key hs ys ∙ (ap (or_before (last_reported key ys)) silent ∙ sym (or_none (last_reported key ys)))) ∙ sym (last_append key xs ys))
 
-place_told : (xs ys : List Packet) → ((key : Key) → last_told key xs ≡ last_told key ys) → (place : Place) → WasTold xs place → WasTold ys place
-place_told xs ys same (Lives p) t = λ r. sym (same p.key) ∙ t r
-place_told xs ys same (Opens n timestamping) t = tt
-place_told xs ys same (Ended k) t = tt
+place_reported : (xs ys : List Packet) → ((key : Key) → last_reported key xs ≡ last_reported key ys) → (place : Place) → WasReported xs place → WasReported ys place
+place_reported xs ys same (Lives p) t = λ r. sym (same p.key) ∙ t r
+place_reported xs ys same (Opens n timestamping) t = tt
+place_reported xs ys same (Ended k) t = tt
 
-stage_told : (xs ys : List Packet) → ((key : Key) → last_told key xs ≡ last_told key ys) → (stage : Stage) → StageTold xs stage → StageTold ys stage
-stage_told xs ys same (Serving opened places) t = all_weaker (WasTold xs) (WasTold ys) places (place_told xs ys same) t
-stage_told xs ys same Asking t = tt
-stage_told xs ys same (Fetching count fetched) t = tt
-stage_told xs ys same (Fenced newer) t = tt
+stage_reported : (xs ys : List Packet) → ((key : Key) → last_reported key xs ≡ last_reported key ys) → (stage : Stage) → StageReported xs stage → StageReported ys stage
+stage_reported xs ys same (Serving opened places) t = all_weaker (WasReported xs) (WasReported ys) places (place_reported xs ys same) t
+stage_reported xs ys same Asking t = tt
+stage_reported xs ys same (Fetching count fetched) t = tt
+stage_reported xs ys same (Fenced newer) t = tt
 
 fenced_fewer : (w : World) (xs hs ys : List Packet) → IsFenced (with_packets w (xs ++ (hs ++ ys))) → IsFenced (with_packets w (xs ++ ys))
 fenced_fewer w xs hs ys f = record {
@@ -123,7 +123,7 @@ fewer service start w xs hs ys silent s = record {
       stage = s.joint.backed.stage;
     };
   };
-  telling = λ n e. stage_told (xs ++ (hs ++ ys)) (xs ++ ys) (λ key. last_without key xs hs ys (silent key)) n.stage (s.telling n e);
+  reporting = λ n e. stage_reported (xs ++ (hs ++ ys)) (xs ++ ys) (λ key. last_without key xs hs ys (silent key)) n.stage (s.reporting n e);
   below = record { packets = all_without (PacketBelow (script_of start)) xs hs ys s.below.packets; entries = s.below.entries; stage = s.below.stage };
   near = record { clients = s.near.clients; packets = all_without (PacketNear (isn_of start) w.log) xs hs ys s.near.packets };
   unfenced = record { packets = all_without (StaleWithin w.boot) xs hs ys s.unfenced.packets; node = s.unfenced.node };
@@ -143,7 +143,7 @@ pub record MayStand {State : Type 0} (service : Machine State) (start w : World)
   pub reads : ReadOf author w.log.boot packet
   pub speaks : Speaks service (script_of start) w.log packet
   pub backed : PacketBacked service (script_of start) w.log packet
-  pub silent : (key : Key) → told_to key packet ≡ None
+  pub silent : (key : Key) → reported_to key packet ≡ None
   pub below : PacketBelow (script_of start) packet
   pub near : PacketNear (isn_of start) w.log packet
   pub stale : StaleWithin w.boot packet
@@ -153,11 +153,11 @@ pub record MayStand {State : Type 0} (service : Machine State) (start w : World)
   pub resets : ResetsEnded w.log packet
   pub asks : (boot : ℕ) (places : List Place) → Asks boot (entry_keys w.log) places packet
 
-one_silent : (packet : Packet) → ((key : Key) → told_to key packet ≡ None) → (key : Key) → IsSilentTo key (packet ∷ [])
+one_silent : (packet : Packet) → ((key : Key) → reported_to key packet ≡ None) → (key : Key) → IsSilentTo key (packet ∷ [])
 one_silent packet silent key = silent key
 
-last_with : (key : Key) (xs : List Packet) (packet : Packet) → told_to key packet ≡ None → last_told key xs ≡ last_told key (xs ++ packet ∷ [])
-last_with key xs packet silent = sym (last_append key xs (packet ∷ []) ∙ ap (λ o. or_before o (last_told key xs)) silent)
+last_with : (key : Key) (xs : List Packet) (packet : Packet) → reported_to key packet ≡ None → last_reported key xs ≡ last_reported key (xs ++ packet ∷ [])
+last_with key xs packet silent = sym (last_append key xs (packet ∷ []) ∙ ap (λ o. or_before o (last_reported key xs)) silent)
 
 stage_more : (log : Log) (packets : List Packet) (packet : Packet) (boot : ℕ) (stage : Stage) → ((places : List Place) → Asks boot (entry_keys log) places packet) → StageKnows log packets boot stage
     → StageKnows log (packets ++ packet ∷ []) boot stage
@@ -203,7 +203,7 @@ more service start w packet s m = record {
       stage = s.joint.backed.stage;
     };
   };
-  telling = λ n e. stage_told w.packets (w.packets ++ packet ∷ []) (λ key. last_with key w.packets packet (m.silent key)) n.stage (s.telling n e);
+  reporting = λ n e. stage_reported w.packets (w.packets ++ packet ∷ []) (λ key. last_with key w.packets packet (m.silent key)) n.stage (s.reporting n e);
   below = record { packets = all_append (PacketBelow (script_of start)) w.packets (packet ∷ []) s.below.packets (m.below, tt); entries = s.below.entries; stage = s.below.stage };
   near = record { clients = s.near.clients; packets = all_append (PacketNear (isn_of start) w.log) w.packets (packet ∷ []) s.near.packets (m.near, tt) };
   unfenced = record { packets = all_append (StaleWithin w.boot) w.packets (packet ∷ []) s.unfenced.packets (m.stale, tt); node = s.unfenced.node };

@@ -44,7 +44,7 @@ use Rattle.mark_laws.specs.Runs.{IsRunOf}
 use Rattle.mark_laws.specs.MarkedNode.{Marker, MarkedNode, so_far}
 use Rattle.mark_laws.specs.MarkedWorld.{MarkedWorld, seen, bytes_held, lengths_held}
 use Rattle.mark_laws.specs.Premises.{LeadsToSound, IsSoundMark}
-use Rattle.mark_laws.specs.TrueMarks.{TellsTrueMark}
+use Rattle.mark_laws.specs.TrueMarks.{ReportsTrueMark}
 use Rattle.mark_laws.proofs.MarkSteps.{Kept, up_plain, nothing_below}
 use Rattle.mark_laws.proofs.Own.{IsScriptedClient}
 use Rattle.mark_laws.proofs.Packets.{Sound}
@@ -114,11 +114,11 @@ entry_bytes service start w key e starts s found =
 
 -- what is then fetched is the log's
 held_leads : {State : Type 0} (by : Marker State) (start : World) (w : MarkedWorld) (f : Fetched) (earlier : List Fetched) (key : Key) (m : Mark) → BelowLaw by → IsStart start → Sound by.service start (seen w)
-    → AreFetched w.log.log.entries (f ∷ earlier) → key ≡ f.head.key → TellsTrueMark by w.log.log (HeldMsg key m)
+    → AreFetched w.log.log.entries (f ∷ earlier) → key ≡ f.head.key → ReportsTrueMark by w.log.log (HeldMsg key m)
     → IsFront by.service by.writing m (bytes_held w.log.log (HeldMsg key m)) (lengths_held w.log.log (HeldMsg key m))
     × AreFetched w.log.log.entries (with_front (bytes_held w.log.log (HeldMsg key m)) (lengths_held w.log.log (HeldMsg key m)) (f ∷ earlier))
     × AreBytes (bytes_held w.log.log (HeldMsg key m))
-held_leads by start w f earlier key m below starts s a same told =
+held_leads by start w f earlier key m below starts s a same reported =
     let log : Log = w.log.log in
     let e : Entry = a.0 in
     let Leads : List ℕ → List ℕ → Type 0 = λ bytes lengths. IsFront by.service by.writing m bytes lengths × AreFetched log.entries (with_front bytes lengths (f ∷ earlier)) × AreBytes bytes in
@@ -138,15 +138,15 @@ held_leads by start w f earlier key m below starts s a same told =
       inr (below.back e m written run),
       (e, a.1, record { head = a.2.head; bytes = take_first m.length e.bytes; lengths = take_first m.reads e.lengths }, a.3, a.4),
       bytes_take m.length e.bytes written,
-    )) told
+    )) reported
 
 leads_sound : {State : Type 0} (by : Marker State) (start : World) (w : MarkedWorld) (fetched : List Fetched) (awaits : Bool) (body : MarkBody) (m : Mark) → BelowLaw by → IsStart start → Sound by.service start (seen w)
-    → AreFetched w.log.log.entries fetched → TellsTrueMark by w.log.log body → mark_of_newest by.writing body fetched ≡ Some m
+    → AreFetched w.log.log.entries fetched → ReportsTrueMark by w.log.log body → mark_of_newest by.writing body fetched ≡ Some m
     → LeadsToSound by w.log.log body (record { entries = fetched; awaits_mark = awaits }) m
-leads_sound by start w (f ∷ earlier) awaits (HeldMsg key held) m below starts s a told got =
+leads_sound by start w (f ∷ earlier) awaits (HeldMsg key held) m below starts s a reported got =
     let parts = some_if (key_eq key f.head.key && mark_fits by.writing f.head held) (Some held) m got in
     let same : key ≡ f.head.key = same_key key f.head.key (and_parts (key_eq key f.head.key) (mark_fits by.writing f.head held) parts.0).0 in
-    let x = held_leads by start w f earlier key held below starts s a same told in
+    let x = held_leads by start w f earlier key held below starts s a same reported in
     let entries : AllByRecursion (IsSoundEntry by.service) w.log.log.entries = entries_sound by.service start (seen w) (s.joint, s.below) in
     subst (λ y. LeadsToSound by w.log.log (HeldMsg key held) (record { entries = f ∷ earlier; awaits_mark = awaits }) y) (some_is held m parts.1)
     (record {
@@ -155,23 +155,23 @@ leads_sound by start w (f ∷ earlier) awaits (HeldMsg key held) m below starts 
       whole = wholes_sound by.service w.log.log.entries (with_front (bytes_held w.log.log (HeldMsg key held)) (lengths_held w.log.log (HeldMsg key held)) (f ∷ earlier)) entries x.1;
       fronts = fronts_sound by.service w.log.log.entries (with_front (bytes_held w.log.log (HeldMsg key held)) (lengths_held w.log.log (HeldMsg key held)) (f ∷ earlier)) entries x.1;
     })
-leads_sound by start w [] awaits (HeldMsg key held) m below starts s a told got = none_is_some m got
-leads_sound by start w fetched awaits (MarkMsg key held) m below starts s a told got = none_is_some m got
-leads_sound by start w fetched awaits (MarkedMsg key reads) m below starts s a told got = none_is_some m got
-leads_sound by start w fetched awaits (AskMsg key) m below starts s a told got = none_is_some m got
+leads_sound by start w [] awaits (HeldMsg key held) m below starts s a reported got = none_is_some m got
+leads_sound by start w fetched awaits (MarkMsg key held) m below starts s a reported got = none_is_some m got
+leads_sound by start w fetched awaits (MarkedMsg key reads) m below starts s a reported got = none_is_some m got
+leads_sound by start w fetched awaits (AskMsg key) m below starts s a reported got = none_is_some m got
 
 mark_by : {State : Type 0} (by : Marker State) (start : World) (w : MarkedWorld) (node : MarkedNode) (message : MarkMessage) (stage : Stage) → BelowLaw by → IsStart start → Kept by start w → w.node ≡ Some node
-    → node.plain.stage ≡ stage → TellsTrueMark by w.log.log message.body → IsSoundMark by w.log.log node message stage
-mark_by by start w node message (Fetching count fetched) below starts k up is told =
+    → node.plain.stage ≡ stage → ReportsTrueMark by w.log.log message.body → IsSoundMark by w.log.log node message stage
+mark_by by start w node message (Fetching count fetched) below starts k up is reported =
     let asked_is = (k.sound.joint.asked.node node.plain (up_plain w node up) (ap is_restarting is)).fetched in
     let agrees : (count ≡ length w.log.log.entries) × AreFetched w.log.log.entries fetched = subst (StageAgrees w.log.log.entries) is asked_is in
     if_some (LeadsToSound by w.log.log message.body (so_far node fetched)) (mark_reported by.writing node.plain.boot message (so_far node fetched))
     (λ m e. let parts = some_if (message.boot == node.plain.boot && node.awaits_mark) (mark_of_newest by.writing message.body fetched) m e in
-    leads_sound by start w fetched node.awaits_mark message.body m below starts k.sound agrees.1 told parts.1)
-mark_by by start w node message Asking below starts k up is told = tt
-mark_by by start w node message (Serving opened places) below starts k up is told = tt
-mark_by by start w node message (Fenced newer) below starts k up is told = tt
+    leads_sound by start w fetched node.awaits_mark message.body m below starts k.sound agrees.1 reported parts.1)
+mark_by by start w node message Asking below starts k up is reported = tt
+mark_by by start w node message (Serving opened places) below starts k up is reported = tt
+mark_by by start w node message (Fenced newer) below starts k up is reported = tt
 
 pub marks_sound : {State : Type 0} (by : Marker State) (start : World) (w : MarkedWorld) (node : MarkedNode) (message : MarkMessage) → BelowLaw by → IsStart start → Kept by start w → w.node ≡ Some node
-    → TellsTrueMark by w.log.log message.body → IsSoundMark by w.log.log node message node.plain.stage
-marks_sound by start w node message below starts k up told = mark_by by start w node message node.plain.stage below starts k up refl told
+    → ReportsTrueMark by w.log.log message.body → IsSoundMark by w.log.log node message node.plain.stage
+marks_sound by start w node message below starts k up reported = mark_by by start w node message node.plain.stage below starts k up refl reported

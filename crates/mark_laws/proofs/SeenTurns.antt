@@ -34,9 +34,9 @@ use Rattle.mark_laws.specs.MarkedLog.AnyMessage.{Of_log}
 use Rattle.mark_laws.specs.Marking.{Marking, Outgoing, MarkedTurn, marking_answered, new_marks, without_marks}
 use Rattle.mark_laws.specs.Restart.{awaits_after, fetched_on, mark_question, log_question, or_else, mark_fits, mark_reported, mark_of_newest, begun_on}
 use Rattle.mark_laws.proofs.MarksSent.{without_out, without_plain}
-use Rattle.mark_laws.specs.MarkedNode.{Marker, MarkedNode, MarkedInput, Continues, FetchesMarked, HearsOfMark, InputTurn, MarkTurn, PlainTurn, RestsMarked, UnlessFenced, live_at, marking_fetched, marks_at, outgoing, so_far, with_marking}
+use Rattle.mark_laws.specs.MarkedNode.{Marker, MarkedNode, MarkedInput, Continues, FetchesMarked, ReceivesOfMark, InputTurn, MarkTurn, PlainTurn, RestsMarked, UnlessFenced, live_at, marking_fetched, marks_at, outgoing, so_far, with_marking}
 use Rattle.mark_laws.specs.MarkedNode.MarkedInput.{Plain_comes, Mark_comes}
-use Rattle.mark_laws.specs.MarkedWorld.{bytes_held, lengths_held, bytes_told, lengths_told}
+use Rattle.mark_laws.specs.MarkedWorld.{bytes_held, lengths_held, bytes_reported, lengths_reported}
 use Rattle.mark_laws.proofs.Strip.{only_marks, serves_plainly, stripped}
 use Rattle.mark_laws.proofs.Turns.{fits_stage, lawful_at}
 
@@ -54,13 +54,13 @@ rests_unseen service u node out later t = unseen (ap without_marks t.0) (ap (λ 
 -- Where a restart continues
 
 -- .. by a question of a server without marks, or because nothing is missing
-abbrev GoesOn : {State : Type 0} → Marker State → MarkedNode → ℕ → List Fetched → List Outgoing → MarkedNode → Type 0
-GoesOn by node count entries out later =
+abbrev Proceeds : {State : Type 0} → Marker State → MarkedNode → ℕ → List Fetched → List Outgoing → MarkedNode → Type 0
+Proceeds by node count entries out later =
     (stage : Stage) × (later.plain ≡ record node.plain { stage = stage }) × Fetches by.service node.plain count entries stage (without_marks out)
 
 log_goes : {State : Type 0} (by : Marker State) (node : MarkedNode) (count : ℕ) (entries : List Fetched) (awaits : Bool) (marking : Key → Marking) (out : List Outgoing) (later : MarkedNode) (w : Option Wanted) → wanted count entries ≡ w
     → Continues by node count (record { entries = entries; awaits_mark = awaits }) marking (option_map (λ x. Of_log (record { boot = node.plain.boot; body = question x })) w) out later
-    → GoesOn by node count entries out later
+    → Proceeds by node count entries out later
 log_goes by node count entries awaits marking out later (Some w) e t = (
   Fetching count entries,
   ap (λ (n : MarkedNode). n.plain) t.1,
@@ -78,7 +78,7 @@ abbrev AsksMark : MarkedNode → ℕ → List Fetched → List Outgoing → Mark
 AsksMark node count entries out later = (without_marks out ≡ []) × (later.plain ≡ record node.plain { stage = Fetching count entries })
 
 goes : {State : Type 0} (by : Marker State) (node : MarkedNode) (count : ℕ) (entries : List Fetched) (awaits : Bool) (marking : Key → Marking) (out : List Outgoing) (later : MarkedNode)
-    → FetchesMarked by node count (record { entries = entries; awaits_mark = awaits }) marking out later → AsksMark node count entries out later ⊎ GoesOn by node count entries out later
+    → FetchesMarked by node count (record { entries = entries; awaits_mark = awaits }) marking out later → AsksMark node count entries out later ⊎ Proceeds by node count entries out later
 goes by node count (f ∷ earlier) true marking out later t = inl (ap without_marks t.0, ap (λ (n : MarkedNode). n.plain) t.1)
 goes by node count [] true marking out later t = inr (log_goes by node count [] true marking out later (wanted count []) refl t)
 goes by node count entries false marking out later t = inr (log_goes by node count entries false marking out later (wanted count entries) refl t)
@@ -174,7 +174,7 @@ newest_seen by u node count (f ∷ earlier) (HeldMsg key held) m marking out lat
     let now : List Fetched = record f { bytes = bytes; lengths = lengths } ∷ earlier in
     let of_bytes : IsPrefix bytes e.bytes = subst (λ (o : Option Entry). IsPrefix (option_map_or (bytes_below held) o []) e.bytes) (sym found) (take_first held.length e.bytes) in
     let of_lengths : IsPrefix lengths e.lengths = subst (λ (o : Option Entry). IsPrefix (option_map_or (lengths_below held) o []) e.lengths) (sym found) (take_first held.reads e.lengths) in
-    let g : GoesOn by node count now out later = log_goes by node count now false marking out later (wanted count now) refl t in
+    let g : Proceeds by node count now out later = log_goes by node count now false marking out later (wanted count now) refl t in
     from_mark count now g.0 agrees.0 (e, agrees.1.1, record { head = agrees.1.2.head; bytes = of_bytes; lengths = of_lengths }, agrees.1.3, agrees.1.4) g.2 g.1
 newest_seen by u node count [] (HeldMsg key held) m marking out later s is got t = none_is_some m got
 newest_seen by u node count fetched (MarkMsg key held) m marking out later s is got t = none_is_some m got
@@ -202,19 +202,19 @@ answered_seen by u node reads (Some (Opens n timestamping)) out later t = rests_
 answered_seen by u node reads (Some (Ended k)) out later t = rests_unseen by.service u node out later t
 answered_seen by u node reads None out later t = rests_unseen by.service u node out later t
 
-hears_seen : {State : Type 0} (by : Marker State) (u : World) (node : MarkedNode) (places : List Place) (body : MarkBody) (b : Bool) (out : List Outgoing) (later : MarkedNode)
-    → MatchBool b (HearsOfMark by node places body out later) (RestsMarked node out later) → SeenTurn by.service u node.plain (without_marks out) later.plain
-hears_seen by u node places (MarkedMsg key reads) true out later t = answered_seen by u node reads (place_at key places) out later t
-hears_seen by u node places (MarkMsg key m) true out later t = rests_unseen by.service u node out later t
-hears_seen by u node places (AskMsg key) true out later t = rests_unseen by.service u node out later t
-hears_seen by u node places (HeldMsg key m) true out later t = rests_unseen by.service u node out later t
-hears_seen by u node places body false out later t = rests_unseen by.service u node out later t
+receives_seen : {State : Type 0} (by : Marker State) (u : World) (node : MarkedNode) (places : List Place) (body : MarkBody) (b : Bool) (out : List Outgoing) (later : MarkedNode)
+    → MatchBool b (ReceivesOfMark by node places body out later) (RestsMarked node out later) → SeenTurn by.service u node.plain (without_marks out) later.plain
+receives_seen by u node places (MarkedMsg key reads) true out later t = answered_seen by u node reads (place_at key places) out later t
+receives_seen by u node places (MarkMsg key m) true out later t = rests_unseen by.service u node out later t
+receives_seen by u node places (AskMsg key) true out later t = rests_unseen by.service u node out later t
+receives_seen by u node places (HeldMsg key m) true out later t = rests_unseen by.service u node out later t
+receives_seen by u node places body false out later t = rests_unseen by.service u node out later t
 
 mark_seen : {State : Type 0} (by : Marker State) (u : World) (node : MarkedNode) (stage : Stage) (message : MarkMessage) (out : List Outgoing) (later : MarkedNode) → Stands by u node → node.plain.stage ≡ stage
     → MarkTurn by (bytes_held u.log message.body) (lengths_held u.log message.body) node stage message out later → SeenTurn by.service u node.plain (without_marks out) later.plain
 mark_seen by u node (Fetching count fetched) message out later s is t =
     reported_seen by u node count fetched message (mark_reported by.writing node.plain.boot message (so_far node fetched)) out later s is refl t
-mark_seen by u node (Serving opened places) message out later s is t = hears_seen by u node places message.body (message.boot == node.plain.boot) out later t
+mark_seen by u node (Serving opened places) message out later s is t = receives_seen by u node places message.body (message.boot == node.plain.boot) out later t
 mark_seen by u node Asking message out later s is t = rests_unseen by.service u node out later t
 mark_seen by u node (Fenced newer) message out later s is t = rests_unseen by.service u node out later t
 
@@ -224,6 +224,6 @@ BringsPlain u (Plain_comes input) = IsBrought u input
 BringsPlain u (Mark_comes message) = Unit {0}
 
 pub turn_seen : {State : Type 0} (by : Marker State) (u : World) (node : MarkedNode) (input : MarkedInput) (out : List Outgoing) (later : MarkedNode) → Stands by u node → BringsPlain u input
-    → InputTurn by (bytes_told u.log input) (lengths_told u.log input) node input out later → SeenTurn by.service u node.plain (without_marks out) later.plain
+    → InputTurn by (bytes_reported u.log input) (lengths_reported u.log input) node input out later → SeenTurn by.service u node.plain (without_marks out) later.plain
 turn_seen by u node (Plain_comes input) out later s brought t = fence_seen by u node input (fence node.plain input) out later s brought refl t
 turn_seen by u node (Mark_comes message) out later s brought t = mark_seen by u node node.plain.stage message out later s refl t

@@ -17,21 +17,21 @@ use Rattle.ft_model.specs.Node.{Node}
 use Rattle.ft_model.specs.World.{World, IsStart}
 use Rattle.ft_model.proofs.Acknowledged.{acknowledged_moment, short_scripts}
 use Rattle.ft_model.proofs.Backed.{logged_output}
-use Rattle.ft_model.proofs.Cuttable.{cut_goes_on}
+use Rattle.ft_model.proofs.Cuttable.{cut_proceeds}
 use Rattle.ft_model.proofs.Exact.{exact_moment, same_exact}
 use Rattle.ft_model.proofs.FaithfulOver.{script_of, isn_of}
 use Rattle.ft_model.proofs.Happened.{Happened, IsUnderWay, answers}
-use Rattle.ft_model.proofs.Happened.Happened.{log_heard}
-use Rattle.ft_model.proofs.JointMasked.{sound_goes_on}
-use Rattle.ft_model.proofs.Resets.{knowing_goes_on}
+use Rattle.ft_model.proofs.Happened.Happened.{log_received}
+use Rattle.ft_model.proofs.JointMasked.{sound_proceeds}
+use Rattle.ft_model.proofs.Resets.{knowing_proceeds}
 use Rattle.ft_model.proofs.Running.{HasSmallOutputs}
-use Rattle.ft_model.proofs.ToldLast.{IsSilentTo, silent_append}
-use Rattle.ft_model.proofs.ToldOver.{telling_goes_on, answers_silent}
-use Rattle.ft_model.proofs.Unfenced.{unfenced_goes_on}
-use Rattle.trace_laws.proofs.FinsBelow.{below_goes_on}
-use Rattle.trace_laws.proofs.Near.{near_goes_on}
+use Rattle.ft_model.proofs.ReportedLast.{IsSilentTo, silent_append}
+use Rattle.ft_model.proofs.ReportedOver.{reporting_proceeds, answers_silent}
+use Rattle.ft_model.proofs.Unfenced.{unfenced_proceeds}
+use Rattle.trace_laws.proofs.FinsBelow.{below_proceeds}
+use Rattle.trace_laws.proofs.Near.{near_proceeds}
 use Rattle.mark_laws.specs.MarkedLog.{acknowledging}
-use Rattle.mark_laws.proofs.Own.{owns_goes_on}
+use Rattle.mark_laws.proofs.Own.{owns_proceeds}
 use Rattle.mark_laws.proofs.Packets.{Sound, MayStand, with_packets, fewer, more}
 
 -- after a step all that is kept true still is, what is sent acknowledges what is logged, and a restart that ends is exact
@@ -45,14 +45,14 @@ pub went : {State : Type 0} (service : Machine State) → HasSmallOutputs servic
     → IsStart start → Sound service start before → Happened service before sent after → Stepped service start before sent after
 went service small start before sent after starts s h = record {
   sound = record {
-    joint = sound_goes_on service small start before sent after starts s.joint h;
-    telling = telling_goes_on service before sent after s.joint.asked s.joint.distinct s.telling h;
-    below = below_goes_on service (script_of start) (isn_of start) before sent after (short_scripts start starts) s.joint.asked s.joint.faithful s.below h;
-    near = near_goes_on service start before sent after s.joint s.near h;
-    unfenced = unfenced_goes_on service before sent after s.joint.fenced s.unfenced h;
-    owns = owns_goes_on service start before sent after s.joint s.near s.owns h;
-    knows = knowing_goes_on service start before sent after s.joint s.knows h;
-    cut = cut_goes_on service before sent after s.cut h;
+    joint = sound_proceeds service small start before sent after starts s.joint h;
+    reporting = reporting_proceeds service before sent after s.joint.asked s.joint.distinct s.reporting h;
+    below = below_proceeds service (script_of start) (isn_of start) before sent after (short_scripts start starts) s.joint.asked s.joint.faithful s.below h;
+    near = near_proceeds service start before sent after s.joint s.near h;
+    unfenced = unfenced_proceeds service before sent after s.joint.fenced s.unfenced h;
+    owns = owns_proceeds service start before sent after s.joint s.near s.owns h;
+    knows = knowing_proceeds service start before sent after s.joint s.knows h;
+    cut = cut_proceeds service before sent after s.cut h;
   };
   acknowledged = acknowledged_moment service start before sent after starts ((s.joint.fenced, s.joint.asked), s.joint.faithful) h;
   restart = exact_moment service before sent after (s.joint.fenced, s.joint.asked) h;
@@ -140,11 +140,11 @@ pub raised : {State : Type 0} (service : Machine State) → HasSmallOutputs serv
 raised service small start w key units starts s above backed =
     let message : Message = record { boot = w.log.boot; body = DataMsg (no_bytes key 0 units) } in
     let empty : Packet = To_logger message in
-    let told : World = with_packets w (w.packets ++ empty ∷ []) in
-    let after : World = record told { log = log_after w.log message; packets = told.packets ++ answers w.log message } in
-    let step : Stepped service start told (answers w.log message) after =
-    went service small start told (answers w.log message) after starts (more service start w empty s (data_stands service start w key 0 units s above backed))
-    (log_heard message (last_under_way w empty) refl refl) in
+    let reported : World = with_packets w (w.packets ++ empty ∷ []) in
+    let after : World = record reported { log = log_after w.log message; packets = reported.packets ++ answers w.log message } in
+    let step : Stepped service start reported (answers w.log message) after =
+    went service small start reported (answers w.log message) after starts (more service start w empty s (data_stands service start w key 0 units s above backed))
+    (log_received message (last_under_way w empty) refl refl) in
     let packets : after.packets ≡ w.packets ++ ((empty ∷ answers w.log message) ++ []) =
     append_assoc w.packets (empty ∷ []) (answers w.log message) ∙ ap (λ l. w.packets ++ l) (sym (append-nil (empty ∷ answers w.log message))) in
     let less : Sound service start (with_packets after (w.packets ++ [])) =
@@ -156,10 +156,10 @@ raised service small start w key units starts s above backed =
     record { sound = subst (Sound service start) is less; acknowledged = tt; restart = same_exact service (with_entry key (acknowledging units) w.log) w.node }
 
 -- the log says that an older boot is stale
-pub stale_told : {State : Type 0} (service : Machine State) (start w : World) (boot : ℕ) → Sound service start w → boot < w.log.boot
+pub stale_reported : {State : Type 0} (service : Machine State) (start w : World) (boot : ℕ) → Sound service start w → boot < w.log.boot
     → let packet : Packet = From_logger (record { boot = boot; body = StaleMsg w.log.boot }) in
     Stepped service start w (packet ∷ []) (with_packets w (w.packets ++ packet ∷ []))
-stale_told service start w boot s older =
+stale_reported service start w boot s older =
     let packet : Packet = From_logger (record { boot = boot; body = StaleMsg w.log.boot }) in
     let low = s.joint.fenced.log in
     record {

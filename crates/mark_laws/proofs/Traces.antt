@@ -17,7 +17,7 @@ use Rattle.ft_model.specs.Network.{Packet, destination_of}
 use Rattle.ft_model.specs.Network.Packet.{To_server, To_client, To_logger, From_logger}
 use Rattle.ft_model.specs.Node.{booted}
 use Rattle.ft_model.specs.Node.Input.{Packet_comes, Message_comes, Noise_comes, Tick_comes}
-use Rattle.ft_model.specs.World.{World, Moment, ClientHears, ClientReads, Happens, world_after}
+use Rattle.ft_model.specs.World.{World, Moment, ClientReceives, ClientReads, Happens, world_after}
 use Rattle.ft_model.specs.declared.event.Event.{Event}
 use Rattle.ft_model.specs.declared.event.Event.TheVariants.{Boot, Crash, Tick, Deliver, Flip}
 use Rattle.ft_model.proofs.Authored.{logged_run}
@@ -30,7 +30,7 @@ use Rattle.ft_model.proofs.Cuttable.{AreCut}
 use Rattle.ft_model.proofs.Resets.{start_knowing}
 use Rattle.ft_model.proofs.Running.{HasSmallOutputs}
 use Rattle.ft_model.proofs.Seen.{IsSeen}
-use Rattle.ft_model.proofs.ToldOver.{node_told}
+use Rattle.ft_model.proofs.ReportedOver.{node_reported}
 use Rattle.ft_model.proofs.Unfenced.{start_unfenced}
 use Rattle.ft_model.proofs.Happened.{segment_is_noise}
 use Rattle.trace_laws.proofs.FinsBelow.{start_below}
@@ -58,7 +58,7 @@ comes_steps by start before number (Usual (To_server segment)) sent after g k at
     server_steps by start before (Plain_comes (Packet_comes segment)) sent after g k (under_way before number (To_server segment) at) t
 comes_steps by start before number (Usual (To_client segment)) sent after g k at t =
     let u = under_way before number (To_client segment) at in
-    elsewhere_steps by start (ClientHears (destination_of segment) segment) before sent after g k
+    elsewhere_steps by start (ClientReceives (destination_of segment) segment) before sent after g k
     (λ packets later h. happens_steps by start (seen before) (Deliver u.0) packets later g k.sound (To_client segment, u.1, h)) t
 comes_steps by start before number (Usual (To_logger message)) sent after g k at t = plain_steps by start before message sent after g k (under_way before number (To_logger message) at) t
 comes_steps by start before number (Usual (From_logger message)) sent after g k at t =
@@ -178,7 +178,7 @@ start_of_joint by first (moment ∷ earlier) j = start_of_joint by first earlier
 
 start_kept : {State : Type 0} (by : Marker State) (first : MarkedWorld) → HasSmallOutputs by.service → IsMarkedStart first → Kept by (seen first) first
 start_kept by first small s = record {
-  sound = record { joint = start_sound by.service small (seen first) s.start; telling = λ n e. none_is_some n (sym s.start.node ∙ e); below = start_below (script_of (seen first)) (seen first) s.start; near = start_near (isn_of (seen first)) (seen first) s.start; unfenced = start_unfenced (seen first) s.start; owns = start_owns (seen first) s.start; knows = start_knowing (seen first) s.start; cut = subst AreCut (sym s.start.log) tt };
+  sound = record { joint = start_sound by.service small (seen first) s.start; reporting = λ n e. none_is_some n (sym s.start.node ∙ e); below = start_below (script_of (seen first)) (seen first) s.start; near = start_near (isn_of (seen first)) (seen first) s.start; unfenced = start_unfenced (seen first) s.start; owns = start_owns (seen first) s.start; knows = start_knowing (seen first) s.start; cut = subst AreCut (sym s.start.log) tt };
   marks = record {
     under_way = subst (AllByRecursion (HasTrueMark by first.log.log)) (sym s.parcels) tt;
     kept = λ key. subst (λ l. IsTrueOrNone by l.log key (l.marks key)) (sym s.log) (inl refl);
@@ -219,7 +219,7 @@ masked_moment service start before moment s = record {
   clients = sees_front service start moment.world s.sound;
   acknowledged = s.acknowledged;
   restart = s.restart;
-  told = node_told moment.world.packets moment.world.node s.sound.telling;
+  reported = node_reported moment.world.packets moment.world.node s.sound.reporting;
 }
 
 world_seen : (first : MarkedWorld) (trace : List MarkedMoment) → world_after (seen first) (plain_trace trace) ≡ seen (marked_after first trace)

@@ -33,19 +33,19 @@ use Rattle.ft_model.proofs.Lists.{all_append, all_map, all_of, all_weaker, all_b
 use Rattle.ft_model.proofs.AuthorTurns.{all_split}
 use Rattle.mark_laws.specs.MarkedLog.{AnyMessage}
 use Rattle.mark_laws.specs.MarkedLog.AnyMessage.{Of_log}
-use Rattle.mark_laws.specs.Marking.{Marking, Outgoing, outstanding_in, with_new, marks_out, with_marks, marks_sent, marking_answered, MarkedTurn, AreTrue, TellsTruth}
+use Rattle.mark_laws.specs.Marking.{Marking, Outgoing, outstanding_in, with_new, marks_out, with_marks, marks_sent, marking_answered, MarkedTurn, AreTrue, ReportsTruth}
 use Rattle.mark_laws.specs.Marking.Outgoing.{Plain, Mark_to_logger}
 use Rattle.mark_laws.specs.Restart.{FetchedSoFar, mark_question, log_question, or_else, next_question, fetched_on, mark_reported, begun_on}
 use Rattle.mark_laws.specs.Runs.{IsRunOf}
-use Rattle.mark_laws.specs.MarkedNode.{Marker, MarkedNode, MarkedInput, GoesMarked, AllGoMarked, ServesMarked, RestsMarked, Continues, FetchesMarked, PlainTurn, UnlessFenced, MarkTurn, HearsOfMark, InputTurn, with_stage, with_marking, marks_at, marking_then, is_tick_input, outgoing, so_far, live_at, marking_fetched}
+use Rattle.mark_laws.specs.MarkedNode.{Marker, MarkedNode, MarkedInput, GoesMarked, AllGoMarked, ServesMarked, RestsMarked, Continues, FetchesMarked, PlainTurn, UnlessFenced, MarkTurn, ReceivesOfMark, InputTurn, with_stage, with_marking, marks_at, marking_then, is_tick_input, outgoing, so_far, live_at, marking_fetched}
 use Rattle.mark_laws.specs.MarkedNode.MarkedInput.{Plain_comes, Mark_comes}
-use Rattle.mark_laws.specs.TrueMarks.{IsTrueMark, TellsTrueMark}
+use Rattle.mark_laws.specs.TrueMarks.{IsTrueMark, ReportsTrueMark}
 use Rattle.mark_laws.proofs.Packets.{Sound}
 
 -- the laws on marks that this uses: a mark that goes out is true, and stays true
 pub record MarkLaws {State : Type 0} (by : Marker State) : Type 0 where
-  pub tells : (news : News) (script : List ℕ) (m : Marking) (q : Point) (e : Entry) → IsPrefix q.taken script → sum q.lengths ≤ length q.taken → IsPrefix e.bytes script → sum e.lengths ≤ length e.bytes
-      → IsPrefix e.lengths q.lengths → q.reads_answered ≤ length e.lengths → AreTrue by.service by.writing e (outstanding_in m) → TellsTruth by.service by.writing by.every news m q e
+  pub reports : (news : News) (script : List ℕ) (m : Marking) (q : Point) (e : Entry) → IsPrefix q.taken script → sum q.lengths ≤ length q.taken → IsPrefix e.bytes script → sum e.lengths ≤ length e.bytes
+      → IsPrefix e.lengths q.lengths → q.reads_answered ≤ length e.lengths → AreTrue by.service by.writing e (outstanding_in m) → ReportsTruth by.service by.writing by.every news m q e
   pub stays : (before after : Entry) (m : Mark) → EntryGrows before after → IsRunOf by.service by.writing before m → IsRunOf by.service by.writing after m
 
 -- true marks of a key
@@ -77,8 +77,8 @@ point_true by start w news m q laws s fits runs held =
     let same : e.key ≡ q.key = same_key e.key q.key (found_passes (λ x. key_eq x.key q.key) w.log.entries e found) in
     let of_author : EntryOf s.joint.author.author e = all_find (EntryOf s.joint.author.author) (λ x. key_eq x.key q.key) w.log.entries e s.joint.author.entries found in
     let front : IsPrefix e.lengths q.lengths = subst (λ l. IsPrefix e.lengths l) (ap s.joint.author.author same ∙ runs.0) of_author.0 in
-    let truth : TellsTruth by.service by.writing by.every news m q e =
-    laws.tells news (script_of start q.key) m q e fits.0.fronts.front runs.1.enough entry.0.front of_author.1 front fits.1.reads (of_entry by w.log q.key e (outstanding_in m) found held) in
+    let truth : ReportsTruth by.service by.writing by.every news m q e =
+    laws.reports news (script_of start q.key) m q e fits.0.fronts.front runs.1.enough entry.0.front of_author.1 front fits.1.reads (of_entry by w.log q.key e (outstanding_in m) found held) in
     (of_key by w.log q.key e _ found truth.sent, of_key by w.log q.key e _ found truth.outstanding)
 
 -- What goes out
@@ -86,7 +86,7 @@ point_true by start w news m q laws s fits runs held =
 -- a mark that goes out is of this boot, and true
 abbrev pub OutIsTrue : {State : Type 0} → Marker State → (boot : ℕ) → Log → Outgoing → Type 0
 OutIsTrue by boot log (Plain packet) = Unit {0}
-OutIsTrue by boot log (Mark_to_logger message) = (message.boot ≡ boot) × TellsTrueMark by log message.body
+OutIsTrue by boot log (Mark_to_logger message) = (message.boot ≡ boot) × ReportsTrueMark by log message.body
 
 abbrev pub is_mark : MarkBody → Bool
 is_mark (MarkMsg key m) = true
@@ -301,15 +301,15 @@ answered_true by start w node later opened reads key places (Some (Opens n times
 answered_true by start w node later opened reads key places (Some (Ended k)) out laws s up held is found t = rests_true by w.log node later out held t
 answered_true by start w node later opened reads key places None out laws s up held is found t = rests_true by w.log node later out held t
 
-hears_true : {State : Type 0} (by : Marker State) (start w : World) (node later : MarkedNode) (opened : ℕ) (places : List Place) (body : MarkBody) (b : Bool) (out : List Outgoing)
+receives_true : {State : Type 0} (by : Marker State) (start w : World) (node later : MarkedNode) (opened : ℕ) (places : List Place) (body : MarkBody) (b : Bool) (out : List Outgoing)
     → MarkLaws by → Sound by.service start w → w.node ≡ Some later.plain → OutstandingTrue by w.log node.marking → node.plain.stage ≡ Serving opened places
-    → MatchBool b (HearsOfMark by node places body out later) (RestsMarked node out later) → OutGoesTrue by node w.log out later
-hears_true by start w node later opened places (MarkedMsg key reads) true out laws s up held is t =
+    → MatchBool b (ReceivesOfMark by node places body out later) (RestsMarked node out later) → OutGoesTrue by node w.log out later
+receives_true by start w node later opened places (MarkedMsg key reads) true out laws s up held is t =
     answered_true by start w node later opened reads key places (place_at key places) out laws s up held is refl t
-hears_true by start w node later opened places (MarkMsg key m) true out laws s up held is t = rests_true by w.log node later out held t
-hears_true by start w node later opened places (AskMsg key) true out laws s up held is t = rests_true by w.log node later out held t
-hears_true by start w node later opened places (HeldMsg key m) true out laws s up held is t = rests_true by w.log node later out held t
-hears_true by start w node later opened places body false out laws s up held is t = rests_true by w.log node later out held t
+receives_true by start w node later opened places (MarkMsg key m) true out laws s up held is t = rests_true by w.log node later out held t
+receives_true by start w node later opened places (AskMsg key) true out laws s up held is t = rests_true by w.log node later out held t
+receives_true by start w node later opened places (HeldMsg key m) true out laws s up held is t = rests_true by w.log node later out held t
+receives_true by start w node later opened places body false out laws s up held is t = rests_true by w.log node later out held t
 
 reported_true : {State : Type 0} (by : Marker State) (start w : World) (node later : MarkedNode) (count : ℕ) (fetched : List Fetched) (body : MarkBody) (bytes lengths : List ℕ) (o : Option Mark) (out : List Outgoing)
     → MarkLaws by → Sound by.service start w → w.node ≡ Some later.plain → OutstandingTrue by w.log node.marking
@@ -325,7 +325,7 @@ mark_turn_true : {State : Type 0} (by : Marker State) (start w : World) (node la
 mark_turn_true by start w node later bytes lengths (Fetching count fetched) message out laws s up held is t =
     reported_true by start w node later count fetched message.body bytes lengths (mark_reported by.writing node.plain.boot message (so_far node fetched)) out laws s up held t
 mark_turn_true by start w node later bytes lengths (Serving opened places) message out laws s up held is t =
-    hears_true by start w node later opened places message.body (message.boot == node.plain.boot) out laws s up held is t
+    receives_true by start w node later opened places message.body (message.boot == node.plain.boot) out laws s up held is t
 mark_turn_true by start w node later bytes lengths Asking message out laws s up held is t = rests_true by w.log node later out held t
 mark_turn_true by start w node later bytes lengths (Fenced newer) message out laws s up held is t = rests_true by w.log node later out held t
 

@@ -125,22 +125,22 @@ tick_steps by start u node count fetched false out later at is awaits sent same 
     }
 
 -- what is fetched leads on
-pub record GoesOn {State : Type 0} (service : Machine State) (node : Node) (count : ℕ) (now : List Fetched) (out : List Outgoing) (later : MarkedNode) : Type 0 where
+pub record Proceeds {State : Type 0} (service : Machine State) (node : Node) (count : ℕ) (now : List Fetched) (out : List Outgoing) (later : MarkedNode) : Type 0 where
   pub stage : Stage
   pub plain : later.plain ≡ record node { stage = stage }
   pub fetches : Fetches service node count now stage (without_marks out)
   pub awaits : later.awaits_mark ≡ false
 
-pub goes_on : {State : Type 0} (by : Marker State) (node : MarkedNode) (count : ℕ) (now : List Fetched) (marking : Key → Marking) (out : List Outgoing) (later : MarkedNode) (w : Option Wanted) → wanted count now ≡ w
+pub proceeds : {State : Type 0} (by : Marker State) (node : MarkedNode) (count : ℕ) (now : List Fetched) (marking : Key → Marking) (out : List Outgoing) (later : MarkedNode) (w : Option Wanted) → wanted count now ≡ w
     → Continues by node count (record { entries = now; awaits_mark = false }) marking (option_map (λ x. Of_log (record { boot = node.plain.boot; body = question x })) w) out later
-    → GoesOn by.service node.plain count now out later
-goes_on by node count now marking out later (Some w) e t = record {
+    → Proceeds by.service node.plain count now out later
+proceeds by node count now marking out later (Some w) e t = record {
   stage = Fetching count now;
   plain = ap (λ (n : MarkedNode). n.plain) t.1;
   fetches = subst (λ o. PlainContinues by.service node.plain count now o (Fetching count now) (without_marks out)) (sym e) (refl, ap without_marks t.0);
   awaits = ap (λ (n : MarkedNode). n.awaits_mark) t.1;
 }
-goes_on by node count now marking out later None e t = record {
+proceeds by node count now marking out later None e t = record {
   stage = Serving (restored_count now) t.0;
   plain = ap (λ (n : MarkedNode). n.plain) t.2;
   fetches = subst (λ o. PlainContinues by.service node.plain count now o (Serving (restored_count now) t.0) (without_marks out)) (sym e)
@@ -203,7 +203,7 @@ got_steps : {State : Type 0} (by : Marker State) (start u : World) (node : Marke
     → Continues by node count (record { entries = now; awaits_mark = b }) marking (or_else (if b then mark_question node.plain.boot now else None) (log_question node.plain.boot count now)) out later
     → TurnSteps by start u out later
 got_steps by start u node count fetched now message body false marking out later at brought no_fence is got fits awaits t =
-    let g : GoesOn by.service node.plain count now out later = goes_on by node count now marking out later (wanted count now) refl t in
+    let g : Proceeds by.service node.plain count now out later = proceeds by node count now marking out later (wanted count now) refl t in
     record {
       stepped = subst (λ n. Stepped by.service start u (without_marks out) (turned u n (without_marks out))) (sym g.plain)
           (plain_turn by start u node (Message_comes message) (without_marks out) (record node.plain { stage = g.stage }) at brought

@@ -307,7 +307,7 @@ happens_10 = (Usual path.packet_7, refl, (run.marks_none (path.node_live path.op
 
 happens_11 : Happens (run.without path.moment_10.world) (run.plainly path.moment_11)
 unfolding laws answer_above answer_to_mark after_mark IsLe
-happens_11 = (path.packet_8 ∷ [], refl, record { client = path.open_client; segment = segment_in path.packet_8; later = path.told_client; is_there = refl; move = record { move = Text 0 5; window = 65535; may = refl; fits = refl; timestamps = None; carries = refl; segment_is = refl; after_is = refl }; sent_is = refl; after_is = refl }, refl)
+happens_11 = (path.packet_8 ∷ [], refl, record { client = path.open_client; segment = segment_in path.packet_8; later = path.reported_client; is_there = refl; move = record { move = Text 0 5; window = 65535; may = refl; fits = refl; timestamps = None; carries = refl; segment_is = refl; after_is = refl }; sent_is = refl; after_is = refl }, refl)
 
 happens_12 : Happens (run.without path.moment_11.world) (run.plainly path.moment_12)
 unfolding laws answer_above answer_to_mark after_mark IsLe

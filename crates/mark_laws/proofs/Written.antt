@@ -32,7 +32,7 @@ use Rattle.ft_model.specs.Node.Input.{Packet_comes, Message_comes, Noise_comes, 
 use Rattle.ft_model.specs.Readable.{FitsKey}
 use Rattle.tcp_rules.specs.Profile.{grammar_of}
 use Rattle.ft_model.specs.Wire.{HasWireBy}
-use Rattle.ft_model.specs.World.{World, ClientHears, ClientReads, Happens}
+use Rattle.ft_model.specs.World.{World, ClientReceives, ClientReads, Happens}
 use Rattle.ft_model.specs.declared.event.Event.{Event}
 use Rattle.ft_model.specs.declared.event.Event.TheVariants.{Boot, Crash, Tick, Deliver, Flip}
 use Rattle.ft_model.proofs.Asked.{StageAgrees}
@@ -42,30 +42,30 @@ use Rattle.ft_model.proofs.Faithful.{units_within}
 use Rattle.ft_model.proofs.FaithfulOver.{script_of, isn_of}
 use Rattle.ft_model.specs.FetchedFronts.{AreFetched}
 use Rattle.ft_model.proofs.Formed.{IsBoot, PacketFormed, StartFormed, NodeFormed, WorldFormed, bytes_cut}
-use Rattle.ft_model.proofs.FormedLog.{EntryTells, entries_tell}
+use Rattle.ft_model.proofs.FormedLog.{EntryReports, entries_report}
 use Rattle.ft_model.proofs.FormedOver.{Knows, newest_formed}
 use Rattle.ft_model.proofs.FormedWorld.{entries_acked, moment_formed, packet_acked, start_formed, world_start, all_behind}
 use Rattle.ft_model.proofs.Happened.{IsUnderWay, answers, segment_is_noise}
-use Rattle.ft_model.proofs.Happened.Happened.{log_heard}
+use Rattle.ft_model.proofs.Happened.Happened.{log_received}
 use Rattle.ft_model.proofs.Lists.{all_append, all_both, all_find, all_map, all_of, found_passes, none_is_some, prefix_trans, same_key, some_is, take_first}
-use Rattle.ft_model.proofs.Services.{more_bytes, prefix_length, reads_go_on}
+use Rattle.ft_model.proofs.Services.{more_bytes, prefix_length, reads_proceed}
 use Rattle.ft_model.proofs.Wires.{has_size, is_low, packet_wire}
-use Rattle.mark_laws.specs.MarkedLog.{MarkedLog, AnyMessage, about_mark, after_mark, after_message, answer_above, answer_to_mark, is_mark_answer, keeps, no_mark, told_of_mark, with_mark, with_mark_body}
+use Rattle.mark_laws.specs.MarkedLog.{MarkedLog, AnyMessage, about_mark, after_mark, after_message, answer_above, answer_to_mark, is_mark_answer, keeps, no_mark, reported_of_mark, with_mark, with_mark_body}
 use Rattle.mark_laws.specs.MarkedLog.AnyMessage.{About_mark, Of_log}
 use Rattle.mark_laws.specs.Marking.{Outgoing, without_marks}
 use Rattle.mark_laws.specs.Marking.Outgoing.{Plain, Mark_to_logger}
 use Rattle.mark_laws.specs.Runs.{IsRunOf}
 use Rattle.mark_laws.specs.MarkedNode.{Marker, MarkedNode, MarkedInput, LawfulMarkedTurn, booted_to_mark}
 use Rattle.mark_laws.specs.MarkedNode.MarkedInput.{Plain_comes, Mark_comes}
-use Rattle.mark_laws.specs.MarkedWorld.{Parcel, MarkedWorld, MarkedMoment, CanBeRead, Elsewhere, FlippedTo, IsMarkedStart, LogHears, LogReads, MarkedHappens, MarkedJoint, ParcelComes, ServerMoves, ServerTurn, answered_as, bytes_told, input_of, lengths_told, marked_after, parcel_at, parcel_of, seen, usual}
+use Rattle.mark_laws.specs.MarkedWorld.{Parcel, MarkedWorld, MarkedMoment, CanBeRead, Elsewhere, FlippedTo, IsMarkedStart, LogReceives, LogReads, MarkedHappens, MarkedJoint, ParcelComes, ServerMoves, ServerTurn, answered_as, bytes_reported, input_of, lengths_reported, marked_after, parcel_at, parcel_of, seen, usual}
 use Rattle.mark_laws.specs.MarkedWorld.Parcel.{Usual, Mark_sent, Mark_answered}
-use Rattle.mark_laws.specs.TrueMarks.{HasTrueMark, IsTrueMark, IsTrueOrNone, TellsTrueMark}
+use Rattle.mark_laws.specs.TrueMarks.{HasTrueMark, IsTrueMark, IsTrueOrNone, ReportsTrueMark}
 use Rattle.mark_laws.proofs.MarkSteps.{Kept, Grounds, of_parcel, under_way, up_plain}
 use Rattle.mark_laws.proofs.Noise.{mark_noise, message_noise}
 use Rattle.mark_laws.proofs.Strip.{usual_out}
 use Rattle.mark_laws.proofs.Traces.{kept_after}
 use Rattle.mark_laws.proofs.Counted.{AllCount, BodyCounts, Counts, IsNewest, OutCounts, TurnCounts, turn_counts}
-use Rattle.mark_laws.proofs.Formed.{above_formed, happens_formed, log_of, marked_formed, next_formed_world, told_formed, turned_formed}
+use Rattle.mark_laws.proofs.Formed.{above_formed, happens_formed, log_of, marked_formed, next_formed_world, reported_formed, turned_formed}
 use Rattle.mark_laws.proofs.SeenTurns.{BringsPlain, Stands, turn_seen}
 
 -- A message about marks is well formed: its boot number and its key fit, and its mark is there for a reason
@@ -97,7 +97,7 @@ usual_formed every packets = all_map (ParcelFormed every) Usual packets (all_of 
 
 -- the answers of the log
 answer_formed : (every boot : ℕ) (l : MarkedLog) (body : MarkBody) → IsBoot boot → BodyFormed every body → AreMarks every l → ((key : Key) → (l.marks key).reads ≤ 2 ^ 24 + 1)
-    → AllByRecursion (ParcelFormed every) (map answered_as (option_to_list (option_map (about_mark boot) (told_of_mark body l))))
+    → AllByRecursion (ParcelFormed every) (map answered_as (option_to_list (option_map (about_mark boot) (reported_of_mark body l))))
 answer_formed every boot l (MarkMsg key m) b f kept few = by_entry (entry_of key l.log)
   where
     by_entry : (o : Option Entry) → AllByRecursion (ParcelFormed every) (map answered_as (option_to_list (option_map (about_mark boot) (option_map (λ e. MarkedMsg key (l.marks key).reads) o))))
@@ -118,7 +118,7 @@ answers_formed every l message f kept few =
     let Are : Option AnyMessage → Type 0 = λ o. AllByRecursion (ParcelFormed every) (map answered_as (option_to_list o)) in
     holds_either_way Are (is_mark_answer message.body) None _ tt
     (holds_either_way Are (nat_lt message.boot l.log.boot) (Some (Of_log (record { boot = message.boot; body = StaleMsg l.log.boot }))) _ (tt, tt)
-    (holds_either_way Are (message.boot == l.log.boot) (option_map (about_mark message.boot) (told_of_mark message.body (after_mark l message))) None
+    (holds_either_way Are (message.boot == l.log.boot) (option_map (about_mark message.boot) (reported_of_mark message.body (after_mark l message))) None
     (answer_formed every message.boot (after_mark l message) message.body f.0 f.1 kept few) tt))
 
 -- the marks that it has
@@ -149,11 +149,11 @@ none_bounded : (m : Mark) → m ≡ no_mark → Bounded m × (length m.state ≤
 none_bounded m none = subst (λ x. Bounded x × (length x.state ≤ 1100)) (sym none) (record { reads = omega arith; length_of = omega arith; made = omega arith }, omega arith)
 
 module _ {State : Type 0} (by : Marker State) (start : World) (w : MarkedWorld) (s : StartFormed start) (k : Kept by start w) (f : WorldFormed start (seen w)) where
-  tells : AllByRecursion (EntryTells start) w.log.log.entries
-  tells = entries_tell start s w.log.log.entries f.entries k.sound.joint.faithful.entries (entries_acked by.service start (seen w) k.sound.joint)
+  reports : AllByRecursion (EntryReports start) w.log.log.entries
+  reports = entries_report start s w.log.log.entries f.entries k.sound.joint.faithful.entries (entries_acked by.service start (seen w) k.sound.joint)
 
-  told_of : (key : Key) (e : Entry) → entry_of key w.log.log ≡ Some e → EntryTells start e
-  told_of key e found = all_find (EntryTells start) (λ x. key_eq x.key key) w.log.log.entries e tells found
+  reported_of : (key : Key) (e : Entry) → entry_of key w.log.log ≡ Some e → EntryReports start e
+  reported_of key e found = all_find (EntryReports start) (λ x. key_eq x.key key) w.log.log.entries e reports found
 
   made_within : (key : Key) (e : Entry) (m : Mark) → entry_of key w.log.log ≡ Some e → IsRunOf by.service by.writing e m → m.made ≤ 2 ^ 24
   made_within key e m found run =
@@ -166,7 +166,7 @@ module _ {State : Type 0} (by : Marker State) (start : World) (w : MarkedWorld) 
       let key_is : e.key ≡ key = same_key e.key key (found_passes (λ x. key_eq x.key key) w.log.log.entries e found) in
       let first : IsPrefix lengths (author.author key) =
       prefix_trans lengths e.lengths (author.author key) (take_first m.reads e.lengths) (subst (λ j. IsPrefix e.lengths (author.author j)) key_is of_author.0) in
-      let size = prefix_length _ _ (reads_go_on by.service script lengths (author.author key) first).output in
+      let size = prefix_length _ _ (reads_proceed by.service script lengths (author.author key) first).output in
       let small = author.short key in
       let made : m.made ≡ length (reference by.service script lengths).output = run.made ∙ ap (λ r. length r.output) (sym same) in
       omega (arith, size, small, made)
@@ -174,11 +174,11 @@ module _ {State : Type 0} (by : Marker State) (start : World) (w : MarkedWorld) 
   bounded : (key : Key) (m : Mark) → IsTrueMark by w.log.log key m → Bounded m
   bounded key m t =
       let e : Entry = t.0 in
-      let told : EntryTells start e = told_of key e t.1 in
+      let reported : EntryReports start e = reported_of key e t.1 in
       let run : IsRunOf by.service by.writing e m = t.2 in
       record {
-        reads = omega (arith, run.count, told.formed.count, told.formed.enough, told.short);
-        length_of = omega (arith, run.bytes, run.enough, told.short);
+        reads = omega (arith, run.count, reported.formed.count, reported.formed.enough, reported.short);
+        length_of = omega (arith, run.bytes, run.enough, reported.short);
         made = made_within key e m t.1 run;
       }
 
@@ -187,33 +187,33 @@ module _ {State : Type 0} (by : Marker State) (start : World) (w : MarkedWorld) 
 
   key_fits : (key : Key) (m : Mark) → IsTrueMark by w.log.log key m → FitsKey key
   key_fits key m t =
-      let told : EntryTells start t.0 = told_of key t.0 t.1 in
-      subst FitsKey (same_key t.0.key key (found_passes (λ x. key_eq x.key key) w.log.log.entries t.0 t.1)) told.formed.key.0
+      let reported : EntryReports start t.0 = reported_of key t.0 t.1 in
+      subst FitsKey (same_key t.0.key key (found_passes (λ x. key_eq x.key key) w.log.log.entries t.0 t.1)) reported.formed.key.0
 
   -- the entry that a server has fetched last is the log's
   newest_fits : (node : MarkedNode) (stage : Stage) (key : Key) → w.node ≡ Some node → node.plain.stage ≡ stage → IsNewest key stage → FitsKey key
   newest_fits node (Fetching count (f ∷ earlier)) key up is newest =
       let agrees : (count ≡ length w.log.log.entries) × AreFetched w.log.log.entries (f ∷ earlier) =
       subst (StageAgrees w.log.log.entries) is (k.sound.joint.asked.node node.plain (up_plain w node up) (ap is_restarting is)).fetched in
-      subst FitsKey (sym newest) (newest_formed start w.log.log.entries f earlier tells agrees.1).0.0
+      subst FitsKey (sym newest) (newest_formed start w.log.log.entries f earlier reports agrees.1).0.0
   newest_fits node (Fetching count []) key up is newest = absurd newest
   newest_fits node Asking key up is newest = absurd newest
   newest_fits node (Serving opened places) key up is newest = absurd newest
   newest_fits node (Fenced newer) key up is newest = absurd newest
 
   -- what a server sends
-  body_formed : (node : MarkedNode) (body : MarkBody) → w.node ≡ Some node → BodyCounts by.every node.plain.stage body → TellsTrueMark by w.log.log body → BodyFormed by.every body
-  body_formed node (MarkMsg key m) up counts told = (key_fits key m told, counts)
-  body_formed node (AskMsg key) up counts told = newest_fits node node.plain.stage key up refl counts
-  body_formed node (MarkedMsg key reads) up counts told = absurd counts
-  body_formed node (HeldMsg key m) up counts told = absurd counts
+  body_formed : (node : MarkedNode) (body : MarkBody) → w.node ≡ Some node → BodyCounts by.every node.plain.stage body → ReportsTrueMark by w.log.log body → BodyFormed by.every body
+  body_formed node (MarkMsg key m) up counts reported = (key_fits key m reported, counts)
+  body_formed node (AskMsg key) up counts reported = newest_fits node node.plain.stage key up refl counts
+  body_formed node (MarkedMsg key reads) up counts reported = absurd counts
+  body_formed node (HeldMsg key m) up counts reported = absurd counts
 
   out_formed : (node : MarkedNode) (boot : ℕ) (out : List Outgoing) → w.node ≡ Some node → IsBoot boot → AllByRecursion (OutCounts boot by.every node.plain.stage) out
       → AllByRecursion (HasTrueMark by w.log.log) (map parcel_of out) → AllByRecursion (ParcelFormed by.every) (map parcel_of out)
-  out_formed node boot [] up b counts told = tt
-  out_formed node boot (Plain packet ∷ out) up b counts told = (tt, out_formed node boot out up b counts.1 told.1)
-  out_formed node boot (Mark_to_logger message ∷ out) up b counts told =
-      ((subst IsBoot (sym counts.0.0) b, body_formed node message.body up counts.0.1 told.0), out_formed node boot out up b counts.1 told.1)
+  out_formed node boot [] up b counts reported = tt
+  out_formed node boot (Plain packet ∷ out) up b counts reported = (tt, out_formed node boot out up b counts.1 reported.1)
+  out_formed node boot (Mark_to_logger message ∷ out) up b counts reported =
+      ((subst IsBoot (sym counts.0.0) b, body_formed node message.body up counts.0.1 reported.0), out_formed node boot out up b counts.1 reported.1)
 
 -- One moment
 
@@ -245,13 +245,13 @@ module _ {State : Type 0} (by : Marker State) (start : World) (writes : WritesBy
       happens_formed by.service start (seen before) event packets (seen after) writes s (knows by start before k x.formed) k'.sound.joint.faithful.entries (entries_acked by.service start (seen after) k'.sound.joint) h
 
   turn_wired : (node later : MarkedNode) (input : MarkedInput) (out : List Outgoing) → before.node ≡ Some node → BringsPlain (seen before) input
-      → LawfulMarkedTurn by (bytes_told before.log.log input) (lengths_told before.log.log input) node input out later
+      → LawfulMarkedTurn by (bytes_reported before.log.log input) (lengths_reported before.log.log input) node input out later
       → Kept by start (record before { node = Some later; parcels = before.parcels ++ map parcel_of out }) → Wired by start (record before { node = Some later; parcels = before.parcels ++ map parcel_of out })
   turn_wired node later input out up brought t k' =
       let stands : Stands by (seen before) node = record { up = up_plain before node up; asked = k.sound.joint.asked; live = t.live } in
       let went = turned_formed by.service start (seen before) node.plain writes s (knows by start before k x.formed) (up_plain before node up) (without_marks out) later.plain
       (turn_seen by (seen before) node input out later stands brought t.turn) in
-      let counts : TurnCounts by node.plain.boot out later = turn_counts by node (bytes_told before.log.log input) (lengths_told before.log.log input) input out later (x.outstanding node up) t.turn in
+      let counts : TurnCounts by node.plain.boot out later = turn_counts by node (bytes_reported before.log.log input) (lengths_reported before.log.log input) input out later (x.outstanding node up) t.turn in
       let formed : WorldFormed start (seen (record before { node = Some later; parcels = before.parcels ++ map parcel_of out })) =
       next_formed_world start before before.log before.boot (Some later) (map parcel_of out) x.formed (log_of start (seen before) x.formed)
       (subst (AllByRecursion (PacketFormed start)) (sym (usual_out out)) went.1) (λ n e. subst (λ (y : MarkedNode). NodeFormed start y.plain) (some_is later n e) went.0) in
@@ -273,25 +273,25 @@ module _ {State : Type 0} (by : Marker State) (start : World) (writes : WritesBy
   server_wired : (input : MarkedInput) (sent : List Parcel) (after : MarkedWorld) → BringsPlain (seen before) input → Kept by start after → ServerMoves by input before sent after → Wired by start after
   server_wired input sent after brought k' t = server_by before.node input sent after refl brought k' t
 
-  message_wired : (message : Message) (sent : List Parcel) (after : MarkedWorld) → IsUnderWay (seen before) (To_logger message) → Kept by start after → LogHears (Of_log message) before sent after → Wired by start after
+  message_wired : (message : Message) (sent : List Parcel) (after : MarkedWorld) → IsUnderWay (seen before) (To_logger message) → Kept by start after → LogReceives (Of_log message) before sent after → Wired by start after
   message_wired message sent after under k' t =
       let new : List Parcel = map Usual (option_to_list (option_map From_logger (answer_above before.log message))) in
       let next : MarkedWorld = record before { log = after_message before.log message; parcels = before.parcels ++ new } in
       let is : after ≡ next = t.1 ∙ ap (λ (ps : List Parcel). record before { log = after_message before.log message; parcels = before.parcels ++ ps }) t.0 in
       let later : Kept by start next = subst (Kept by start) is k' in
-      let heard : World = record (seen before) { log = log_after before.log.log message; packets = usual before.parcels ++ answers before.log.log message } in
-      let went = moment_formed by.service start (seen before) (answers before.log.log message) heard writes s (knows by start before k x.formed) later.sound.joint.faithful.entries
-      (entries_acked by.service start (seen next) later.sound.joint) (log_heard message under refl refl) in
+      let receipt : World = record (seen before) { log = log_after before.log.log message; packets = usual before.parcels ++ answers before.log.log message } in
+      let went = moment_formed by.service start (seen before) (answers before.log.log message) receipt writes s (knows by start before k x.formed) later.sound.joint.faithful.entries
+      (entries_acked by.service start (seen next) later.sound.joint) (log_received message under refl refl) in
       subst (Wired by start) (sym is)
       (record {
-        formed = next_formed_world start before (after_message before.log message) before.boot before.node new x.formed (log_of start heard went.1) (above_formed start before.log message went.0)
+        formed = next_formed_world start before (after_message before.log message) before.boot before.node new x.formed (log_of start receipt went.1) (above_formed start before.log message went.0)
             (λ n e. x.formed.node n.plain (up_plain before n e));
         about = all_append (ParcelFormed by.every) before.parcels new x.about (usual_formed by.every (option_to_list (option_map From_logger (answer_above before.log message))));
         kept = x.kept;
         outstanding = x.outstanding;
       })
 
-  mark_wired : (message : MarkMessage) (sent : List Parcel) (after : MarkedWorld) → MessageFormed by.every message → Kept by start after → LogHears (About_mark message) before sent after → Wired by start after
+  mark_wired : (message : MarkMessage) (sent : List Parcel) (after : MarkedWorld) → MessageFormed by.every message → Kept by start after → LogReceives (About_mark message) before sent after → Wired by start after
   mark_wired message sent after came k' t =
       let new : List Parcel = map answered_as (option_to_list (answer_to_mark before.log message)) in
       let next : MarkedWorld = record before { log = after_mark before.log message; parcels = before.parcels ++ new } in
@@ -299,7 +299,7 @@ module _ {State : Type 0} (by : Marker State) (start : World) (writes : WritesBy
       let later : Kept by start next = subst (Kept by start) is k' in
       let formed : WorldFormed start (seen next) =
       next_formed_world start before (after_mark before.log message) before.boot before.node new x.formed (marked_formed start before.log message (log_of start (seen before) x.formed))
-      (told_formed start before.log message came.0 x.formed.boot) (λ n e. x.formed.node n.plain (up_plain before n e)) in
+      (reported_formed start before.log message came.0 x.formed.boot) (λ n e. x.formed.node n.plain (up_plain before n e)) in
       let kept : AreMarks by.every (after_mark before.log message) = marks_kept by.every before.log message came x.kept in
       subst (Wired by start) (sym is)
       (record {
@@ -318,7 +318,7 @@ module _ {State : Type 0} (by : Marker State) (start : World) (writes : WritesBy
   comes_wired number (Usual (To_server segment)) sent after at k' t = server_wired (Plain_comes (Packet_comes segment)) sent after (under_way before number (To_server segment) at) k' t
   comes_wired number (Usual (To_client segment)) sent after at k' t =
       let u = under_way before number (To_client segment) at in
-      elsewhere_wired (ClientHears (destination_of segment) segment) sent after (λ packets h. event_wired (Deliver u.0) sent after k' packets (To_client segment, u.1, h)) t
+      elsewhere_wired (ClientReceives (destination_of segment) segment) sent after (λ packets h. event_wired (Deliver u.0) sent after k' packets (To_client segment, u.1, h)) t
   comes_wired number (Usual (To_logger message)) sent after at k' t = message_wired message sent after (under_way before number (To_logger message) at) k' t
   comes_wired number (Usual (From_logger message)) sent after at k' t = server_wired (Plain_comes (Message_comes message)) sent after (under_way before number (From_logger message) at) k' t
   comes_wired number (Mark_sent message) sent after at k' t = mark_wired message sent after (about_at number (Mark_sent message) at) k' t
@@ -440,26 +440,26 @@ ask_spellable boot key b fits = record {
 
 module _ {State : Type 0} (by : Marker State) (start : World) (w : MarkedWorld) (s : StartFormed start) (k : Kept by start w) (x : Wired by start w) (back : 0 < by.every → ReadsBack by.service by.writing) where
   short : (key : Key) (m : Mark) → 0 < by.every → IsTrueMark by w.log.log key m → length m.state ≤ 1100
-  short key m some t = short_state by.service by.writing t.0 m (back some) (told_of by start w s k x.formed key t.0 t.1).bytes t.2
+  short key m some t = short_state by.service by.writing t.0 m (back some) (reported_of by start w s k x.formed key t.0 t.1).bytes t.2
 
   held_bounded : (key : Key) (m : Mark) → (m ≡ no_mark) ⊎ (0 < by.every) → IsTrueOrNone by w.log.log key m → Bounded m × (length m.state ≤ 1100)
   held_bounded key m marks_ t =
       ⊎_elim (λ none. none_bounded m none)
       (λ some. ⊎_elim (λ none. none_bounded m none) (λ y. (bounded by start w s k x.formed key m y, short key m some y)) t) marks_
 
-  spellable : (boot : ℕ) (body : MarkBody) → IsBoot boot → BodyFormed by.every body → TellsTrueMark by w.log.log body → marks.IsSpellable (record { boot = boot; body = body })
-  spellable boot (MarkMsg key m) b f told = mark_spellable boot key m b f.0 f.1.0 (bounded by start w s k x.formed key m told) (short key m f.1.1 told)
-  spellable boot (MarkedMsg key reads) b f told = marked_spellable boot key reads b f.0 f.1
-  spellable boot (AskMsg key) b f told = ask_spellable boot key b f
-  spellable boot (HeldMsg key m) b f told = let h = held_bounded key m f.1 told in held_spellable boot key m b f.0 h.0 h.1
+  spellable : (boot : ℕ) (body : MarkBody) → IsBoot boot → BodyFormed by.every body → ReportsTrueMark by w.log.log body → marks.IsSpellable (record { boot = boot; body = body })
+  spellable boot (MarkMsg key m) b f reported = mark_spellable boot key m b f.0 f.1.0 (bounded by start w s k x.formed key m reported) (short key m f.1.1 reported)
+  spellable boot (MarkedMsg key reads) b f reported = marked_spellable boot key reads b f.0 f.1
+  spellable boot (AskMsg key) b f reported = ask_spellable boot key b f
+  spellable boot (HeldMsg key m) b f reported = let h = held_bounded key m f.1 reported in held_spellable boot key m b f.0 h.0 h.1
 
   all_read : (parcels : List Parcel) → AllByRecursion (HasWireBy (grammar_of start.profile)) (usual parcels) → AllByRecursion (ParcelFormed by.every) parcels → AllByRecursion (HasTrueMark by w.log.log) parcels → AllByRecursion (CanBeRead (grammar_of start.profile)) parcels
-  all_read [] wires formed told = tt
-  all_read (Usual packet ∷ parcels) wires formed told = (wires.0, all_read parcels wires.1 formed.1 told.1)
-  all_read (Mark_sent message ∷ parcels) wires formed told =
-      (mark_is_read message (spellable message.boot message.body formed.0.0 formed.0.1 told.0), all_read parcels wires formed.1 told.1)
-  all_read (Mark_answered message ∷ parcels) wires formed told =
-      (mark_is_read message (spellable message.boot message.body formed.0.0 formed.0.1 told.0), all_read parcels wires formed.1 told.1)
+  all_read [] wires formed reported = tt
+  all_read (Usual packet ∷ parcels) wires formed reported = (wires.0, all_read parcels wires.1 formed.1 reported.1)
+  all_read (Mark_sent message ∷ parcels) wires formed reported =
+      (mark_is_read message (spellable message.boot message.body formed.0.0 formed.0.1 reported.0), all_read parcels wires formed.1 reported.1)
+  all_read (Mark_answered message ∷ parcels) wires formed reported =
+      (mark_is_read message (spellable message.boot message.body formed.0.0 formed.0.1 reported.0), all_read parcels wires formed.1 reported.1)
 
   parcels_read : AllByRecursion (CanBeRead (grammar_of start.profile)) w.parcels
   parcels_read =

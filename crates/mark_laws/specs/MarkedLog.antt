@@ -82,10 +82,10 @@ is_mark_answer (HeldMsg key mark) = true
 is_mark_answer _ = false
 
 -- the body of the answer, if the key has an entry: how many reads its mark has, or the mark itself
-abbrev pub told_of_mark : MarkBody → MarkedLog → Option MarkBody
-told_of_mark (MarkMsg key mark) l = option_map (λ e. MarkedMsg key (l.marks key).reads) (entry_of key l.log)
-told_of_mark (AskMsg key) l = option_map (λ e. HeldMsg key (l.marks key)) (entry_of key l.log)
-told_of_mark _ l = None
+abbrev pub reported_of_mark : MarkBody → MarkedLog → Option MarkBody
+reported_of_mark (MarkMsg key mark) l = option_map (λ e. MarkedMsg key (l.marks key).reads) (entry_of key l.log)
+reported_of_mark (AskMsg key) l = option_map (λ e. HeldMsg key (l.marks key)) (entry_of key l.log)
+reported_of_mark _ l = None
 
 abbrev pub about_mark : ℕ → MarkBody → AnyMessage
 about_mark boot body = About_mark (record { boot = boot; body = body })
@@ -95,4 +95,4 @@ unfoldable pub answer_to_mark : MarkedLog → MarkMessage → Option AnyMessage
 answer_to_mark l message =
     if is_mark_answer message.body then None
     else (if nat_lt message.boot l.log.boot then Some (Of_log (record { boot = message.boot; body = StaleMsg l.log.boot }))
-    else (if message.boot == l.log.boot then option_map (about_mark message.boot) (told_of_mark message.body (after_mark l message)) else None))
+    else (if message.boot == l.log.boot then option_map (about_mark message.boot) (reported_of_mark message.body (after_mark l message)) else None))

@@ -175,12 +175,12 @@ live_at (Some (Lives p)) = Some p
 live_at _ = None
 
 -- an answer to a mark, at the live connection that it names
-abbrev pub HearsOfMark : {State : Type 0} → Marker State → MarkedNode → List Place → MarkBody → List Outgoing → MarkedNode → Type 0
-HearsOfMark by before places (MarkedMsg key reads) sent after =
+abbrev pub ReceivesOfMark : {State : Type 0} → Marker State → MarkedNode → List Place → MarkBody → List Outgoing → MarkedNode → Type 0
+ReceivesOfMark by before places (MarkedMsg key reads) sent after =
     MatchOption (live_at (place_at key places)) (RestsMarked before sent after)
     (λ p. (m : Marking) × MarkedTurn by.service by.writing by.every before.plain.boot reads p (before.marking p.key) m sent
     × (after ≡ record before { marking = with_marking p.key m before.marking }))
-HearsOfMark by before places _ sent after = RestsMarked before sent after
+ReceivesOfMark by before places _ sent after = RestsMarked before sent after
 
 -- A turn on a message about marks, by the stage before it. While the server fetches, what is below the reported mark, `bytes` and `lengths`, counts as
 -- fetched
@@ -189,7 +189,7 @@ MarkTurn by bytes lengths before (Fetching count fetched) message sent after =
     MatchOption (mark_reported by.writing before.plain.boot message (so_far before fetched)) (RestsMarked before sent after)
     (λ m. FetchesMarked by before count (begun_on bytes lengths (so_far before fetched)) (marking_fetched message.body before.marking) sent after)
 MarkTurn by bytes lengths before (Serving opened places) message sent after =
-    MatchBool (message.boot == before.plain.boot) (HearsOfMark by before places message.body sent after) (RestsMarked before sent after)
+    MatchBool (message.boot == before.plain.boot) (ReceivesOfMark by before places message.body sent after) (RestsMarked before sent after)
 MarkTurn by bytes lengths before stage message sent after = RestsMarked before sent after
 
 abbrev pub InputTurn : {State : Type 0} → Marker State → (bytes lengths : List ℕ) → MarkedNode → MarkedInput → List Outgoing → MarkedNode → Type 0

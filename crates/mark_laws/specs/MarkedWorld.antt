@@ -22,7 +22,7 @@ use Rattle.ft_model.specs.Wire.{wire_by, HasWireBy}
 use Rattle.ft_model.specs.Node.Input.{Packet_comes, Message_comes, Noise_comes, Tick_comes}
 use Rattle.ft_model.specs.Node.{booted}
 use Rattle.ft_model.specs.Lawful.{hello}
-use Rattle.ft_model.specs.World.{World, Moment, IsStart, IsNextBoot, ClientHears, ClientReads, Happens, segment_or_noise}
+use Rattle.ft_model.specs.World.{World, Moment, IsStart, IsNextBoot, ClientReceives, ClientReads, Happens, segment_or_noise}
 use Rattle.ft_model.specs.declared.event.Event.{Event}
 use Rattle.ft_model.specs.declared.event.Event.TheVariants.{Boot, Crash, Tick, Deliver, Flip}
 use Rattle.mark_laws.specs.Front.{bytes_below, lengths_below}
@@ -96,41 +96,41 @@ abbrev pub lengths_held : Log → MarkBody → List ℕ
 lengths_held log (HeldMsg key m) = option_map_or (lengths_below m) (entry_of key log) []
 lengths_held log _ = []
 
-abbrev pub bytes_told : Log → MarkedInput → List ℕ
-bytes_told log (Mark_comes message) = bytes_held log message.body
-bytes_told log (Plain_comes input) = []
+abbrev pub bytes_reported : Log → MarkedInput → List ℕ
+bytes_reported log (Mark_comes message) = bytes_held log message.body
+bytes_reported log (Plain_comes input) = []
 
-abbrev pub lengths_told : Log → MarkedInput → List ℕ
-lengths_told log (Mark_comes message) = lengths_held log message.body
-lengths_told log (Plain_comes input) = []
+abbrev pub lengths_reported : Log → MarkedInput → List ℕ
+lengths_reported log (Mark_comes message) = lengths_held log message.body
+lengths_reported log (Plain_comes input) = []
 
 -- the server takes its turn on what arrives. A server that is down does nothing
 abbrev pub ServerTurn : {State : Type 0} → Marker State → MarkedInput → Option MarkedNode → MarkedWorld → List Parcel → MarkedWorld → Type 0
 ServerTurn by input None before sent after = (sent ≡ []) × (after ≡ record before { parcels = before.parcels ++ sent })
 ServerTurn by input (Some node) before sent after =
     (later : MarkedNode) × (out : List Outgoing)
-    × LawfulMarkedTurn by (bytes_told before.log.log input) (lengths_told before.log.log input) node input out later
+    × LawfulMarkedTurn by (bytes_reported before.log.log input) (lengths_reported before.log.log input) node input out later
     × (sent ≡ map parcel_of out) × (after ≡ record before { node = Some later; parcels = before.parcels ++ sent })
 
 abbrev pub ServerMoves : {State : Type 0} → Marker State → MarkedInput → MarkedWorld → List Parcel → MarkedWorld → Type 0
 ServerMoves by input before sent after = ServerTurn by input before.node before sent after
 
 -- a message arrives at the log with marks, which sends its answer and nothing else
-abbrev pub LogHears : AnyMessage → MarkedWorld → List Parcel → MarkedWorld → Type 0
-LogHears (Of_log message) before sent after =
+abbrev pub LogReceives : AnyMessage → MarkedWorld → List Parcel → MarkedWorld → Type 0
+LogReceives (Of_log message) before sent after =
     (sent ≡ map Usual (option_to_list (option_map From_logger (answer_above before.log message))))
     × (after ≡ record before { log = after_message before.log message; parcels = before.parcels ++ sent })
-LogHears (About_mark message) before sent after =
+LogReceives (About_mark message) before sent after =
     (sent ≡ map answered_as (option_to_list (answer_to_mark before.log message)))
     × (after ≡ record before { log = after_mark before.log message; parcels = before.parcels ++ sent })
 
 -- a parcel reaches its addressee
 abbrev pub ParcelComes : {State : Type 0} → Marker State → Parcel → MarkedWorld → List Parcel → MarkedWorld → Type 0
 ParcelComes by (Usual (To_server segment)) before sent after = ServerMoves by (Plain_comes (Packet_comes segment)) before sent after
-ParcelComes by (Usual (To_client segment)) before sent after = Elsewhere (ClientHears (destination_of segment) segment) before sent after
-ParcelComes by (Usual (To_logger message)) before sent after = LogHears (Of_log message) before sent after
+ParcelComes by (Usual (To_client segment)) before sent after = Elsewhere (ClientReceives (destination_of segment) segment) before sent after
+ParcelComes by (Usual (To_logger message)) before sent after = LogReceives (Of_log message) before sent after
 ParcelComes by (Usual (From_logger message)) before sent after = ServerMoves by (Plain_comes (Message_comes message)) before sent after
-ParcelComes by (Mark_sent message) before sent after = LogHears (About_mark message) before sent after
+ParcelComes by (Mark_sent message) before sent after = LogReceives (About_mark message) before sent after
 ParcelComes by (Mark_answered message) before sent after = ServerMoves by (Mark_comes message) before sent after
 
 -- Bytes with a changed bit. How messages are written depends on the profile; those about marks have one grammar
@@ -161,7 +161,7 @@ input_of (Some (About_mark message)) = Mark_comes message
 input_of None = Plain_comes Noise_comes
 
 abbrev pub LogReads : Option AnyMessage → MarkedWorld → List Parcel → MarkedWorld → Type 0
-LogReads (Some message) before sent after = LogHears message before sent after
+LogReads (Some message) before sent after = LogReceives message before sent after
 LogReads None before sent after = (sent ≡ []) × (after ≡ record before { parcels = before.parcels ++ sent })
 
 -- these bytes reach the addressee of a parcel in place of its own

@@ -102,7 +102,7 @@ abbrev pub AreTrue : {State : Type 0} → Machine State → Writing State → En
 AreTrue service writing e marks = AllByRecursion (IsRunOf service writing e) marks
 
 -- the marks sent in a turn, and the one outstanding after it, are true
-pub record TellsTruth {State : Type 0} (service : Machine State) (writing : Writing State) (every : ℕ) (news : News) (m : Marking) (p : Point)
+pub record ReportsTruth {State : Type 0} (service : Machine State) (writing : Writing State) (every : ℕ) (news : News) (m : Marking) (p : Point)
     (e : Entry) : Type 0 where
   pub sent : AreTrue service writing e (marks_sent service writing every news m p)
   pub outstanding : AreTrue service writing e (outstanding_in (with_new service writing every p m))

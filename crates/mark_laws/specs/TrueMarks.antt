@@ -19,15 +19,15 @@ IsTrueMark by log key m = (e : Entry) × (entry_of key log ≡ Some e) × IsRunO
 abbrev pub IsTrueOrNone : {State : Type 0} → Marker State → Log → Key → Mark → Type 0
 IsTrueOrNone by log key m = (m ≡ no_mark) ⊎ IsTrueMark by log key m
 
-abbrev pub TellsTrueMark : {State : Type 0} → Marker State → Log → MarkBody → Type 0
-TellsTrueMark by log (MarkMsg key m) = IsTrueMark by log key m
-TellsTrueMark by log (HeldMsg key m) = IsTrueOrNone by log key m
-TellsTrueMark by log _ = Unit {0}
+abbrev pub ReportsTrueMark : {State : Type 0} → Marker State → Log → MarkBody → Type 0
+ReportsTrueMark by log (MarkMsg key m) = IsTrueMark by log key m
+ReportsTrueMark by log (HeldMsg key m) = IsTrueOrNone by log key m
+ReportsTrueMark by log _ = Unit {0}
 
 abbrev pub HasTrueMark : {State : Type 0} → Marker State → Log → Parcel → Type 0
 HasTrueMark by log (Usual packet) = Unit {0}
-HasTrueMark by log (Mark_sent message) = TellsTrueMark by log message.body
-HasTrueMark by log (Mark_answered message) = TellsTrueMark by log message.body
+HasTrueMark by log (Mark_sent message) = ReportsTrueMark by log message.body
+HasTrueMark by log (Mark_answered message) = ReportsTrueMark by log message.body
 
 pub record MarksAreTrue {State : Type 0} (by : Marker State) (w : MarkedWorld) : Type 0 where
   pub under_way : AllByRecursion (HasTrueMark by w.log.log) w.parcels

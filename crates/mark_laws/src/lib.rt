@@ -322,7 +322,7 @@ pub fn worked_restart_is_reported()
 
 /// A report with marks determines its schedule and its trace: two legal traces have the same report only where their schedules are the same, and the traces
 /// too. A schedule says after how many reads its server marks.
-pub fn marked_reports_tell_their_traces<S: Saved>()
+pub fn marked_reports_determine_their_traces<S: Saved>()
     ensures { (every often : ℕ) (schedule other : Schedule) (trace also : List MarkedMoment) → FitsSchedule schedule → FitsSchedule other
         → schedule.marks ≡ Some every → other.marks ≡ Some often
         → MarkedLegal (markers (machines S.started S.after S.greeting) S.form S.state_of every) schedule trace

@@ -6,7 +6,7 @@ ghost use Rattle.ft_io.specs.declared.Addr.{Addr};
 ghost use Rattle.seq_arith.specs.Mark.{Mark};
 ghost use Rattle.server_trait.specs.Service.{machine};
 ghost use Rattle.server_trait.specs.Saved.{Writing};
-ghost use Rattle.ft_model.specs.Connection.{ConnectionTurn, sent_by, told_by};
+ghost use Rattle.ft_model.specs.Connection.{ConnectionTurn, sent_by, reported_by};
 ghost use Rattle.ft_model.specs.Copy.{copies};
 ghost use Rattle.ft_model.specs.ResetAndEnd.{dones};
 ghost use Rattle.ft_model.specs.Growth.{IsPrefix};
@@ -15,12 +15,12 @@ ghost use Rattle.ft_model.specs.Network.Packet.{To_client};
 ghost use Rattle.ft_model.specs.News.{News};
 ghost use Rattle.ft_model.specs.News.News.{Ticks};
 ghost use Rattle.ft_model.specs.Point.{Point};
-ghost use Rattle.ft_model.specs.Reads.{reads_told};
+ghost use Rattle.ft_model.specs.Reads.{reads_reported};
 ghost use Rattle.ft_model.specs.Segments.{segments_of};
 ghost use Rattle.mark_laws.specs.Quiet.{IsQuiet, is_quiet};
 ghost use Rattle.mark_laws.specs.Marking.{Marking, new_marks, outstanding_in, Outgoing, with_marks, without_marks, MarkingTurn, MarkedTurn};
 ghost use Rattle.mark_laws.specs.Marking.{IsSettled, MarksNothing, OnlyRepeats};
-ghost use Rattle.mark_laws.specs.Marking.{AreTrue, TellsTruth};
+ghost use Rattle.mark_laws.specs.Marking.{AreTrue, ReportsTruth};
 ghost use Rattle.mark_laws.specs.Marking.Outgoing.{Plain};
 
 use server_trait::Service;
@@ -48,9 +48,9 @@ pub fn nodes_may_mark_nothing<S: Service>()
 pub fn marks_stand_before_done<S: Service>()
     ensures { (fresh : S) (server : Addr) (boot : ℕ) (news : News) (p q : Point) (marks : List Outgoing)
         → with_marks (length (dones news p q)) marks (sent_by (machine fresh S.after S.greeting) server boot news p q)
-        ≡ map Plain (map To_client (segments_of (machine fresh S.after S.greeting) server news p q) ++ map (told_by boot)
-        (copies news p q ++ reads_told news p q))
-        ++ (marks ++ map Plain (map (told_by boot) (dones news p q))) }
+        ≡ map Plain (map To_client (segments_of (machine fresh S.after S.greeting) server news p q) ++ map (reported_by boot)
+        (copies news p q ++ reads_reported news p q))
+        ++ (marks ++ map Plain (map (reported_by boot) (dones news p q))) }
 {}
 
 /// After a turn no mark is due, since one that was due has been sent, and a connection that its client hasn't reset has no read to make.
@@ -85,5 +85,5 @@ pub fn marks_that_go_out_are_true<S: Service>()
     ensures { (fresh : S) (writing : Writing S) (every : ℕ) (news : News) (script : List ℕ) (m : Marking) (q : Point) (e : Entry) → IsPrefix q.taken script
         → sum q.lengths ≤ length q.taken → IsPrefix e.bytes script → sum e.lengths ≤ length e.bytes → IsPrefix e.lengths q.lengths
         → q.reads_answered ≤ length e.lengths → AreTrue (machine fresh S.after S.greeting) writing e (outstanding_in m)
-        → TellsTruth (machine fresh S.after S.greeting) writing every news m q e }
+        → ReportsTruth (machine fresh S.after S.greeting) writing every news m q e }
 {}

@@ -25,7 +25,7 @@ use Rattle.logger_store.specs.StoreState.{answer_bytes_by, bytes_of}
 use Rattle.logger_store.specs.Trim.{TrimmedLog, no_trim, trim_at, trim_of, is_trimmed, answer_left, with_trim, MayTrim, IsLeft, untrimmed}
 use Rattle.logger_store.specs.declared.trimming.Trim.{Trim}
 use Rattle.logger_store.proofs.LeftLogs.{after_left, answers_left, trim_left, more_acknowledged, none_trimmed, same_front, same_closing, count_left, size_left}
-use Rattle.mark_laws.specs.MarkedLog.{MarkedLog, no_mark, nothing_logged, after_mark, after_message, answer_above, answer_to_mark, about_mark, is_below, is_mark_answer, told_of_mark, acknowledging, with_mark, with_mark_body, keeps, may_follow, has_closing}
+use Rattle.mark_laws.specs.MarkedLog.{MarkedLog, no_mark, nothing_logged, after_mark, after_message, answer_above, answer_to_mark, about_mark, is_below, is_mark_answer, reported_of_mark, acknowledging, with_mark, with_mark_body, keeps, may_follow, has_closing}
 use Rattle.mark_laws.specs.MarkedLog.AnyMessage.{Of_log}
 use Rattle.mark_store.specs.Bytes.{reply_bytes, reply_bytes_by, kept_at}
 use Rattle.mark_store.specs.Refinement.{TrimmedAtMarks, IsLeftOfMarked, mark_at}
@@ -119,7 +119,7 @@ answers_above grammar s l message a =
     by (Some m) = refl
 
 -- answers about marks have one grammar
-pub replies_alike : (grammar : Grammar) (boot : ℕ) (told : Option MarkBody) → reply_bytes (option_map (about_mark boot) told) ≡ reply_bytes_by grammar (option_map (about_mark boot) told)
+pub replies_alike : (grammar : Grammar) (boot : ℕ) (reported : Option MarkBody) → reply_bytes (option_map (about_mark boot) reported) ≡ reply_bytes_by grammar (option_map (about_mark boot) reported)
 replies_alike grammar boot None = refl
 replies_alike grammar boot (Some body) = refl
 
@@ -229,18 +229,18 @@ keeps_none s l key m a few at =
     ap (λ o. option_map_or (may_follow (l.marks key) m) o false) found
 
 -- what is told of a mark
-pub told_reads : (s : TrimmedAtMarks) (l : MarkedLog) (key : Key) (i : ℕ) (m : Mark) → IsLeftOfMarked s l → length s.trimmed.log.entries ≤ 64
-    → place_of key s.trimmed.log ≡ Some i → told_of_mark (MarkMsg key m) l ≡ Some (MarkedMsg key (mark_at s.marks i).reads)
-told_reads s l key i m a few at =
+pub reported_reads : (s : TrimmedAtMarks) (l : MarkedLog) (key : Key) (i : ℕ) (m : Mark) → IsLeftOfMarked s l → length s.trimmed.log.entries ≤ 64
+    → place_of key s.trimmed.log ≡ Some i → reported_of_mark (MarkMsg key m) l ≡ Some (MarkedMsg key (mark_at s.marks i).reads)
+reported_reads s l key i m a few at =
     let room = a.room in
     let found : IsSameEntry s.trimmed.trims s.trimmed.log.entries l.log.entries key i =
     found_left key s.trimmed.trims s.trimmed.log.entries l.log.entries a.left.entries (omega (arith, few, room)) (Some i) at in
     ap (option_map (λ e. MarkedMsg key (l.marks key).reads)) found.found
     ∙ ap (λ x. Some (MarkedMsg key x.reads)) (a.marks key ∙ ap (λ o. option_map_or (mark_at s.marks) o no_mark) at)
 
-pub told_mark : (s : TrimmedAtMarks) (l : MarkedLog) (key : Key) (i : ℕ) → IsLeftOfMarked s l → length s.trimmed.log.entries ≤ 64
-    → place_of key s.trimmed.log ≡ Some i → told_of_mark (AskMsg key) l ≡ Some (HeldMsg key (mark_at s.marks i))
-told_mark s l key i a few at =
+pub reported_mark : (s : TrimmedAtMarks) (l : MarkedLog) (key : Key) (i : ℕ) → IsLeftOfMarked s l → length s.trimmed.log.entries ≤ 64
+    → place_of key s.trimmed.log ≡ Some i → reported_of_mark (AskMsg key) l ≡ Some (HeldMsg key (mark_at s.marks i))
+reported_mark s l key i a few at =
     let room = a.room in
     let found : IsSameEntry s.trimmed.trims s.trimmed.log.entries l.log.entries key i =
     found_left key s.trimmed.trims s.trimmed.log.entries l.log.entries a.left.entries (omega (arith, few, room)) (Some i) at in
@@ -252,13 +252,13 @@ unknown : (s : TrimmedAtMarks) (l : MarkedLog) (key : Key) → IsLeftOfMarked s 
 unknown s l key a few at =
     let room = a.room in found_left key s.trimmed.trims s.trimmed.log.entries l.log.entries a.left.entries (omega (arith, few, room)) None at
 
-pub told_no_reads : (s : TrimmedAtMarks) (l : MarkedLog) (key : Key) (m : Mark) → IsLeftOfMarked s l → length s.trimmed.log.entries ≤ 64
-    → place_of key s.trimmed.log ≡ None → told_of_mark (MarkMsg key m) l ≡ None
-told_no_reads s l key m a few at = ap (option_map (λ e. MarkedMsg key (l.marks key).reads)) (unknown s l key a few at)
+pub reported_no_reads : (s : TrimmedAtMarks) (l : MarkedLog) (key : Key) (m : Mark) → IsLeftOfMarked s l → length s.trimmed.log.entries ≤ 64
+    → place_of key s.trimmed.log ≡ None → reported_of_mark (MarkMsg key m) l ≡ None
+reported_no_reads s l key m a few at = ap (option_map (λ e. MarkedMsg key (l.marks key).reads)) (unknown s l key a few at)
 
-pub told_no_mark : (s : TrimmedAtMarks) (l : MarkedLog) (key : Key) → IsLeftOfMarked s l → length s.trimmed.log.entries ≤ 64
-    → place_of key s.trimmed.log ≡ None → told_of_mark (AskMsg key) l ≡ None
-told_no_mark s l key a few at = ap (option_map (λ e. HeldMsg key (l.marks key))) (unknown s l key a few at)
+pub reported_no_mark : (s : TrimmedAtMarks) (l : MarkedLog) (key : Key) → IsLeftOfMarked s l → length s.trimmed.log.entries ≤ 64
+    → place_of key s.trimmed.log ≡ None → reported_of_mark (AskMsg key) l ≡ None
+reported_no_mark s l key a few at = ap (option_map (λ e. HeldMsg key (l.marks key))) (unknown s l key a few at)
 
 -- A message about marks of the log's own boot, ..
 not_less : (n k : ℕ) → n ≡ k → nat_lt n k ≡ false
@@ -273,16 +273,16 @@ unfolding after_mark
 own_after l message own = ap (λ c. if c then with_mark_body message.body l else l) (test_of_equal message.boot l.log.boot own)
 
 pub own_answer : (l : MarkedLog) (message : MarkMessage) → message.boot ≡ l.log.boot
-    → answer_to_mark l message ≡ option_map (about_mark message.boot) (told_of_mark message.body (with_mark_body message.body l))
+    → answer_to_mark l message ≡ option_map (about_mark message.boot) (reported_of_mark message.body (with_mark_body message.body l))
 unfolding answer_to_mark
 own_answer l message own =
     (λ i. if is_mark_answer message.body then None
     else (if not_less message.boot l.log.boot own i then Some (Of_log (record { boot = message.boot; body = StaleMsg l.log.boot }))
-    else (if test_of_equal message.boot l.log.boot own i then option_map (about_mark message.boot) (told_of_mark message.body (own_after l message own i)) else None)))
+    else (if test_of_equal message.boot l.log.boot own i then option_map (about_mark message.boot) (reported_of_mark message.body (own_after l message own i)) else None)))
     ∙ by message.body (with_mark_body message.body l)
   where
-    by : (body : MarkBody) (next : MarkedLog) → (if is_mark_answer body then None else option_map (about_mark message.boot) (told_of_mark body next))
-        ≡ option_map (about_mark message.boot) (told_of_mark body next)
+    by : (body : MarkBody) (next : MarkedLog) → (if is_mark_answer body then None else option_map (about_mark message.boot) (reported_of_mark body next))
+        ≡ option_map (about_mark message.boot) (reported_of_mark body next)
     by (MarkMsg key m) next = refl
     by (MarkedMsg key reads) next = refl
     by (AskMsg key) next = refl
@@ -301,7 +301,7 @@ other_answer l message other = by (is_mark_answer message.body) (nat_lt message.
   where
     by : (c d e : Bool) → e ≡ false
         → (if c then None else (if d then Some (Of_log (record { boot = message.boot; body = StaleMsg l.log.boot }))
-        else (if e then option_map (about_mark message.boot) (told_of_mark message.body (after_mark l message)) else None)))
+        else (if e then option_map (about_mark message.boot) (reported_of_mark message.body (after_mark l message)) else None)))
         ≡ (if d && not c then Some (Of_log (record { boot = message.boot; body = StaleMsg l.log.boot })) else None)
     by true true e p = refl
     by true false e p = refl

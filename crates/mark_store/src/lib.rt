@@ -7,4 +7,4 @@ pub use store::MarkStore;
 mod excluded;
 mod kept_mark;
 mod store;
-mod telling;
+mod reporting;

@@ -11,7 +11,7 @@ ghost use Rattle.ft_model.specs.Log.{head_of};
 ghost use Rattle.logger_wire.specs.Records.{head_said};
 ghost use Rattle.logger_store.specs.StoreState.{bytes_of};
 ghost use Rattle.logger_store.specs.Trim.{trim_at, MayTrim};
-ghost use Rattle.mark_laws.specs.MarkedLog.{MarkedLog, after_mark, answer_to_mark, is_mark_answer, may_follow, no_mark, nothing_logged, told_of_mark};
+ghost use Rattle.mark_laws.specs.MarkedLog.{MarkedLog, after_mark, answer_to_mark, is_mark_answer, may_follow, no_mark, nothing_logged, reported_of_mark};
 ghost use Rattle.mark_laws.specs.MarkedLog.{with_mark_body};
 ghost use Rattle.seq_arith.specs.Message.Body.{StaleMsg};
 ghost use Rattle.mark_laws.specs.MarkedLog.{about_mark};
@@ -20,7 +20,7 @@ ghost use Rattle.mark_store.specs.Bytes.{after_bytes, after_bytes_by, kept_at, r
 ghost use Rattle.mark_store.specs.Refinement.{IsLeftOfMarked, mark_at};
 
 use crate::kept_mark::KeptMark;
-use crate::telling::{answer_held, answer_marked, answer_stale};
+use crate::reporting::{answer_held, answer_marked, answer_stale};
 use ft_io::{Key, NoMemory};
 use logger_store::{MsgOut, TrimStore};
 use logger_wire::{EntryHead, Grammar, Mark, MarkBody, MarkMsg, read_mark, read_msg_by};
@@ -207,7 +207,7 @@ impl MarkStore {
     fn answer_marked(&self, boot: u64, key: Key, out: &mut MsgOut)
         requires boot { 1 ≤ boot }
         requires empty { out.old ≡ [] }
-        ensures { (l : MarkedLog) → IsLeftOfMarked self.now l → out.new ≡ reply_bytes (option_map (about_mark boot) (told_of_mark (Marking key no_mark) l)) }
+        ensures { (l : MarkedLog) → IsLeftOfMarked self.now l → out.new ≡ reply_bytes (option_map (about_mark boot) (reported_of_mark (Marking key no_mark) l)) }
     {
         if let Some(place) = self.log.place_of(key) {
             answer_marked(boot, key, self.mark_at(place).reads, out);
@@ -218,7 +218,7 @@ impl MarkStore {
     fn answer_held(&self, boot: u64, key: Key, out: &mut MsgOut)
         requires boot { 1 ≤ boot }
         requires empty { out.old ≡ [] }
-        ensures { (l : MarkedLog) → IsLeftOfMarked self.now l → out.new ≡ reply_bytes (option_map (about_mark boot) (told_of_mark (AskMsg key) l)) }
+        ensures { (l : MarkedLog) → IsLeftOfMarked self.now l → out.new ≡ reply_bytes (option_map (about_mark boot) (reported_of_mark (AskMsg key) l)) }
     {
         if let Some(place) = self.log.place_of(key) {
             answer_held(boot, key, &self.mark_at(place), out);
@@ -230,7 +230,7 @@ impl MarkStore {
         requires spellable { IsSpellable (message_of m.now) }
         requires empty { out.old ≡ [] }
         ensures { (l : MarkedLog) → IsLeftOfMarked self.now l
-            → out.new ≡ reply_bytes (option_map (about_mark m.now.boot) (told_of_mark (body_of m.now.body) l)) }
+            → out.new ≡ reply_bytes (option_map (about_mark m.now.boot) (reported_of_mark (body_of m.now.body) l)) }
     {
         match m.body {
             MarkBody::Mark { key, .. } => self.answer_marked(m.boot, key, out),

@@ -24,19 +24,19 @@ use Rattle.ft_model.specs.World.{World as Seen, WasSent, MayCome, ServerMoves, C
 use Rattle.ft_model.specs.declared.way.Way.TheVariants.{ClientToServer, ServerToClient, ServerToLogger, LoggerToServer, HeadToTail, TailToHead}
 use Rattle.ft_model.specs.declared.way.Way.{Way}
 use Rattle.ft_model.specs.Keys.{AreDistinct}
-use Rattle.peer_client.specs.Scripted.{delivered, hearing}
+use Rattle.peer_client.specs.Scripted.{delivered, arrivals}
 use Rattle.schedule_network.specs.StoredPackets.{Carried, number_in, way_along}
 use Rattle.net_schedule.specs.Actors.{ActorsStand, ActorsGoOn}
 use Rattle.net_schedule.specs.Delivery.{changed_at, delivered_to, with_logs}
 use Rattle.mark_store.specs.Refinement.{TrimmedAtMarks}
 use Rattle.schedule_network.specs.Loggers.{Loggers}
-use Rattle.schedule_network.specs.Logs.{HearsIn, both, log_in, keepers_in, log_reads, log_hears}
+use Rattle.schedule_network.specs.Logs.{ReceivesIn, both, log_in, keepers_in, log_reads, log_receives}
 use Rattle.schedule_network.specs.Logs.Keepers.{Single, Paired, With_marks}
 use Rattle.schedule_network.specs.declared.logs.Logs.{Logs}
 use Rattle.schedule_network.specs.declared.logs.Logs.TheVariants.{One, Two, Marked}
 use Rattle.net_schedule.specs.Premises.{Premises, ComesAs}
 use Rattle.net_schedule.specs.Refinement.{Kept, WorldStands, ReachesNext}
-use Rattle.net_schedule.proofs.Goings.{client_hears, logger_hears, nothing_happens, actors_of, one_goes}
+use Rattle.net_schedule.proofs.Goings.{client_receives, logger_receives, nothing_happens, actors_of, one_goes}
 use Rattle.net_schedule.proofs.Peers.{first_of, at_first, by_number, changed_past}
 use Rattle.ft_model.proofs.ClientKeys.{keys_in, apart_distinct}
 
@@ -51,8 +51,8 @@ pub distinct_keys : {State : Type 0} (service : Machine State) (v : Seen) → Pr
 distinct_keys service v p = let k = p.keys in subst AreDistinct (sym k.2) (apart_distinct k.0.server k.0.clients k.1.apart)
 
 -- bytes to the client of a key's number are bytes to the client of the key
-told_by_key : (cs : List Client) (key : Key) (bytes : List ℕ) → AreDistinct (keys_in cs) → delivered_to (number_in (keys_in cs) key) bytes cs ≡ with_client key (λ c. delivered c bytes) cs
-told_by_key cs key bytes d =
+reported_by_key : (cs : List Client) (key : Key) (bytes : List ℕ) → AreDistinct (keys_in cs) → delivered_to (number_in (keys_in cs) key) bytes cs ≡ with_client key (λ c. delivered c bytes) cs
+reported_by_key cs key bytes d =
     let first : with_client key (λ c. delivered c bytes) cs ≡ changed_at (first_of key (keys_in cs)) (λ c. delivered c bytes) cs = at_first key (λ c. delivered c bytes) cs d in
     by_number (λ n. delivered_to n bytes cs ≡ with_client key (λ c. delivered c bytes) cs) (keys_in cs) key
     (λ there. sym first)
@@ -72,9 +72,9 @@ module _ {State : Type 0} (service : Machine State) where
   reads_client : (w w' : Kept State) (v : Seen) (key : Key) (bytes : List ℕ) (r : Result Segment BadPacket) → segments.reading bytes ≡ r → ActorsStand service w v
       → w' ≡ record w { clients = with_client key (λ c. delivered c bytes) w.clients } → ActorsGoOn service (ClientReads key r v) v w w'
   reads_client w w' v key bytes (Ok segment) e st e' =
-      client_hears service w w' v key segment st (e' ∙ ap (λ r. record w { clients = with_client key (λ c. hearing c r) w.clients }) e)
+      client_receives service w w' v key segment st (e' ∙ ap (λ r. record w { clients = with_client key (λ c. arrivals c r) w.clients }) e)
   reads_client w w' v key bytes (Err bad) e st e' =
-      nothing_happens service w w' v st (e' ∙ ap (λ r. record w { clients = with_client key (λ c. hearing c r) w.clients }) e ∙ ap (λ cs. record w { clients = cs }) (unchanged key w.clients))
+      nothing_happens service w w' v st (e' ∙ ap (λ r. record w { clients = with_client key (λ c. arrivals c r) w.clients }) e ∙ ap (λ cs. record w { clients = cs }) (unchanged key w.clients))
 
   pub brings_client : (w w' : Kept State) (v : Seen) (packet : Packet) (bytes : List ℕ) (number : ℕ) → ActorsStand service w v → Premises service v
       → ServerToClient number ≡ way_along w.keys (wire_of packet) → w' ≡ record w { clients = delivered_to number bytes w.clients } → ActorsGoOn service (DeliveredAs service v packet bytes) v w w'
@@ -84,7 +84,7 @@ module _ {State : Type 0} (service : Machine State) where
       number_of_way number (number_in w.keys (destination_of segment)) way ∙ ap (λ ks. number_in ks (destination_of segment)) (st.keys ∙ ap keys_in (sym st.clients)) in
       let d : AreDistinct (keys_in w.clients) = subst (λ cs. AreDistinct (keys_in cs)) (sym st.clients) (distinct_keys service v p) in
       reads_client w w' v (destination_of segment) bytes (segments.reading bytes) refl st
-      (e' ∙ ap (λ cs. record w { clients = cs }) (ap (λ k. delivered_to k bytes w.clients) n ∙ told_by_key w.clients (destination_of segment) bytes d))
+      (e' ∙ ap (λ cs. record w { clients = cs }) (ap (λ k. delivered_to k bytes w.clients) n ∙ reported_by_key w.clients (destination_of segment) bytes d))
     where
       number_of_way : (a b : ℕ) → ServerToClient a ≡ ServerToClient b → a ≡ b
       number_of_way a b e = cc
@@ -95,7 +95,7 @@ module _ {State : Type 0} (service : Machine State) where
   -- what the only logger makes of them
   reads_log : (w w' : Kept State) (v : Seen) (r : Result Message BadMsg) → WorldStands service w v
       → w' ≡ record w { log = (log_reads (grammar_of v.profile) r (w.log, w.packets)).0; packets = (log_reads (grammar_of v.profile) r (w.log, w.packets)).1 } → ReachesNext service (LogReads r v) v w'
-  reads_log w w' v (Ok message) st e' = logger_hears service w w' v message st e'
+  reads_log w w' v (Ok message) st e' = logger_receives service w w' v message st e'
   reads_log w w' v (Err bad) st e' = one_goes service (NothingHappens v) w w' v st (nothing_happens service w w' v (actors_of service w v st) e')
 
   -- one logger without marks is neither two nor one with marks
@@ -106,33 +106,33 @@ module _ {State : Type 0} (service : Machine State) where
   not_marked store e = absurd (cc)
 
   brings_to_log : (w w' : Kept State) (v : Seen) (packet : Packet) (bytes : List ℕ) (way : Way) (logs now : Logs) (sent : Carried) → WorldStands service w v → way ≡ ServerToLogger
-      → way ≡ way_along w.keys (wire_of packet) → w.log ≡ log_in logs → w.keepers ≡ keepers_in logs → HearsIn (grammar_of v.profile) logs way bytes w.packets now sent → w' ≡ with_logs w (now, sent)
+      → way ≡ way_along w.keys (wire_of packet) → w.log ≡ log_in logs → w.keepers ≡ keepers_in logs → ReceivesIn (grammar_of v.profile) logs way bytes w.packets now sent → w' ≡ with_logs w (now, sent)
       → ReachesNext service (DeliveredAs service v packet bytes) v w'
-  brings_to_log w w' v packet bytes way (Two loggers) now sent st is along log two heard e' = not_two loggers (sym st.single ∙ two)
-  brings_to_log w w' v packet bytes way (Marked kept) now sent st is along log two heard e' = not_marked kept.store (sym st.single ∙ two)
-  brings_to_log w w' v (To_logger message) bytes way (One log) now sent st is along same two heard e' =
+  brings_to_log w w' v packet bytes way (Two loggers) now sent st is along log two receipt e' = not_two loggers (sym st.single ∙ two)
+  brings_to_log w w' v packet bytes way (Marked kept) now sent st is along log two receipt e' = not_marked kept.store (sym st.single ∙ two)
+  brings_to_log w w' v (To_logger message) bytes way (One log) now sent st is along same two receipt e' =
       reads_log w w' v (messages.reading_by (grammar_of v.profile) bytes) st
-      (e' ∙ (ap (with_logs w) (heard ∙ ap (λ x. let h = log_hears (grammar_of v.profile) x bytes (log, w.packets) in both (One h.0) h.1) is)
+      (e' ∙ (ap (with_logs w) (receipt ∙ ap (λ x. let h = log_receives (grammar_of v.profile) x bytes (log, w.packets) in both (One h.0) h.1) is)
       ∙ ap₂ (λ l o. record w { log = (log_reads (grammar_of v.profile) (messages.reading_by (grammar_of v.profile) bytes) (l, w.packets)).0; keepers = o; packets = (log_reads (grammar_of v.profile) (messages.reading_by (grammar_of v.profile) bytes) (l, w.packets)).1 }) (sym same) (sym two)))
-  brings_to_log w w' v (To_server segment) bytes way (One log) now sent st is along same two heard e' = absurd (other (sym is ∙ along))
+  brings_to_log w w' v (To_server segment) bytes way (One log) now sent st is along same two receipt e' = absurd (other (sym is ∙ along))
     where
       other : ServerToLogger ≡ ClientToServer (number_in w.keys (source_of segment)) → ⊥
       other e = absurd (cc)
-  brings_to_log w w' v (To_client segment) bytes way (One log) now sent st is along same two heard e' = absurd (other (sym is ∙ along))
+  brings_to_log w w' v (To_client segment) bytes way (One log) now sent st is along same two receipt e' = absurd (other (sym is ∙ along))
     where
       other : ServerToLogger ≡ ServerToClient (number_in w.keys (destination_of segment)) → ⊥
       other e = absurd (cc)
-  brings_to_log w w' v (From_logger message) bytes way (One log) now sent st is along same two heard e' = absurd (other (sym is ∙ along))
+  brings_to_log w w' v (From_logger message) bytes way (One log) now sent st is along same two receipt e' = absurd (other (sym is ∙ along))
     where
       other : ServerToLogger ≡ LoggerToServer → ⊥
       other e = absurd (cc)
 
   pub brings_logger : (w w' : Kept State) (v : Seen) (packet : Packet) (bytes : List ℕ) (logs now : Logs) (sent : Carried) → WorldStands service w v
-      → ServerToLogger ≡ way_along w.keys (wire_of packet) → w.log ≡ log_in logs → w.keepers ≡ keepers_in logs → HearsIn (grammar_of (profile_of w.profile)) logs ServerToLogger bytes w.packets now sent
+      → ServerToLogger ≡ way_along w.keys (wire_of packet) → w.log ≡ log_in logs → w.keepers ≡ keepers_in logs → ReceivesIn (grammar_of (profile_of w.profile)) logs ServerToLogger bytes w.packets now sent
       → w' ≡ with_logs w (now, sent) → ReachesNext service (DeliveredAs service v packet bytes) v w'
-  brings_logger w w' v packet bytes logs now sent st way log two heard e' =
+  brings_logger w w' v packet bytes logs now sent st way log two receipt e' =
       brings_to_log w w' v packet bytes ServerToLogger logs now sent st refl way log two
-      (subst (λ p. HearsIn (grammar_of p) logs ServerToLogger bytes w.packets now sent) st.profile heard) e'
+      (subst (λ p. ReceivesIn (grammar_of p) logs ServerToLogger bytes w.packets now sent) st.profile receipt) e'
 
   -- no packet of a world with one logger goes between two
   pub none_between : {P : Type 0} (keys : List Key) (packet : Packet) (way : Way) → is_between way ≡ true → way ≡ way_along keys (wire_of packet) → P

@@ -18,7 +18,7 @@ use Rattle.net_schedule.specs.Step.{StandsAfter}
 use Rattle.net_schedule.specs.TwinStep.{TwinStandsAfter}
 use Rattle.ft_model.specs.Log.{empty_log}
 use Rattle.net_schedule.specs.Every.{every_in}
-use Rattle.schedule_network.specs.Journal.{StoreAndJournal}
+use Rattle.schedule_network.specs.FullLog.{StoreAndLog}
 use Rattle.schedule_network.specs.Loggers.{new_loggers}
 use Rattle.schedule_network.specs.Logs.{IsNewMarked, log_in, keepers_in}
 use Rattle.node_serving.specs.Markers.{Saving}
@@ -120,7 +120,7 @@ pub marked_stands_at_start : {State : Type 0} (saved : Saving State) (services :
     → IsStart (start_of schedule) → w ≡ started schedule logs every → IsNewMarked logs → every ≡ marks → 0 < marks
     → MarkedStandsAfter (marker_for saved services marks) schedule [] [] w
 marked_stands_at_start saved services schedule w logs every marks start e new same some =
-    let both : StoreAndJournal = new.0 in
+    let both : StoreAndLog = new.0 in
     subst (MarkedStandsAfter (marker_for saved services marks) schedule [] []) (sym e)
     (record {
       kind = refl;
@@ -131,8 +131,8 @@ marked_stands_at_start saved services schedule w logs every marks start e new sa
         node = tt;
         both = new.0;
         keepers = ap keepers_in new.1;
-        journal = ap log_in new.1;
-        log = ap log_in new.1 ∙ new.2.journal;
+        full_log = ap log_in new.1;
+        log = ap log_in new.1 ∙ new.2.full_log;
         at = new.2;
         packets = refl;
         every = same;

@@ -15,7 +15,7 @@ use Rattle.ft_model.specs.Network.{Packet}
 use Rattle.ft_model.specs.Network.Packet.{From_logger}
 use Rattle.ft_model.specs.Node.{Node, Stage, Input}
 use Rattle.ft_model.specs.Wire.{Wire, wire_by}
-use Rattle.ft_model.specs.World.{World as Seen, MayCome, ServerTurn, ServerMoves, ClientHears, LogHears, NothingHappens, Happens, with_client}
+use Rattle.ft_model.specs.World.{World as Seen, MayCome, ServerTurn, ServerMoves, ClientReceives, LogReceives, NothingHappens, Happens, with_client}
 use Rattle.ft_model.specs.declared.event.Event.{Event}
 use Rattle.ft_model.proofs.FaithfulKept.{received_same}
 use Rattle.ft_model.proofs.Lists.{none_is_some}
@@ -125,11 +125,11 @@ module _ {State : Type 0} (service : Machine State) where
       rests (ServerMoves service input v) w v st (subst (λ o. ServerTurn service input o [] o) (sym none) (refl, refl), refl)
 
   -- a client receives
-  pub client_hears : (w w' : Kept State) (v : Seen) (key : Key) (segment : Segment) → ActorsStand service w v
-      → w' ≡ record w { clients = with_client key (λ c. received c segment) w.clients } → ActorsGoOn service (ClientHears key segment v) v w w'
-  client_hears w w' v key segment st e' =
+  pub client_receives : (w w' : Kept State) (v : Seen) (key : Key) (segment : Segment) → ActorsStand service w v
+      → w' ≡ record w { clients = with_client key (λ c. received c segment) w.clients } → ActorsGoOn service (ClientReceives key segment v) v w w'
+  client_receives w w' v key segment st e' =
       let change : Client → Client = λ c. received c segment in
-      subst (ActorsGoOn service (ClientHears key segment v) v w) (sym e')
+      subst (ActorsGoOn service (ClientReceives key segment v) v w) (sym e')
       (record {
         sent = [];
         world = record v { clients = with_client key (λ c. received c segment) v.clients; packets = v.packets ++ [] };
@@ -191,12 +191,12 @@ module _ {State : Type 0} (service : Machine State) where
       record { happens = one_goes (Happens service v event) w w' v st a.happens; allowed = a.allowed; scripted = a.scripted }
 
   -- the only logger takes a message and answers
-  pub logger_hears : (w w' : Kept State) (v : Seen) (message : Message) → WorldStands service w v
-      → w' ≡ record w { log = log_after w.log message; packets = with_answer w.packets (answer_bytes_by (grammar_of v.profile) (answer_to w.log message)) } → ReachesNext service (LogHears message v) v w'
-  logger_hears w w' v message st e' =
+  pub logger_receives : (w w' : Kept State) (v : Seen) (message : Message) → WorldStands service w v
+      → w' ≡ record w { log = log_after w.log message; packets = with_answer w.packets (answer_bytes_by (grammar_of v.profile) (answer_to w.log message)) } → ReachesNext service (LogReceives message v) v w'
+  logger_receives w w' v message st e' =
       let answer : Option Message = answer_to v.log message in
       let sent : List Packet = option_to_list (option_map From_logger (answer_to v.log message)) in
-      subst (ReachesNext service (LogHears message v) v) (sym e')
+      subst (ReachesNext service (LogReceives message v) v) (sym e')
       (record {
         sent = option_to_list (option_map From_logger (answer_to v.log message));
         world = record v { log = log_after v.log message; packets = v.packets ++ option_to_list (option_map From_logger (answer_to v.log message)) };

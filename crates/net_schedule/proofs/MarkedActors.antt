@@ -29,7 +29,7 @@ use Rattle.net_schedule.specs.Actors.{ActorsStand, ActorsGoOn, ActorsAdvance}
 use Rattle.net_schedule.specs.Delivery.{delivered_to}
 use Rattle.net_schedule.specs.Premises.{Premises}
 use Rattle.net_schedule.specs.Refinement.{Kept, RunsWith}
-use Rattle.net_schedule.specs.MarkedRefinement.{MarkedWorldStands, MarkedGoesOn, MarkedAdvances, MarkedPremises, MarkedNodeStands, way_of_parcel, stored_parcels}
+use Rattle.net_schedule.specs.MarkedRefinement.{MarkedWorldStands, MarkedProceeds, MarkedAdvances, MarkedPremises, MarkedNodeStands, way_of_parcel, stored_parcels}
 use Rattle.net_schedule.proofs.Bringing.{brings_client}
 use Rattle.net_schedule.proofs.MarkedParcels.{usual_after}
 
@@ -188,7 +188,7 @@ module _ {State : Type 0} (by : Marker State) where
     node = subst (λ k. MarkedNodeStands by k w'.node v.node) (sym same_kind) (subst (λ o. MarkedNodeStands by w.kind o v.node) (sym same_node) st.node);
     both = st.both;
     keepers = g.same_keepers ∙ st.keepers;
-    journal = g.same_log ∙ st.journal;
+    full_log = g.same_log ∙ st.full_log;
     log = g.same_log ∙ st.log;
     at = st.at;
     packets = g.stored ∙ (usual_after (grammar_of v.profile) w.keys w.packets v.parcels g.sent st.packets ∙ ap (λ ks. stored_parcels (grammar_of v.profile) ks (v.parcels ++ map Usual g.sent)) (sym g.same_keys));
@@ -214,7 +214,7 @@ module _ {State : Type 0} (by : Marker State) where
 
   -- bytes reach a client
   pub client_reads : (key : Key) (r : Result Segment BadPacket) (w w' : Kept State) (v : MarkedWorld) → MarkedWorldStands by w v → w'.node ≡ w.node → w'.every ≡ w.every → w'.kind ≡ w.kind → w'.profile ≡ w.profile
-      → ActorsGoOn by.service (ClientReads key r (seen_down v)) (seen_down v) (downed w) (downed w') → MarkedGoesOn by (Elsewhere (ClientReads key r) v) v w'
+      → ActorsGoOn by.service (ClientReads key r (seen_down v)) (seen_down v) (downed w) (downed w') → MarkedProceeds by (Elsewhere (ClientReads key r) v) v w'
   client_reads key r w w' v st same_node same_every same_kind same_run g =
       let is : IsClients v g.sent g.world = reads_is v key r g.sent g.world g.goes in
       record {
@@ -227,7 +227,7 @@ module _ {State : Type 0} (by : Marker State) where
 
   -- bytes reach the addressee of a parcel that goes to a client
   pub client_brought : (w w' : Kept State) (v : MarkedWorld) (parcel : Parcel) (bytes : List ℕ) (number : ℕ) → MarkedWorldStands by w v → MarkedPremises by v
-      → ServerToClient number ≡ way_of_parcel w.keys parcel → w' ≡ record w { clients = delivered_to number bytes w.clients } → MarkedGoesOn by (ComesAs by parcel bytes v) v w'
+      → ServerToClient number ≡ way_of_parcel w.keys parcel → w' ≡ record w { clients = delivered_to number bytes w.clients } → MarkedProceeds by (ComesAs by parcel bytes v) v w'
   client_brought w w' v (Usual (To_client segment)) bytes number st p way e =
       client_reads (destination_of segment) (segments.reading bytes) w w' v st (ap (λ k. k.node) e) (ap (λ k. k.every) e) (ap (λ k. k.kind) e) (ap (λ k. k.profile) e)
       (brings_client by.service (downed w) (downed w') (seen_down v) (To_client segment) bytes number (down_stands w v st) (down_premises v p) way (ap downed e))

@@ -18,7 +18,7 @@ use Rattle.server_node.specs.MarkedTurns.{MarkedNodeStands, MarkedNodeTurns, Mar
 use Rattle.schedule_network.specs.StoredPackets.{with_wires}
 use Rattle.net_schedule.specs.WorldView.{server_of}
 use Rattle.net_schedule.specs.Refinement.{Kept, RunsWith}
-use Rattle.net_schedule.specs.MarkedRefinement.{MarkedWorldStands, MarkedGoesOn, MarkedAdvances, MarkedPremises, MayComeMarked, marker_for}
+use Rattle.net_schedule.specs.MarkedRefinement.{MarkedWorldStands, MarkedProceeds, MarkedAdvances, MarkedPremises, MayComeMarked, marker_for}
 use Rattle.net_schedule.proofs.MarkedServer.{marked_boots, marked_goes_at, marker_is}
 
 module _ {State : Type 0} (ghosts : Ghosts State) (saved : Saving State) (every : ℕ) where
@@ -42,11 +42,11 @@ module _ {State : Type 0} (ghosts : Ghosts State) (saved : Saving State) (every 
       → MarkedWorldStands (marker_for saved (machines ghosts.started ghosts.after ghosts.greeting) every w.kind) w v
       → MarkedPremises (marker_for saved (machines ghosts.started ghosts.after ghosts.greeting) every w.kind) v → MayComeMarked v (input w.profile) → w.node ≡ Some (server_of was) → now.who ≡ was.who
       → MarkedNodeTurns saved (input was.who.profile) was now sent → w' ≡ record w { packets = with_wires w.keys w.packets sent; node = Some (server_of now) }
-      → MarkedGoesOn (marker_for saved (machines ghosts.started ghosts.after ghosts.greeting) every w.kind) (ServerMoves (marker_for saved (machines ghosts.started ghosts.after ghosts.greeting) every w.kind) (input w.profile) v) v w'
+      → MarkedProceeds (marker_for saved (machines ghosts.started ghosts.after ghosts.greeting) every w.kind) (ServerMoves (marker_for saved (machines ghosts.started ghosts.after ghosts.greeting) every w.kind) (input w.profile) v) v w'
   serves_marked w w' v input was now sent savable st p comes up same turns e =
       let runs : was.who.profile ≡ w.profile = subst (RunsWith w.profile) up st.actors.runs in
       let by = marker_for saved (machines ghosts.started ghosts.after ghosts.greeting) every w.kind in
-      subst (λ q. MarkedGoesOn by (ServerMoves by (input q) v) v w') runs
+      subst (λ q. MarkedProceeds by (ServerMoves by (input q) v) v w') runs
       (marked_goes_at ghosts saved every w w' v (input was.who.profile) (server_of was) (server_of now) sent savable st p (subst (λ q. MayComeMarked v (input q)) (sym runs) comes) up same
       (λ node bytes lengths fair is stands.
       let g : MarkedNodeGoes (marker_of ghosts saved was.who every) bytes lengths node (input was.who.profile) now sent = turns every node bytes lengths fair (record { who = is; stage = stands }) in

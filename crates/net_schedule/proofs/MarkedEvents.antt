@@ -13,7 +13,7 @@ use Rattle.seq_arith.specs.declared.kinds.BadMsg.{BadMsg}
 use Rattle.seq_arith.specs.declared.kinds.Grammar.{Grammar}
 use Rattle.seq_arith.specs.declared.mark.BadMark.{BadMark}
 use Rattle.seq_arith.proofs.MessageSpelling.{message_is_read}
-use Rattle.seq_arith.proofs.Refused.{flipped_packet_is_refused, accepted, goes_on}
+use Rattle.seq_arith.proofs.Refused.{flipped_packet_is_refused, accepted, proceeds}
 use Rattle.seq_arith.specs.Bytes.{word_at}
 use Rattle.seq_arith.specs.declared.kinds.BadMsg.TheVariants as bad_msg
 use Rattle.seq_arith.specs.declared.mark.BadMark.TheVariants as bad_mark
@@ -36,7 +36,7 @@ use Rattle.mark_laws.proofs.MarkSteps.{of_parcel, under_way}
 use Rattle.mark_laws.proofs.Noise.{message_noise, mark_noise}
 use Rattle.schedule_network.specs.AtNumber.{at_number}
 use Rattle.net_schedule.specs.Refinement.{Kept}
-use Rattle.net_schedule.specs.MarkedRefinement.{MarkedWorldStands, MarkedGoesOn, MarkedAdvances, MarkedPremises, MayComeMarked, MarkedComesAs, way_of_parcel}
+use Rattle.net_schedule.specs.MarkedRefinement.{MarkedWorldStands, MarkedProceeds, MarkedAdvances, MarkedPremises, MayComeMarked, MarkedComesAs, way_of_parcel}
 use Rattle.net_schedule.proofs.Events.{no_move}
 use Rattle.net_schedule.proofs.MarkedParcels.{FoundMarked, found_marked}
 
@@ -67,8 +67,8 @@ mark_magic : (bytes : List ℕ) → IsOk (marks.reading bytes) → not (nat_eq (
 unfolding marks.reading
 mark_magic bytes ok =
     let last : Result MarkMessage BadMark = if not (nat_eq (slice_index bytes 2) 1) then Err bad_mark.Version else marks.reading_if (marks.kind_numbered (slice_index bytes 3)) bytes in
-    (goes_on (not (nat_eq (word_at bytes 0) 18006)) bad_mark.Magic last
-    (goes_on (nat_lt (length bytes) 16) bad_mark.Short (if not (nat_eq (word_at bytes 0) 18006) then Err bad_mark.Magic else last) ok).1).0
+    (proceeds (not (nat_eq (word_at bytes 0) 18006)) bad_mark.Magic last
+    (proceeds (nat_lt (length bytes) 16) bad_mark.Short (if not (nat_eq (word_at bytes 0) 18006) then Err bad_mark.Magic else last) ok).1).0
 
 mark_said : (message : MarkMessage) (r : Result Message BadMsg) (q : Result MarkMessage BadMark) → IsErr r → q ≡ Ok message → either_said r q ≡ Some (About_mark message)
 mark_said message (Err why) q h e = ap (λ x. either_said (Err why) x) e
@@ -115,14 +115,14 @@ module _ {State : Type 0} (by : Marker State) where
   -- a parcel is delivered
   pub marked_delivers : (w w' : Kept State) (v : MarkedWorld) (n : ℕ) (way : Way) (bytes : List ℕ) → MarkedWorldStands by w v → MarkedPremises by v
       → at_number w.packets.ways n ≡ Some way → at_number w.packets.bytes n ≡ Some bytes
-      → ((parcel : Parcel) → way ≡ way_of_parcel w.keys parcel → MarkedComesAs v parcel bytes → MarkedGoesOn by (ComesAs by parcel bytes v) v w')
+      → ((parcel : Parcel) → way ≡ way_of_parcel w.keys parcel → MarkedComesAs v parcel bytes → MarkedProceeds by (ComesAs by parcel bytes v) v w')
       → MarkedAdvances by v (events.Deliver n) w'
   marked_delivers w w' v n way bytes st p e f brings =
       let x : FoundMarked (grammar_of v.profile) w.keys v.parcels n way bytes = found_marked (grammar_of v.profile) w.keys w.packets v.parcels n way bytes st.packets e f in
       let read : CanBeRead (grammar_of v.profile) x.parcel = of_parcel (CanBeRead (grammar_of v.profile)) v n x.parcel p.readable x.is in
       let came : MarkedComesAs v x.parcel bytes = subst (MarkedComesAs v x.parcel) (sym x.spells) (comes_whole v n x.parcel read x.is) in
-      let g : MarkedGoesOn by (ComesAs by x.parcel (bytes_of (grammar_of v.profile) x.parcel) v) v w' =
-      subst (λ b. MarkedGoesOn by (ComesAs by x.parcel b v) v w') x.spells (brings x.parcel x.goes came) in
+      let g : MarkedProceeds by (ComesAs by x.parcel (bytes_of (grammar_of v.profile) x.parcel) v) v w' =
+      subst (λ b. MarkedProceeds by (ComesAs by x.parcel b v) v w') x.spells (brings x.parcel x.goes came) in
       record {
         happens = record { sent = g.sent; world = g.world; goes = (x.parcel, x.is, comes_so x.parcel v g.sent g.world read g.goes); stands = g.stands; grew = g.grew };
         allowed = rw x.is refl;
@@ -135,15 +135,15 @@ module _ {State : Type 0} (by : Marker State) where
   -- .. or with a changed bit
   pub marked_flips : (w w' : Kept State) (v : MarkedWorld) (n bit : ℕ) (way : Way) (bytes : List ℕ) → MarkedWorldStands by w v → MarkedPremises by v
       → at_number w.packets.ways n ≡ Some way → at_number w.packets.bytes n ≡ Some bytes → bit < 8 * length bytes
-      → ((parcel : Parcel) → way ≡ way_of_parcel w.keys parcel → MarkedComesAs v parcel (flipped bit bytes) → MarkedGoesOn by (ComesAs by parcel (flipped bit bytes) v) v w')
+      → ((parcel : Parcel) → way ≡ way_of_parcel w.keys parcel → MarkedComesAs v parcel (flipped bit bytes) → MarkedProceeds by (ComesAs by parcel (flipped bit bytes) v) v w')
       → MarkedAdvances by v (events.Flip n bit) w'
   marked_flips w w' v n bit way bytes st p e f within brings =
       let x : FoundMarked (grammar_of v.profile) w.keys v.parcels n way bytes = found_marked (grammar_of v.profile) w.keys w.packets v.parcels n way bytes st.packets e f in
       let read : CanBeRead (grammar_of v.profile) x.parcel = of_parcel (CanBeRead (grammar_of v.profile)) v n x.parcel p.readable x.is in
       let inside : bit < 8 * length (bytes_of (grammar_of v.profile) x.parcel) = subst (λ b. bit < 8 * length b) x.spells within in
       let came : MarkedComesAs v x.parcel (flipped bit bytes) = subst (λ b. MarkedComesAs v x.parcel (flipped bit b)) (sym x.spells) (comes_changed v x.parcel bit read inside) in
-      let g : MarkedGoesOn by (ComesAs by x.parcel (flipped bit (bytes_of (grammar_of v.profile) x.parcel)) v) v w' =
-      subst (λ b. MarkedGoesOn by (ComesAs by x.parcel (flipped bit b) v) v w') x.spells (brings x.parcel x.goes came) in
+      let g : MarkedProceeds by (ComesAs by x.parcel (flipped bit (bytes_of (grammar_of v.profile) x.parcel)) v) v w' =
+      subst (λ b. MarkedProceeds by (ComesAs by x.parcel (flipped bit b) v) v w') x.spells (brings x.parcel x.goes came) in
       let has : nat_le (8 * length (bytes_of (grammar_of v.profile) x.parcel)) bit ≡ false = grind (arith, nat_tests) in
       record {
         happens = record { sent = g.sent; world = g.world; goes = (x.parcel, x.is, record { read = read; within = inside; comes = g.goes }); stands = g.stands; grew = g.grew };

@@ -10,7 +10,7 @@ use Rattle.tcp_rules.specs.Profile.{grammar_of}
 use Rattle.ft_model.specs.Client.{received}
 use Rattle.ft_model.specs.Network.{Packet, destination_of}
 use Rattle.ft_model.specs.Network.Packet.{To_server, To_client, To_logger, From_logger}
-use Rattle.ft_model.specs.World.{World as Seen, ClientHears, ClientReads, Happens, segment_or_noise}
+use Rattle.ft_model.specs.World.{World as Seen, ClientReceives, ClientReads, Happens, segment_or_noise}
 use Rattle.ft_model.specs.declared.event.Event.{Event}
 use Rattle.ft_model.specs.declared.event.Event.TheVariants.{Boot, Crash, Tick, Deliver, Flip}
 use Rattle.ft_model.proofs.FaithfulKept.{received_same}
@@ -21,7 +21,7 @@ use Rattle.mark_laws.specs.MarkedLog.AnyMessage.{About_mark, Of_log}
 use Rattle.mark_laws.specs.MarkedNode.{Marker, MarkedNode, MarkedInput}
 use Rattle.mark_laws.specs.MarkedNode.MarkedInput.{Plain_comes, Mark_comes}
 use Rattle.ft_model.specs.Node.Input.{Packet_comes, Message_comes, Tick_comes}
-use Rattle.mark_laws.specs.MarkedWorld.{Parcel, MarkedWorld, MarkedMoment, MarkedJoint, MarkedHappens, Elsewhere, ServerTurn, LogHears, LogReads, ParcelComes, ComesAs, bytes_of, seen, said_by, input_of, marked_after}
+use Rattle.mark_laws.specs.MarkedWorld.{Parcel, MarkedWorld, MarkedMoment, MarkedJoint, MarkedHappens, Elsewhere, ServerTurn, LogReceives, LogReads, ParcelComes, ComesAs, bytes_of, seen, said_by, input_of, marked_after}
 use Rattle.mark_laws.specs.MarkedWorld.Parcel.{Usual, Mark_sent, Mark_answered}
 use Rattle.net_schedule.proofs.Trace.{step_keeps}
 
@@ -33,7 +33,7 @@ server_keeps : {State : Type 0} (by : Marker State) (input : MarkedInput) (befor
 server_keeps by input before sent after None t = ap (λ (w : MarkedWorld). keys_in w.clients) t.1
 server_keeps by input before sent after (Some node) t = ap (λ (w : MarkedWorld). keys_in w.clients) t.4
 
-log_keeps : (message : AnyMessage) (before : MarkedWorld) (sent : List Parcel) (after : MarkedWorld) → LogHears message before sent after → Keeps before after
+log_keeps : (message : AnyMessage) (before : MarkedWorld) (sent : List Parcel) (after : MarkedWorld) → LogReceives message before sent after → Keeps before after
 log_keeps (Of_log message) before sent after t = ap (λ (w : MarkedWorld). keys_in w.clients) t.1
 log_keeps (About_mark message) before sent after t = ap (λ (w : MarkedWorld). keys_in w.clients) t.1
 
@@ -41,7 +41,7 @@ reads_keep : (o : Option AnyMessage) (before : MarkedWorld) (sent : List Parcel)
 reads_keep (Some message) before sent after t = log_keeps message before sent after t
 reads_keep None before sent after t = ap (λ (w : MarkedWorld). keys_in w.clients) t.1
 
-client_keeps : (key : Key) (segment : Segment) (before : Seen) (sent : List Packet) (after : Seen) → ClientHears key segment before sent after → keys_in after.clients ≡ keys_in before.clients
+client_keeps : (key : Key) (segment : Segment) (before : Seen) (sent : List Packet) (after : Seen) → ClientReceives key segment before sent after → keys_in after.clients ≡ keys_in before.clients
 client_keeps key segment before sent after t =
     ap (λ (w : Seen). keys_in w.clients) t.1 ∙ keys_stay key (λ c. received c segment) before.clients (λ c h. (received_same c segment).key)
 

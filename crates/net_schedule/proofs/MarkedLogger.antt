@@ -24,11 +24,11 @@ use Rattle.mark_laws.specs.MarkedWorld.Parcel.{Usual, Mark_sent, Mark_answered}
 use Rattle.schedule_network.specs.StoredPackets.{Carried, with_answer}
 use Rattle.net_schedule.specs.Delivery.{with_logs}
 use Rattle.schedule_network.specs.Loggers.{Loggers}
-use Rattle.schedule_network.specs.Journal.{StoreAndJournal, AreAt, HasDistinctKeys}
-use Rattle.schedule_network.specs.Logs.{HearsIn, keepers_in, log_in}
+use Rattle.schedule_network.specs.FullLog.{StoreAndLog, AreAt, HasDistinctKeys}
+use Rattle.schedule_network.specs.Logs.{ReceivesIn, keepers_in, log_in}
 use Rattle.schedule_network.specs.Logs.Keepers.{Single, Paired, With_marks}
 use Rattle.net_schedule.specs.Refinement.{Kept}
-use Rattle.net_schedule.specs.MarkedRefinement.{MarkedWorldStands, MarkedGoesOn, way_of_parcel}
+use Rattle.net_schedule.specs.MarkedRefinement.{MarkedWorldStands, MarkedProceeds, way_of_parcel}
 use Rattle.schedule_network.specs.declared.logs.Logs.{Logs}
 use Rattle.schedule_network.specs.declared.logs.Logs.TheVariants.{One, Two, Marked}
 use Rattle.net_schedule.proofs.MarkedParcels.{reply_after}
@@ -51,11 +51,11 @@ is_to_logger ServerToLogger = true
 is_to_logger _ = false
 
 module _ {State : Type 0} (by : Marker State) (w w' : Kept State) (v : MarkedWorld) (st : MarkedWorldStands by w v) where
-  logger_goes : (after : StoreAndJournal) (sent : Carried) (bytes : List ℕ) → AreAt after (after_bytes_by (grammar_of v.profile) bytes v.log) → sent ≡ with_answer w.packets (reply_to_by (grammar_of v.profile) bytes v.log)
-      → w' ≡ record w { log = after.journal; keepers = With_marks after.store; packets = sent } → MarkedGoesOn by (LogReads (said_by (grammar_of v.profile) bytes) v) v w'
+  logger_goes : (after : StoreAndLog) (sent : Carried) (bytes : List ℕ) → AreAt after (after_bytes_by (grammar_of v.profile) bytes v.log) → sent ≡ with_answer w.packets (reply_to_by (grammar_of v.profile) bytes v.log)
+      → w' ≡ record w { log = after.full_log; keepers = With_marks after.store; packets = sent } → MarkedProceeds by (LogReads (said_by (grammar_of v.profile) bytes) v) v w'
   logger_goes after sent bytes at answered e =
       let new : List Parcel = map answered_as (option_to_list (reply_to_reading (messages.reading_by (grammar_of v.profile) bytes) (marks.reading bytes) v.log)) in
-      subst (MarkedGoesOn by (LogReads (said_by (grammar_of v.profile) bytes) v) v) (sym e)
+      subst (MarkedProceeds by (LogReads (said_by (grammar_of v.profile) bytes) v) v) (sym e)
       (record {
         sent = map answered_as (option_to_list (reply_to_reading (messages.reading_by (grammar_of v.profile) bytes) (marks.reading bytes) v.log));
         world = record v { log = after_bytes_by (grammar_of v.profile) bytes v.log; parcels = v.parcels ++ map answered_as (option_to_list (reply_to_reading (messages.reading_by (grammar_of v.profile) bytes) (marks.reading bytes) v.log)) };
@@ -65,8 +65,8 @@ module _ {State : Type 0} (by : Marker State) (w w' : Kept State) (v : MarkedWor
           node = st.node;
           both = after;
           keepers = refl;
-          journal = refl;
-          log = at.journal;
+          full_log = refl;
+          log = at.full_log;
           at = at;
           packets = answered ∙ reply_after (grammar_of v.profile) w.keys w.packets v.parcels (reply_to_reading (messages.reading_by (grammar_of v.profile) bytes) (marks.reading bytes) v.log) st.packets;
           every = st.every;
@@ -75,7 +75,7 @@ module _ {State : Type 0} (by : Marker State) (w w' : Kept State) (v : MarkedWor
         grew = refl;
       })
 
-  by_parcel : (parcel : Parcel) (bytes : List ℕ) → ServerToLogger ≡ way_of_parcel w.keys parcel → MarkedGoesOn by (LogReads (said_by (grammar_of v.profile) bytes) v) v w' → MarkedGoesOn by (ComesAs by parcel bytes v) v w'
+  by_parcel : (parcel : Parcel) (bytes : List ℕ) → ServerToLogger ≡ way_of_parcel w.keys parcel → MarkedProceeds by (LogReads (said_by (grammar_of v.profile) bytes) v) v w' → MarkedProceeds by (ComesAs by parcel bytes v) v w'
   by_parcel (Usual (To_logger message)) bytes is g = g
   by_parcel (Mark_sent message) bytes is g = g
   by_parcel (Usual (To_server segment)) bytes is g = absurd (true≢false (ap is_to_logger is))
@@ -94,19 +94,19 @@ module _ {State : Type 0} (by : Marker State) (w w' : Kept State) (v : MarkedWor
   same_store a b e = cc
 
   pub brings_marked : (logs now : Logs) (sent : Carried) (parcel : Parcel) (bytes : List ℕ) → HasDistinctKeys v.log → w.log ≡ log_in logs → w.keepers ≡ keepers_in logs
-      → ServerToLogger ≡ way_of_parcel w.keys parcel → HearsIn (grammar_of (profile_of w.profile)) logs ServerToLogger bytes w.packets now sent → w' ≡ with_logs w (now, sent)
-      → MarkedGoesOn by (ComesAs by parcel bytes v) v w'
-  brings_marked (One log) now sent parcel bytes d journal are is heard e = not_one st.both.store (sym are ∙ st.keepers)
-  brings_marked (Two l) now sent parcel bytes d journal are is heard e = not_two l st.both.store (sym are ∙ st.keepers)
-  brings_marked (Marked both) now sent parcel bytes d journal are is told e =
-      let heard : HearsIn (grammar_of v.profile) (Marked both) ServerToLogger bytes w.packets now sent =
-      subst (λ p. HearsIn (grammar_of p) (Marked both) ServerToLogger bytes w.packets now sent) st.actors.profile told in
+      → ServerToLogger ≡ way_of_parcel w.keys parcel → ReceivesIn (grammar_of (profile_of w.profile)) logs ServerToLogger bytes w.packets now sent → w' ≡ with_logs w (now, sent)
+      → MarkedProceeds by (ComesAs by parcel bytes v) v w'
+  brings_marked (One log) now sent parcel bytes d full_log are is receipt e = not_one st.both.store (sym are ∙ st.keepers)
+  brings_marked (Two l) now sent parcel bytes d full_log are is receipt e = not_two l st.both.store (sym are ∙ st.keepers)
+  brings_marked (Marked both) now sent parcel bytes d full_log are is reported e =
+      let receipt : ReceivesIn (grammar_of v.profile) (Marked both) ServerToLogger bytes w.packets now sent =
+      subst (λ p. ReceivesIn (grammar_of p) (Marked both) ServerToLogger bytes w.packets now sent) st.actors.profile reported in
       let at : AreAt both v.log = record {
         left = subst (λ s. IsLeftOfMarked s v.log) (sym (same_store both.store st.both.store (sym are ∙ st.keepers))) st.at.left;
-        journal = sym journal ∙ st.log;
+        full_log = sym full_log ∙ st.log;
       } in
-      let goes : MarkedGoesOn by (LogReads (said_by (grammar_of v.profile) bytes) v) v w' =
-      logger_goes heard.0 sent bytes (heard.2.log v.log at d) (heard.2.sent v.log at d) (e ∙ ap (λ x. with_logs w (x, sent)) heard.1) in
+      let goes : MarkedProceeds by (LogReads (said_by (grammar_of v.profile) bytes) v) v w' =
+      logger_goes receipt.0 sent bytes (receipt.2.log v.log at d) (receipt.2.sent v.log at d) (e ∙ ap (λ x. with_logs w (x, sent)) receipt.1) in
       by_parcel parcel bytes is goes
 
 -- no parcel goes between two loggers

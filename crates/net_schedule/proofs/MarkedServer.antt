@@ -33,7 +33,7 @@ use Rattle.mark_laws.specs.Restart.{mark_reported}
 use Rattle.mark_laws.specs.MarkedLegal.{marked_refusal}
 use Rattle.mark_laws.specs.MarkedNode.{Marker, MarkedNode, MarkedInput, LawfulMarkedTurn, booted_to_mark, so_far}
 use Rattle.mark_laws.specs.MarkedNode.MarkedInput.{Plain_comes, Mark_comes}
-use Rattle.mark_laws.specs.MarkedWorld.{Parcel, MarkedWorld, MarkedHappens, ServerMoves, ServerTurn, parcel_of, bytes_of, bytes_told, lengths_told, either_said, said_by, input_of, seen, ComesAs}
+use Rattle.mark_laws.specs.MarkedWorld.{Parcel, MarkedWorld, MarkedHappens, ServerMoves, ServerTurn, parcel_of, bytes_of, bytes_reported, lengths_reported, either_said, said_by, input_of, seen, ComesAs}
 use Rattle.mark_laws.specs.MarkedWorld.Parcel.{Usual, Mark_sent, Mark_answered}
 use Rattle.mark_laws.specs.Premises.{IsSoundMark, LeadsToSound}
 use Rattle.server_trait.specs.declared.Service.{Ghosts}
@@ -44,12 +44,12 @@ use Rattle.node_serving.specs.Identity.{node_of}
 use Rattle.node_serving.specs.Markers.{Saving, marker_of}
 use Rattle.conn_marks.specs.MarkSends.{outgoing_wire}
 use Rattle.server_node.specs.MarkedTurns.{NodeStandsAt, IsFairTo, IsSoundStart, IsSoundBelow, marked_input_of}
-use Rattle.server_node.specs.Inputs.{input_of as heard_of}
-use Rattle.server_node.specs.declared.input.Input.{Input as Heard}
+use Rattle.server_node.specs.Inputs.{input_of as received_of}
+use Rattle.server_node.specs.declared.input.Input.{Input as Receipt}
 use Rattle.server_node.specs.declared.input.Input.TheVariants as inputs
 use Rattle.schedule_network.specs.StoredPackets.{Carried, with_wires, way_along}
 use Rattle.net_schedule.specs.Refinement.{Kept, Server, RunsWith}
-use Rattle.net_schedule.specs.MarkedRefinement.{IsMarkedAt, MarkedNodeStands, MarkedWorldStands, MarkedGoesOn, MarkedAdvances, MarkedPremises, MayComeMarked, MarkedComesAs, marker_for, way_of_parcel, stored_parcels}
+use Rattle.net_schedule.specs.MarkedRefinement.{IsMarkedAt, MarkedNodeStands, MarkedWorldStands, MarkedProceeds, MarkedAdvances, MarkedPremises, MayComeMarked, MarkedComesAs, marker_for, way_of_parcel, stored_parcels}
 use Rattle.net_schedule.proofs.Events.{no_move}
 use Rattle.net_schedule.proofs.PacketStore.{ways_alike}
 use Rattle.net_schedule.proofs.MarkedParcels.{parcels_after, usual_after, none_after}
@@ -106,10 +106,10 @@ if_some_weaker P Q (Some x) f h = f x h
 
 -- The premises of a turn are those that a trace guarantees
 below_sound : {State : Type 0} (by : Marker State) (v : MarkedWorld) (node : MarkedNode) (message : MarkMessage) (stage : Stage) → IsSoundMark by v.log.log node message stage
-    → IsSoundBelow by (bytes_told v.log.log (Mark_comes message)) (lengths_told v.log.log (Mark_comes message)) node stage (Mark_comes message)
+    → IsSoundBelow by (bytes_reported v.log.log (Mark_comes message)) (lengths_reported v.log.log (Mark_comes message)) node stage (Mark_comes message)
 below_sound by v node message (Fetching count fetched) h =
     if_some_weaker (LeadsToSound by v.log.log message.body (so_far node fetched))
-    (IsSoundStart by (bytes_told v.log.log (Mark_comes message)) (lengths_told v.log.log (Mark_comes message)) (so_far node fetched))
+    (IsSoundStart by (bytes_reported v.log.log (Mark_comes message)) (lengths_reported v.log.log (Mark_comes message)) (so_far node fetched))
     (mark_reported by.writing node.plain.boot message (so_far node fetched)) (λ m x. record { front = x.front; bytes_are = x.bytes; whole = x.whole }) h
 below_sound by v node message Asking h = tt
 below_sound by v node message (Serving opened places) h = tt
@@ -122,7 +122,7 @@ nothing_below by node (Serving opened places) input = tt
 nothing_below by node (Fenced newer) input = tt
 
 fair : {State : Type 0} (by : Marker State) (v : MarkedWorld) (node : MarkedNode) (input : MarkedInput) → MarkedPremises by v → v.node ≡ Some node → MayComeMarked v input
-    → IsFairTo by (bytes_told v.log.log input) (lengths_told v.log.log input) node input
+    → IsFairTo by (bytes_reported v.log.log input) (lengths_reported v.log.log input) node input
 fair by v node (Plain_comes input) p up comes =
     record { near = p.near node input up comes; sound = p.sound node input up comes; mark = λ some. nothing_below by node node.plain.stage input }
 fair by v node (Mark_comes message) p up comes =
@@ -148,13 +148,13 @@ module _ {State : Type 0} (by : Marker State) where
       → w.node ≡ Some s → s'.who ≡ s.who
       → ((node : MarkedNode) (bytes lengths : List ℕ) → IsFairTo by bytes lengths node input → node.plain ≡ node_of s.who node.plain.stage → NodeStandsAt by node s.stage
       → TurnsTo by bytes lengths node input s' sent)
-      → w' ≡ record w { packets = with_wires w.keys w.packets sent; node = Some s' } → MarkedGoesOn by (ServerMoves by input v) v w'
+      → w' ≡ record w { packets = with_wires w.keys w.packets sent; node = Some s' } → MarkedProceeds by (ServerMoves by input v) v w'
   marked_goes w w' v input s s' sent st p comes is_up same turn e' =
       let u : IsMarkedUp by w.kind s v.node = marked_up by w.kind s v.node (subst (λ o. MarkedNodeStands by w.kind o v.node) is_up st.node) in
       let its_profile : s'.who.profile ≡ w.profile = ap (λ i. i.profile) same ∙ subst (RunsWith w.profile) is_up st.actors.runs in
-      let g : TurnsTo by (bytes_told v.log.log input) (lengths_told v.log.log input) u.node input s' sent =
-      turn u.node (bytes_told v.log.log input) (lengths_told v.log.log input) (fair by v u.node input p u.up comes) u.at.is u.at.stands in
-      subst (MarkedGoesOn by (ServerMoves by input v) v) (sym e')
+      let g : TurnsTo by (bytes_reported v.log.log input) (lengths_reported v.log.log input) u.node input s' sent =
+      turn u.node (bytes_reported v.log.log input) (lengths_reported v.log.log input) (fair by v u.node input p u.up comes) u.at.is u.at.stands in
+      subst (MarkedProceeds by (ServerMoves by input v) v) (sym e')
       (record {
         sent = map parcel_of g.sent;
         world = record v { node = Some g.after; parcels = v.parcels ++ map parcel_of g.sent };
@@ -165,7 +165,7 @@ module _ {State : Type 0} (by : Marker State) where
           node = record { kind_is = ap (λ i. i.kind) same ∙ u.at.kind_is; is = g.is; stands = g.stands };
           both = st.both;
           keepers = st.keepers;
-          journal = st.journal;
+          full_log = st.full_log;
           log = st.log;
           at = st.at;
           packets = ap (with_wires w.keys w.packets)
@@ -179,7 +179,7 @@ module _ {State : Type 0} (by : Marker State) where
 
   -- nothing is sent, and only the server changes
   rests : (Goes : List Parcel → MarkedWorld → Type 0) (w w' : Kept State) (v : MarkedWorld) (node : Option MarkedNode) → MarkedWorldStands by w v → MarkedNodeStands by w.kind w'.node node → RunsWith w.profile w'.node
-      → w' ≡ record w { node = w'.node } → Goes [] (record v { node = node; parcels = v.parcels ++ [] }) → MarkedGoesOn by Goes v w'
+      → w' ≡ record w { node = w'.node } → Goes [] (record v { node = node; parcels = v.parcels ++ [] }) → MarkedProceeds by Goes v w'
   rests Goes w w' v node st at runs e goes =
       let keys : w'.keys ≡ w.keys = ap (λ k. k.keys) e in
       record {
@@ -192,7 +192,7 @@ module _ {State : Type 0} (by : Marker State) where
               node = at;
               both = st.both;
               keepers = st.keepers;
-              journal = st.journal;
+              full_log = st.full_log;
               log = st.log;
               at = st.at;
               packets = none_after (grammar_of v.profile) w.keys w.packets v.parcels st.packets;
@@ -203,7 +203,7 @@ module _ {State : Type 0} (by : Marker State) where
       }
 
   -- a server that is down has no turn
-  pub marked_rests : (w : Kept State) (v : MarkedWorld) (input : MarkedInput) → MarkedWorldStands by w v → w.node ≡ None → MarkedGoesOn by (ServerMoves by input v) v w
+  pub marked_rests : (w : Kept State) (v : MarkedWorld) (input : MarkedInput) → MarkedWorldStands by w v → w.node ≡ None → MarkedProceeds by (ServerMoves by input v) v w
   marked_rests w v input st is_down =
       let none : v.node ≡ None = marked_down by w.kind w.node v.node st.node is_down in
       rests (ServerMoves by input v) w w v v.node st st.node st.actors.runs refl
@@ -253,7 +253,7 @@ module _ {State : Type 0} (by : Marker State) where
             };
             both = st.both;
             keepers = st.keepers;
-            journal = st.journal;
+            full_log = st.full_log;
             log = st.log;
             at = st.at;
             packets = ap (with_wires w.keys w.packets) said ∙ usual_after (grammar_of v.profile) w.keys w.packets v.parcels (hello (booted v.server v.profile boot isn)) st.packets;
@@ -299,7 +299,7 @@ module _ {State : Type 0} (by : Marker State) where
       r ∙ ap (λ b. cond b None (Some why.Down)) (is_up_seen v.node ∙ (sym (both_marked_up by w.kind w.node v.node st.node) ∙ e))
 
   -- a tick
-  pub marked_ticks : (w w' : Kept State) (v : MarkedWorld) → MarkedWorldStands by w v → is_some w.node ≡ true → MarkedGoesOn by (ServerMoves by (Plain_comes Tick_comes) v) v w'
+  pub marked_ticks : (w w' : Kept State) (v : MarkedWorld) → MarkedWorldStands by w v → is_some w.node ≡ true → MarkedProceeds by (ServerMoves by (Plain_comes Tick_comes) v) v w'
       → MarkedAdvances by v events.Tick w'
   marked_ticks w w' v st e g =
       let is_up : is_some v.node ≡ true = sym (both_marked_up by w.kind w.node v.node st.node) ∙ e in
@@ -320,8 +320,8 @@ is_from_logger _ = false
 
 pub segment_brought : {State : Type 0} (by : Marker State) (keys : List Key) (w' : Kept State) (v : MarkedWorld) (parcel : Parcel) (bytes : List ℕ) (number : ℕ)
     → ClientToServer number ≡ way_of_parcel keys parcel → MarkedComesAs v parcel bytes
-    → (MayComeMarked v (Plain_comes (segment_or_noise (segments.reading bytes))) → MarkedGoesOn by (ServerMoves by (Plain_comes (segment_or_noise (segments.reading bytes))) v) v w')
-    → MarkedGoesOn by (ComesAs by parcel bytes v) v w'
+    → (MayComeMarked v (Plain_comes (segment_or_noise (segments.reading bytes))) → MarkedProceeds by (ServerMoves by (Plain_comes (segment_or_noise (segments.reading bytes))) v) v w')
+    → MarkedProceeds by (ComesAs by parcel bytes v) v w'
 segment_brought by keys w' v (Usual (To_server segment)) bytes number way comes goes = goes comes
 segment_brought by keys w' v (Usual (To_client segment)) bytes number way comes goes = absurd (true≢false (ap is_from_client way))
 segment_brought by keys w' v (Usual (To_logger message)) bytes number way comes goes = absurd (true≢false (ap is_from_client way))
@@ -331,7 +331,7 @@ segment_brought by keys w' v (Mark_answered message) bytes number way comes goes
 
 pub answer_brought : {State : Type 0} (by : Marker State) (keys : List Key) (w' : Kept State) (v : MarkedWorld) (parcel : Parcel) (bytes : List ℕ)
     → LoggerToServer ≡ way_of_parcel keys parcel → MarkedComesAs v parcel bytes
-    → (MayComeMarked v (input_of (said_by (grammar_of v.profile) bytes)) → MarkedGoesOn by (ServerMoves by (input_of (said_by (grammar_of v.profile) bytes)) v) v w') → MarkedGoesOn by (ComesAs by parcel bytes v) v w'
+    → (MayComeMarked v (input_of (said_by (grammar_of v.profile) bytes)) → MarkedProceeds by (ServerMoves by (input_of (said_by (grammar_of v.profile) bytes)) v) v w') → MarkedProceeds by (ComesAs by parcel bytes v) v w'
 answer_brought by keys w' v (Usual (From_logger message)) bytes way comes goes = goes comes
 answer_brought by keys w' v (Mark_answered message) bytes way comes goes = goes comes
 answer_brought by keys w' v (Usual (To_server segment)) bytes way comes goes = absurd (true≢false (ap is_from_logger way))
@@ -346,8 +346,8 @@ fenced_so who newer (Ok message) q node is fenced = (newer, ap (λ n. fence n (M
 fenced_so who newer (Err bad) (Ok mark) node is fenced = none_is_some newer (fenced node.plain.stage)
 fenced_so who newer (Err bad) (Err worse) node is fenced = none_is_some newer (fenced node.plain.stage)
 
-pub fenced_by : (grammar : Grammar) (who : Identity) (newer : ℕ) (input : Heard) (node : MarkedNode) → node.plain ≡ node_of who node.plain.stage
-    → ((standing : Stage) → fence (node_of who standing) (heard_of grammar input) ≡ Some newer) → IsFencedBy node (marked_input_of grammar input)
+pub fenced_by : (grammar : Grammar) (who : Identity) (newer : ℕ) (input : Receipt) (node : MarkedNode) → node.plain ≡ node_of who node.plain.stage
+    → ((standing : Stage) → fence (node_of who standing) (received_of grammar input) ≡ Some newer) → IsFencedBy node (marked_input_of grammar input)
 fenced_by grammar who newer (inputs.Packet bytes) node is fenced = (newer, ap (λ n. fence n (segment_or_noise (segments.reading bytes.now))) is ∙ fenced node.plain.stage)
 fenced_by grammar who newer (inputs.Message bytes) node is fenced = fenced_so who newer (messages.reading_by grammar bytes.now) (marks.reading bytes.now) node is fenced
 fenced_by grammar who newer inputs.Tick node is fenced = (newer, ap (λ n. fence n Tick_comes) is ∙ fenced node.plain.stage)
@@ -365,7 +365,7 @@ pub marked_goes_at : {State : Type 0} (ghosts : Ghosts State) (saved : Saving St
     → ((node : MarkedNode) (bytes lengths : List ℕ) → IsFairTo (marker_of ghosts saved s.who every) bytes lengths node input → node.plain ≡ node_of s.who node.plain.stage
     → NodeStandsAt (marker_of ghosts saved s.who every) node s.stage → TurnsTo (marker_of ghosts saved s.who every) bytes lengths node input s' sent)
     → w' ≡ record w { packets = with_wires w.keys w.packets sent; node = Some s' }
-    → MarkedGoesOn (marker_for saved (machines ghosts.started ghosts.after ghosts.greeting) every w.kind) (ServerMoves (marker_for saved (machines ghosts.started ghosts.after ghosts.greeting) every w.kind) input v) v w'
+    → MarkedProceeds (marker_for saved (machines ghosts.started ghosts.after ghosts.greeting) every w.kind) (ServerMoves (marker_for saved (machines ghosts.started ghosts.after ghosts.greeting) every w.kind) input v) v w'
 marked_goes_at ghosts saved every w w' v input s s' sent savable st p comes is_up same turn e' =
     let by = marker_for saved (machines ghosts.started ghosts.after ghosts.greeting) every w.kind in
     let u : IsMarkedUp (marker_for saved (machines ghosts.started ghosts.after ghosts.greeting) every w.kind) w.kind s v.node =

@@ -20,7 +20,7 @@ use Rattle.mark_laws.specs.MarkedWorld.Parcel.{Mark_answered}
 use Rattle.mark_laws.specs.Premises.{IsSoundMark}
 use Rattle.mark_laws.specs.TrueMarks.{HasTrueMark}
 use Rattle.mark_laws.proofs.MarkSteps.{Kept as KeptMarks, of_parcel, up_plain}
-use Rattle.mark_laws.proofs.MarksSent.{tells_truth}
+use Rattle.mark_laws.proofs.MarksSent.{reports_truth}
 use Rattle.mark_laws.proofs.Premises.{input_near, scripted_start, inputs_sound, no_fence, marks_sound}
 use Rattle.mark_laws.proofs.Runs.{front_is, grows}
 use Rattle.mark_laws.proofs.Traces.{start_of_joint, kept_of}
@@ -31,7 +31,7 @@ use Rattle.server_trait.specs.Saved.{ReadsBack}
 use Rattle.ft_model.proofs.Running.{HasSmallOutputs}
 use Rattle.node_serving.specs.Markers.{Saving}
 use Rattle.net_schedule.specs.WorldView.{kept, services_of}
-use Rattle.schedule_network.specs.Journal.{HasDistinctKeys}
+use Rattle.schedule_network.specs.FullLog.{HasDistinctKeys}
 use Rattle.net_schedule.specs.Refinement.{Kept}
 use Rattle.net_schedule.specs.MarkedRefinement.{MarkedWorldStands, MarkedAdvances, MarkedPremises, marker_for}
 use Rattle.net_schedule.specs.MarkedStep.{MarkedStandsAfter, MarkedExtends, MarkedSteps, MarkedEndsStep}
@@ -64,7 +64,7 @@ pub record AreMarkedLaws {State : Type 0} (by : ℕ → Marker State) : Type 0 w
 -- what they rest on: which marks are true
 mark_truths : {State : Type 0} (by : Marker State) → MarkLaws by
 mark_truths by = record {
-  tells = λ news script m q e taken within fits enough front known held. tells_truth by.service by.writing by.every news script m q e taken within fits enough front known held;
+  reports = λ news script m q e taken within fits enough front known held. reports_truth by.service by.writing by.every news script m q e taken within fits enough front known held;
   stays = λ before after m grew run. grows by.service by.writing before after m grew run;
 }
 

@@ -19,7 +19,7 @@ use Rattle.ft_model.proofs.Acknowledged.{start_is}
 use Rattle.ft_model.proofs.FaithfulKept.{received_same}
 use Rattle.ft_model.proofs.FormedWorld.{wires_after}
 use Rattle.ft_model.proofs.Happened.{Happened, holds_after}
-use Rattle.ft_model.proofs.Happened.Happened.{log_heard, client_heard, client_moved, server_turned, server_booted, server_down}
+use Rattle.ft_model.proofs.Happened.Happened.{log_received, client_received, client_moved, server_turned, server_booted, server_down}
 use Rattle.ft_model.proofs.Lists.{same_key}
 use Rattle.ft_model.proofs.Profiles.{profile_stays}
 use Rattle.ft_model.proofs.ClientKeys.{keys_in, keys_stay}
@@ -43,8 +43,8 @@ use Rattle.net_schedule.proofs.PacketStore.{as_many}
 -- the clients keep the keys with which they started
 pub step_keeps : {State : Type 0} (service : Machine State) (start before : Seen) (sent : List Packet) (after : Seen) → keys_in before.clients ≡ keys_in start.clients → Happened service before sent after
     → keys_in after.clients ≡ keys_in start.clients
-step_keeps service start before sent after k (log_heard message under t e) = ap (λ w. keys_in w.clients) e ∙ k
-step_keeps service start before sent after k (client_heard segment under t e) =
+step_keeps service start before sent after k (log_received message under t e) = ap (λ w. keys_in w.clients) e ∙ k
+step_keeps service start before sent after k (client_received segment under t e) =
     ap (λ w. keys_in w.clients) e ∙ keys_stay (destination_of segment) (λ c. received c segment) before.clients (λ c h. (received_same c segment).key) ∙ k
 step_keeps service start before sent after k (client_moved number m) =
     let name : m.later.key ≡ m.client.key = ap (λ c. c.key) m.move.after_is in

@@ -28,7 +28,7 @@ use Rattle.node_serving.specs.Markers.{Saving}
 use Rattle.net_schedule.specs.WorldView.{kept, service_of}
 use Rattle.net_schedule.specs.Refinement.{Kept}
 use Rattle.net_schedule.specs.Turns.{ActorsDo, ActorsDecline, Does, Declines}
-use Rattle.net_schedule.specs.TwinRefinement.{LoggersStand, TwinWorldStands, TwinGoesOn, TwinAdvances, ParcelComesAs, carried_parcels}
+use Rattle.net_schedule.specs.TwinRefinement.{LoggersStand, TwinWorldStands, TwinProceeds, TwinAdvances, ParcelComesAs, carried_parcels}
 use Rattle.schedule_network.specs.declared.end.StepEnd.{StepEnd}
 use Rattle.schedule_network.specs.declared.end.StepEnd.TheVariants.{NoMemory, BadEvent, PacketLimit}
 use Rattle.net_schedule.specs.declared.world.World.{World}
@@ -107,7 +107,7 @@ module _ {State : Type 0} (service : Machine State) where
   IsElsewhere Goes = (w : Seen) (ps sent : List Packet) (after : Seen) → Goes w sent after → Goes (with_packets w ps) sent (with_packets after (ps ++ sent))
 
   pub two_goes : (Goes : Seen → List Packet → Seen → Type 0) (w w' : Kept State) (v : TwinWorld) (ps : List Packet) → IsElsewhere Goes → TwinWorldStands service w v
-      → ActorsGoOn service (Goes (seen v ps)) (seen v ps) w w' → TwinGoesOn service (Elsewhere Goes v) v w'
+      → ActorsGoOn service (Goes (seen v ps)) (seen v ps) w w' → TwinProceeds service (Elsewhere Goes v) v w'
   two_goes Goes w w' v ps anywhere st g =
       let next : TwinWorld = next_of v g.sent g.world in
       let goes : Goes (seen v []) g.sent (with_packets g.world g.sent) = anywhere (seen v ps) [] g.sent g.world g.goes in
@@ -138,7 +138,7 @@ module _ {State : Type 0} (service : Machine State) where
       → ActorsAdvance service (seen v ps) event w w' → TwinAdvances service v event w'
   unfolding two_goes
   two_advances event w w' v ps actors st a =
-      let g : TwinGoesOn service (Elsewhere (λ u. Happens service u event) v) v w' =
+      let g : TwinProceeds service (Elsewhere (λ u. Happens service u event) v) v w' =
       two_goes (λ u. Happens service u event) w w' v ps (λ u qs sent after h. happens_elsewhere service event u qs sent after (names_none event actors) h) st a.happens in
       record {
         turn = Usual event;
@@ -156,11 +156,11 @@ module _ {State : Type 0} (service : Machine State) where
   delivered_elsewhere (From_logger message) bytes n w ps sent after h = server_elsewhere service _ w ps sent after h
 
   pub two_brings : (w w' : Kept State) (v : TwinWorld) (ps : List Packet) (packet : Packet) (bytes : List ℕ) → (wire_of packet).to ≢ The_logger → TwinWorldStands service w v
-      → ActorsGoOn service (DeliveredAs service (seen v ps) packet bytes) (seen v ps) w w' → TwinGoesOn service (ParcelComesAs service (Outside packet) bytes v) v w'
+      → ActorsGoOn service (DeliveredAs service (seen v ps) packet bytes) (seen v ps) w w' → TwinProceeds service (ParcelComesAs service (Outside packet) bytes v) v w'
   two_brings w w' v ps packet bytes n st g = at packet n (two_goes (λ u. DeliveredAs service u packet bytes) w w' v ps (delivered_elsewhere packet bytes n) st g)
     where
-      at : (packet : Packet) → (wire_of packet).to ≢ The_logger → TwinGoesOn service (Elsewhere (λ u. DeliveredAs service u packet bytes) v) v w'
-          → TwinGoesOn service (ParcelComesAs service (Outside packet) bytes v) v w'
+      at : (packet : Packet) → (wire_of packet).to ≢ The_logger → TwinProceeds service (Elsewhere (λ u. DeliveredAs service u packet bytes) v) v w'
+          → TwinProceeds service (ParcelComesAs service (Outside packet) bytes v) v w'
       at (To_server segment) n g = g
       at (To_client segment) n g = g
       at (To_logger message) n g = absurd (n refl)

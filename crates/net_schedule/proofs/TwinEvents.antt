@@ -38,7 +38,7 @@ use Rattle.schedule_network.specs.Loggers.{Loggers, serving_log, stopped, part_n
 use Rattle.schedule_network.specs.Logs.Keepers.{Paired}
 use Rattle.net_schedule.specs.Premises.{ComesAs}
 use Rattle.net_schedule.specs.Refinement.{Kept}
-use Rattle.net_schedule.specs.TwinRefinement.{stored_way, LoggersStand, TwinWorldStands, TwinGoesOn, TwinAdvances, TwinPremises, ParcelComesAs, MayComeAs}
+use Rattle.net_schedule.specs.TwinRefinement.{stored_way, LoggersStand, TwinWorldStands, TwinProceeds, TwinAdvances, TwinPremises, ParcelComesAs, MayComeAs}
 use Rattle.net_schedule.proofs.Bringing.{comes_whole, comes_changed, as_whole}
 use Rattle.net_schedule.proofs.Events.{no_move}
 use Rattle.net_schedule.proofs.Parcels.{FoundParcel, found_parcel, none_after}
@@ -91,14 +91,14 @@ module _ {State : Type 0} (service : Machine State) where
   -- a parcel is delivered
   pub twin_delivers : (w w' : Kept State) (v : TwinWorld) (n : ℕ) (way : Way) (bytes : List ℕ) → TwinWorldStands service w v → (p : TwinPremises service v)
       → at_number w.packets.ways n ≡ Some way → at_number w.packets.bytes n ≡ Some bytes
-      → ((parcel : Parcel) → way ≡ stored_way w.keys parcel → MayComeAs (seen v p.packets) parcel bytes → TwinGoesOn service (ParcelComesAs service parcel bytes v) v w')
+      → ((parcel : Parcel) → way ≡ stored_way w.keys parcel → MayComeAs (seen v p.packets) parcel bytes → TwinProceeds service (ParcelComesAs service parcel bytes v) v w')
       → TwinAdvances service v (events.Deliver n) w'
   twin_delivers w w' v n way bytes st p e f brings =
       let x : FoundParcel (grammar_of v.profile) w.keys v.parcels n way bytes = found_parcel (grammar_of v.profile) w.keys w.packets v.parcels n way bytes st.packets e f in
       let wire : IsWritten (grammar_of v.profile) x.parcel = written_at (grammar_of v.profile) v.parcels n x.parcel p.written x.is in
       let came : MayComeAs (seen v p.packets) x.parcel bytes = subst (MayComeAs (seen v p.packets) x.parcel) (sym x.spells) (may_come v p n x.parcel x.is wire) in
-      let g : TwinGoesOn service (ParcelComesAs service x.parcel (bytes_of_parcel (grammar_of v.profile) x.parcel) v) v w' =
-      subst (λ b. TwinGoesOn service (ParcelComesAs service x.parcel b v) v w') x.spells (brings x.parcel x.goes came) in
+      let g : TwinProceeds service (ParcelComesAs service x.parcel (bytes_of_parcel (grammar_of v.profile) x.parcel) v) v w' =
+      subst (λ b. TwinProceeds service (ParcelComesAs service x.parcel b v) v w') x.spells (brings x.parcel x.goes came) in
       record {
         turn = Usual (events.Deliver n);
         is = refl;
@@ -133,15 +133,15 @@ module _ {State : Type 0} (service : Machine State) where
   pub twin_flips : (w w' : Kept State) (v : TwinWorld) (n bit : ℕ) (way : Way) (bytes : List ℕ) → TwinWorldStands service w v → (p : TwinPremises service v)
       → at_number w.packets.ways n ≡ Some way → at_number w.packets.bytes n ≡ Some bytes → bit < 8 * length bytes
       → ((parcel : Parcel) → way ≡ stored_way w.keys parcel → MayComeAs (seen v p.packets) parcel (flipped bit bytes)
-      → TwinGoesOn service (ParcelComesAs service parcel (flipped bit bytes) v) v w') → TwinAdvances service v (events.Flip n bit) w'
+      → TwinProceeds service (ParcelComesAs service parcel (flipped bit bytes) v) v w') → TwinAdvances service v (events.Flip n bit) w'
   twin_flips w w' v n bit way bytes st p e f within brings =
       let x : FoundParcel (grammar_of v.profile) w.keys v.parcels n way bytes = found_parcel (grammar_of v.profile) w.keys w.packets v.parcels n way bytes st.packets e f in
       let wire : IsWritten (grammar_of v.profile) x.parcel = written_at (grammar_of v.profile) v.parcels n x.parcel p.written x.is in
       let inside : bit < 8 * length (bytes_of_parcel (grammar_of v.profile) x.parcel) = subst (λ b. bit < 8 * length b) x.spells within in
       let came : MayComeAs (seen v p.packets) x.parcel (flipped bit bytes) =
       subst (λ b. MayComeAs (seen v p.packets) x.parcel (flipped bit b)) (sym x.spells) (may_come_changed (seen v p.packets) x.parcel bit wire inside) in
-      let g : TwinGoesOn service (ParcelComesAs service x.parcel (flipped bit (bytes_of_parcel (grammar_of v.profile) x.parcel)) v) v w' =
-      subst (λ b. TwinGoesOn service (ParcelComesAs service x.parcel (flipped bit b) v) v w') x.spells (brings x.parcel x.goes came) in
+      let g : TwinProceeds service (ParcelComesAs service x.parcel (flipped bit (bytes_of_parcel (grammar_of v.profile) x.parcel)) v) v w' =
+      subst (λ b. TwinProceeds service (ParcelComesAs service x.parcel (flipped bit b) v) v w') x.spells (brings x.parcel x.goes came) in
       let has : nat_le (8 * length (bytes_of_parcel (grammar_of v.profile) x.parcel)) bit ≡ false = grind (arith, nat_tests) in
       record {
         turn = Usual (events.Flip n bit);

@@ -28,7 +28,7 @@ use Rattle.node_serving.specs.Identity.{node_of}
 use Rattle.node_serving.specs.Markers.{Saving}
 use Rattle.server_node.specs.MarkedTurns.{NodeStandsAt}
 use Rattle.schedule_network.specs.StoredPackets.{Carried, way_along}
-use Rattle.schedule_network.specs.Journal.{StoreAndJournal, AreAt, HasDistinctKeys}
+use Rattle.schedule_network.specs.FullLog.{StoreAndLog, AreAt, HasDistinctKeys}
 use Rattle.schedule_network.specs.Logs.Keepers.{With_marks}
 use Rattle.net_schedule.specs.Refinement.{Kept, Server, RunsWith}
 
@@ -67,13 +67,13 @@ pub record PeersStand {State : Type 0} (w : Kept State) (v : Seen) : Type 0 wher
   pub boot : w.boot ≡ v.boot
   pub runs : RunsWith w.profile w.node
 
--- The code's world corresponds to a world of the definitions with marks: each parcel is stored as bytes, with its direction; the log is a store's journal.
+-- The code's world corresponds to a world of the definitions with marks: each parcel is stored as bytes, with its direction; the log is a store's full log.
 pub record MarkedWorldStands {State : Type 0} (by : Marker State) (w : Kept State) (v : MarkedWorld) : Type 0 where
   pub actors : PeersStand w (seen v)
   pub node : MarkedNodeStands by w.kind w.node v.node
-  pub both : StoreAndJournal
+  pub both : StoreAndLog
   pub keepers : w.keepers ≡ With_marks both.store
-  pub journal : w.log ≡ both.journal
+  pub full_log : w.log ≡ both.full_log
   pub log : w.log ≡ v.log.log
   pub at : AreAt both v.log
   pub packets : w.packets ≡ stored_parcels (grammar_of v.profile) w.keys v.parcels
@@ -81,7 +81,7 @@ pub record MarkedWorldStands {State : Type 0} (by : Marker State) (w : Kept Stat
   pub marks : 0 < by.every
 
 -- The world moves to a next one, with these parcels sent, and the code's world corresponds to that.
-pub record MarkedGoesOn {State : Type 0} (by : Marker State) (Goes : List Parcel → MarkedWorld → Type 0) (v : MarkedWorld) (w : Kept State) : Type 0 where
+pub record MarkedProceeds {State : Type 0} (by : Marker State) (Goes : List Parcel → MarkedWorld → Type 0) (v : MarkedWorld) (w : Kept State) : Type 0 where
   pub sent : List Parcel
   pub world : MarkedWorld
   pub goes : Goes sent world
@@ -90,7 +90,7 @@ pub record MarkedGoesOn {State : Type 0} (by : Marker State) (Goes : List Parcel
 
 -- An event is allowed and happens, and the clients are scripted.
 pub record MarkedAdvances {State : Type 0} (by : Marker State) (v : MarkedWorld) (event : Event) (w : Kept State) : Type 0 where
-  pub happens : MarkedGoesOn by (MarkedHappens by v event) v w
+  pub happens : MarkedProceeds by (MarkedHappens by v event) v w
   pub allowed : marked_refusal v event ≡ None
   pub scripted : IsScripted (seen v) event (usual happens.sent) (seen happens.world)
 

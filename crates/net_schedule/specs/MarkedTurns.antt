@@ -10,7 +10,7 @@ use Rattle.mark_laws.specs.MarkedNode.{Marker, MarkedInput}
 use Rattle.mark_laws.specs.MarkedWorld.{Parcel, MarkedWorld, ServerMoves, ComesAs}
 use Rattle.net_schedule.specs.WorldView.{kept, services_of}
 use Rattle.node_serving.specs.Markers.{Saving}
-use Rattle.net_schedule.specs.MarkedRefinement.{MarkedWorldStands, MarkedGoesOn, MarkedAdvances, MarkedPremises, MayComeMarked, MarkedComesAs}
+use Rattle.net_schedule.specs.MarkedRefinement.{MarkedWorldStands, MarkedProceeds, MarkedAdvances, MarkedPremises, MayComeMarked, MarkedComesAs}
 use Rattle.net_schedule.specs.MarkedRefinement.{marker_for, way_of_parcel}
 use Rattle.net_schedule.specs.declared.world.World.{World}
 
@@ -23,14 +23,14 @@ abbrev pub MarkedServes : {State : Type 0} {ghosts : Ghosts State} → Saving St
 MarkedServes saved input before after =
     saved.savable ≡ true → (every : ℕ) (v : MarkedWorld) → MarkedWorldStands (marker_in saved every before) (kept before) v
     → MarkedPremises (marker_in saved every before) v → MayComeMarked v input
-    → MarkedGoesOn (marker_in saved every before) (ServerMoves (marker_in saved every before) input v) v (kept after)
+    → MarkedProceeds (marker_in saved every before) (ServerMoves (marker_in saved every before) input v) v (kept after)
 
 -- bytes reach the addressee of a parcel that has this direction
 abbrev pub MarkedBrings : {State : Type 0} {ghosts : Ghosts State} → Saving State → Way → List ℕ → (before after : World State ghosts) → Type 0
 MarkedBrings saved way bytes before after =
     saved.savable ≡ true → (every : ℕ) (v : MarkedWorld) (parcel : Parcel) → MarkedWorldStands (marker_in saved every before) (kept before) v
     → MarkedPremises (marker_in saved every before) v → way ≡ way_of_parcel (kept before).keys parcel → MarkedComesAs v parcel bytes
-    → MarkedGoesOn (marker_in saved every before) (ComesAs (marker_in saved every before) parcel bytes v) v (kept after)
+    → MarkedProceeds (marker_in saved every before) (ComesAs (marker_in saved every before) parcel bytes v) v (kept after)
 
 -- an event is allowed and happens
 abbrev pub MarkedDoes : {State : Type 0} {ghosts : Ghosts State} → Saving State → Event → (before after : World State ghosts) → Type 0

@@ -36,7 +36,7 @@ pub record Kept (State : Type 0) : Type 0 where
   pub profile : Profile  -- of the server
   pub keys : List Key  -- of the clients
   pub clients : List Client
-  pub log : Log  -- the one that serves; with marks, the journal
+  pub log : Log  -- the one that serves; with marks, the full log
   pub keepers : Keepers
   pub every : ℕ  -- after how many reads the server makes a mark; 0 if it makes none
   pub packets : Carried

@@ -18,11 +18,11 @@ use Rattle.twin_laws.specs.TwinWorld.{Parcel, TwinWorld, seen}
 use Rattle.net_schedule.specs.Actors.{ActorsStand, ActorsGoOn, ActorsAdvance}
 use Rattle.schedule_network.specs.StoredPackets.{way_along}
 use Rattle.net_schedule.specs.Delivery.{with_logs}
-use Rattle.schedule_network.specs.Logs.{HearsIn}
+use Rattle.schedule_network.specs.Logs.{ReceivesIn}
 use Rattle.net_schedule.specs.WorldView.{kept, service_of}
 use Rattle.net_schedule.specs.Premises.{Premises, ComesAs}
 use Rattle.net_schedule.specs.Refinement.{WorldStands, ReachesNext, Advances}
-use Rattle.net_schedule.specs.TwinRefinement.{TwinWorldStands, TwinGoesOn, TwinAdvances, TwinPremises, ParcelComesAs, MayComeAs, stored_way}
+use Rattle.net_schedule.specs.TwinRefinement.{TwinWorldStands, TwinProceeds, TwinAdvances, TwinPremises, ParcelComesAs, MayComeAs, stored_way}
 use Rattle.node_serving.specs.Markers.{Saving}
 use Rattle.net_schedule.specs.MarkedTurns.{MarkedServes, MarkedBrings, MarkedDoes, MarkedRefuses}
 use Rattle.schedule_network.specs.declared.end.StepEnd.{StepEnd}
@@ -36,12 +36,12 @@ pub record Continues {State : Type 0} {ghosts : Ghosts State} (before after : Wo
   pub grew : length before.packets.bytes ≤ length after.packets.bytes
 
 -- the server takes its turn on what may arrive
-pub record Serves {State : Type 0} {ghosts : Ghosts State} (saved : Saving State) (input : Input) (heard : MarkedInput)
+pub record Serves {State : Type 0} {ghosts : Ghosts State} (saved : Saving State) (input : Input) (receipt : MarkedInput)
     (before after : World State ghosts) : Type 0 where
   pub continues : Continues before after
   pub moves : (v : Seen) → ActorsStand (service_of before) (kept before) v → Premises (service_of before) v → MayCome v input
       → ActorsGoOn (service_of before) (ServerMoves (service_of before) input v) v (kept before) (kept after)
-  pub marked : MarkedServes saved heard before after
+  pub marked : MarkedServes saved receipt before after
 
 -- an event of the server or a client is allowed and happens
 pub record ActorsDo {State : Type 0} {ghosts : Ghosts State} (saved : Saving State) (event : Event) (before after : World State ghosts) : Type 0 where
@@ -63,9 +63,9 @@ ActorsDecline saved event before after (BadEvent why) = IsRefusedToActors saved 
 ActorsDecline saved event before after PacketLimit = ⊥
 
 -- bytes of this direction arrive at what keeps the log, and what it sends is stored
-pub record TellsLogger {State : Type 0} {ghosts : Ghosts State} (way : Way) (bytes : List ℕ) (before after : World State ghosts) : Type 0 where
+pub record ReportsLogger {State : Type 0} {ghosts : Ghosts State} (way : Way) (bytes : List ℕ) (before after : World State ghosts) : Type 0 where
   pub is : kept after ≡ with_logs (kept before) (after.logs, after.packets)
-  pub heard : HearsIn (grammar_of (profile_of before.profile)) before.logs way bytes before.packets after.logs after.packets
+  pub receipt : ReceivesIn (grammar_of (profile_of before.profile)) before.logs way bytes before.packets after.logs after.packets
 
 -- bytes reach the addressee of a packet that has this direction
 pub record Brings {State : Type 0} {ghosts : Ghosts State} (saved : Saving State) (way : Way) (bytes : List ℕ)
@@ -76,7 +76,7 @@ pub record Brings {State : Type 0} {ghosts : Ghosts State} (saved : Saving State
       → ReachesNext (service_of before) (DeliveredAs (service_of before) v packet bytes) v (kept after)
   pub two : (v : TwinWorld) (parcel : Parcel) → TwinWorldStands (service_of before) (kept before) v → (p : TwinPremises (service_of before) v)
       → way ≡ stored_way (kept before).keys parcel → MayComeAs (seen v p.packets) parcel bytes
-      → TwinGoesOn (service_of before) (ParcelComesAs (service_of before) parcel bytes v) v (kept after)
+      → TwinProceeds (service_of before) (ParcelComesAs (service_of before) parcel bytes v) v (kept after)
   pub marked : MarkedBrings saved way bytes before after
 
 -- an event is allowed and happens

@@ -54,7 +54,7 @@ pub record TwinWorldStands {State : Type 0} (service : Machine State) (w : Kept 
   pub packets : w.packets ≡ carried_parcels (grammar_of v.profile) w.keys v.parcels
 
 -- The world moves to a next one, with these parcels sent, and the code's world corresponds to that.
-pub record TwinGoesOn {State : Type 0} (service : Machine State) (Goes : List Parcel → TwinWorld → Type 0) (v : TwinWorld) (w : Kept State) : Type 0 where
+pub record TwinProceeds {State : Type 0} (service : Machine State) (Goes : List Parcel → TwinWorld → Type 0) (v : TwinWorld) (w : Kept State) : Type 0 where
   pub sent : List Parcel
   pub world : TwinWorld
   pub goes : Goes sent world
@@ -65,7 +65,7 @@ pub record TwinGoesOn {State : Type 0} (service : Machine State) (Goes : List Pa
 pub record TwinAdvances {State : Type 0} (service : Machine State) (v : TwinWorld) (event : Event) (w : Kept State) : Type 0 where
   pub turn : TwinEvent
   pub is : event_of turn ≡ event
-  pub happens : TwinGoesOn service (TwinHappens service v turn) v w
+  pub happens : TwinProceeds service (TwinHappens service v turn) v w
   pub allowed : twin_refusal v event ≡ None
   pub scripted : IsScripted (seen v []) event (outside happens.sent) (seen happens.world [])
 

@@ -12,7 +12,7 @@ ghost use Rattle.ft_model.specs.declared.way.Way.{Way};
 ghost use Rattle.mark_laws.specs.MarkedLegal.{markers};
 ghost use Rattle.mark_laws.specs.MarkedWorld.{MarkedWorld, MarkedMoment, MarkedJoint, marked_after};
 ghost use Rattle.schedule_network.specs.AtNumber.{at_number};
-ghost use Rattle.schedule_network.specs.Journal.{HasDistinctKeys};
+ghost use Rattle.schedule_network.specs.FullLog.{HasDistinctKeys};
 ghost use Rattle.net_schedule.specs.MarkedStep.{MarkedStandsAfter};
 ghost use Rattle.net_schedule.specs.SentPackets.{KeepsAllSent, WasSentAs, KeepsAllParcels, ParcelSentAs, KeepsAllMarked, MarkedSentAs};
 ghost use Rattle.net_schedule.specs.Refinement.{Kept};

@@ -100,7 +100,7 @@ impl<S: Saved> World<S> {
     ghost use Rattle.net_schedule.specs.Delivery.{delivered_to};
     ghost use Rattle.net_schedule.specs.Refinement.{KeepsAtRefusal};
     ghost use Rattle.net_schedule.specs.Step.{StandsAfter};
-    ghost use Rattle.net_schedule.specs.Turns.{Serves, ActorsDo, ActorsDecline, TellsLogger, Brings, Does, Declines};
+    ghost use Rattle.net_schedule.specs.Turns.{Serves, ActorsDo, ActorsDecline, ReportsLogger, Brings, Does, Declines};
     ghost use Rattle.net_schedule.specs.TwinStep.{TwinStandsAfter};
     ghost use Rattle.net_schedule.specs.MarkedRefinement.{marker_for};
     ghost use Rattle.node_serving.specs.Markers.{saving};
@@ -162,7 +162,7 @@ impl<S: Saved> World<S> {
         self.clients.get(usize::from(n) - 1)
     }
 
-    /// Returns the log that serves; with marks, the journal.
+    /// Returns the log that serves; with marks, the full log.
     pub fn log(&self) -> &LogStore
         ensures { result.now ≡ (kept self.now).log }
     {
@@ -272,7 +272,7 @@ impl<S: Saved> World<S> {
 
     /// Passes bytes of this direction to a logger, and stores what it sends.
     fn deliver_to_logger(&mut self, alloc: Global, way: Way, bytes: &[u8]) -> Result<(), NoMemory>
-        ensures { OnOk result (TellsLogger way bytes.now self.old self.new) }
+        ensures { OnOk result (ReportsLogger way bytes.now self.old self.new) }
     {
         self.logs.receive(alloc, self.profile.grammar(), way, bytes, &mut self.packets)
     }

@@ -11,8 +11,8 @@ use Rattle.seq_arith.specs.Message.{Message, Numbers}
 use Rattle.seq_arith.specs.Packet.{Segment, text_size}
 use Rattle.tcp_rules.specs.Timestamping.{timestamps_sent}
 use Rattle.seq_arith.specs.Message.Body.{OpenMsg}
-use Rattle.ft_model.specs.Lawful.{Rests, Continues, Fetches as AreFetched, StageTurn, IsNearInput, IsSoundInput, asked, count_told, fetched_then}
-use Rattle.ft_model.specs.Connection.{told_by}
+use Rattle.ft_model.specs.Lawful.{Rests, Continues, Fetches as AreFetched, StageTurn, IsNearInput, IsSoundInput, asked, count_reported, fetched_then}
+use Rattle.ft_model.specs.Connection.{reported_by}
 use Rattle.ft_model.specs.Network.{Packet, source_of}
 use Rattle.ft_model.specs.Node.{Node, Place, Input, is_for, pending_count}
 use Rattle.ft_model.specs.Node.Place.{Opens}
@@ -86,7 +86,7 @@ same_turn service node input key m n pending many place after sent same counts (
 pub newcomer_opens : {State : Type 0} (service : Machine State) (node : Node) (key : Key) (clients : Clients) (segment : Segment) (after : Option Place) (sent : List Wire)
     → is_syn_of node key (Packet_comes segment) ≡ true → pending_of clients.known < 64 → ServesKey service node key clients None (Packet_comes segment) after sent
     → (after ≡ Some (Opens (numbers_for node.profile node.isn clients.opened segment) (timestamping_for node.profile segment)))
-    × (of_key (grammar_of node.profile) key sent ≡ map (wire_by (grammar_of node.profile)) (told_by node.boot (OpenMsg (numbers_for node.profile node.isn clients.opened segment)) ∷ []))
+    × (of_key (grammar_of node.profile) key sent ≡ map (wire_by (grammar_of node.profile)) (reported_by node.boot (OpenMsg (numbers_for node.profile node.isn clients.opened segment)) ∷ []))
 newcomer_opens service node key clients segment after sent syn few turn =
     let parts = and_parts (concerns node (Packet_comes segment) key) (is_syn segment) syn in
     let its = and_parts (is_for node.server segment) (key_eq (source_of segment) key) parts.0 in
@@ -178,7 +178,7 @@ module _ {State : Type 0} (services : ℕ → Machine State) where
     ends_on : (key : Key) (before : law_stage) (input : Input) (count : ℕ) (fetched : List Fetched) (s : Serving State) (sent : List Wire) → restarts_by here input before ≡ Some (count, fetched)
         → wanted count fetched ≡ None → RestoredAlone service here fetched s [] sent → IsSoundFor service here key (Some (count, fetched))
         → (clients : Clients) → KeyLed key before input (Serves_with clients) sent (stage.Serving s)
-    ends_on key before input count fetched s sent told complete r sound clients = go (entry_of key fetched) refl
+    ends_on key before input count fetched s sent reported complete r sound clients = go (entry_of key fetched) refl
       where
         go : (o : Option Fetched) → entry_of key fetched ≡ o → KeyLed key before input (Serves_with clients) sent (stage.Serving s)
         go None none =
@@ -187,27 +187,27 @@ module _ {State : Type 0} (services : ℕ → Machine State) where
               goes = record {
                 count = count;
                 fetched = fetched;
-                told = told;
+                reported = reported;
                 complete = complete;
                 packets = [];
                 turn = subst (λ o. Revived service here key o None []) (sym none) (refl, refl);
-                its = record { wires = ap (of_key (grammar_of here.profile) key) r.put ∙ silent_fetched (grammar_of here.profile) key fetched r.told fresh r.whose; spelled = tt };
+                its = record { wires = ap (of_key (grammar_of here.profile) key) r.put ∙ silent_fetched (grammar_of here.profile) key fetched r.reported fresh r.whose; spelled = tt };
               };
               has = subst (λ o. StandsFor service here key o None) (sym (r.others key fresh)) tt;
             }
         go (Some f) is =
             let same : f.head.key ≡ key = same_key f.head.key key (found_passes (λ x. key_eq x.head.key key) fetched f is) in
-            let each = all_find (λ x. IsRestorable service x → KeyRevives service here x (slot_of x.head.key s) r.told) (λ x. key_eq x.head.key key) fetched f r.each is in
+            let each = all_find (λ x. IsRestorable service x → KeyRevives service here x (slot_of x.head.key s) r.reported) (λ x. key_eq x.head.key key) fetched f r.each is in
             let k = each (subst (λ o. MatchOption o (Unit {0}) (IsRestorable service)) is (sound complete)) in record {
               after = Some k.after;
               goes = record {
                 count = count;
                 fetched = fetched;
-                told = told;
+                reported = reported;
                 complete = complete;
                 packets = k.packets;
                 turn = subst (λ o. Revived service here key o (Some k.after) k.packets) (sym is) k.turn;
-                its = record { wires = ap (of_key (grammar_of here.profile) key) r.put ∙ (ap (λ x. of_key (grammar_of here.profile) x r.told) (sym same) ∙ k.wires); spelled = k.spelled };
+                its = record { wires = ap (of_key (grammar_of here.profile) key) r.put ∙ (ap (λ x. of_key (grammar_of here.profile) x r.reported) (sym same) ∙ k.wires); spelled = k.spelled };
               };
               has = subst (λ x. StandsFor service here x (slot_of x s) (Some k.after)) same k.stands;
             }
@@ -215,7 +215,7 @@ module _ {State : Type 0} (services : ℕ → Machine State) where
     leads_on : (before : law_stage) (at : ServerStage) (input : Input) (count : ℕ) (fetched : List Fetched) (now : Stage State) (sent : List Wire) → restarts_by here input before ≡ Some (count, fetched)
         → ((after : law_stage) (packets : List Packet) → AreFetched service here count fetched after packets → StageTurn service here before input after packets)
         → RestartGoes service here count fetched now [] sent → Led before at input (Some (count, fetched)) sent now
-    leads_on before at input count fetched (stage.Fetching f) sent told law_of r =
+    leads_on before at input count fetched (stage.Fetching f) sent reported law_of r =
         let turn : RestartSends service here before input (Fetches count fetched) sent = record {
           packets = asked here (Some r.next);
           turn = law_of (Fetching count fetched) (asked here (Some r.next))
@@ -228,17 +228,17 @@ module _ {State : Type 0} (services : ℕ → Machine State) where
           sends = subst (λ o. RestartSends service here before input (fetches_or_serves o count fetched) sent) (sym r.missing) turn;
           keys = λ key sound. subst (λ o. KeyLed key before input (fetches_or_serves o count fetched) sent (stage.Fetching f)) (sym r.missing) (led key);
         }
-    leads_on before at input count fetched (stage.Serving s) sent told law_of (complete, r) =
+    leads_on before at input count fetched (stage.Serving s) sent reported law_of (complete, r) =
         let whose : AllByRecursion (IsForFetched (grammar_of here.profile) fetched) sent = subst (AllByRecursion (IsForFetched (grammar_of here.profile) fetched)) (sym r.put) r.whose in record {
           stands = subst (λ o. StandsAt services here (fetches_or_serves o count fetched) (stage.Serving s) who.kind) (sym complete) r.known;
           sends = subst (λ o. RestartSends service here before input (fetches_or_serves o count fetched) sent) (sym complete)
-              (subst (λ o. EndSends service here o sent) (sym told) whose);
+              (subst (λ o. EndSends service here o sent) (sym reported) whose);
           keys = λ key sound. subst (λ o. KeyLed key before input (fetches_or_serves o count fetched) sent (stage.Serving s)) (sym complete)
-              (ends_on key before input count fetched s sent told complete r sound (clients_restored fetched));
+              (ends_on key before input count fetched s sent reported complete r sound (clients_restored fetched));
         }
-    leads_on before at input count fetched stage.Asking sent told law_of r = absurd r
-    leads_on before at input count fetched (stage.Marked m) sent told law_of r = absurd r
-    leads_on before at input count fetched stage.Lost sent told law_of r = absurd r
+    leads_on before at input count fetched stage.Asking sent reported law_of r = absurd r
+    leads_on before at input count fetched (stage.Marked m) sent reported law_of r = absurd r
+    leads_on before at input count fetched stage.Lost sent reported law_of r = absurd r
 
     -- a turn that leads no restart on
     asks_still : (input : Input) (now : Stage State) (sent : List Wire) → StandsAt services here Asks now who.kind → RestartSends service here Asking input Asks sent
@@ -252,7 +252,7 @@ module _ {State : Type 0} (services : ℕ → Machine State) where
         record { stands = st; sends = turn; keys = λ key sound. record { after = None; goes = (refl, turn); has = none_fetching here key count fetched now who.kind st } }
 
     -- a message while the logger is asked how many entries it has
-    asks_message : (message : Message) (now : Stage State) (sent : List Wire) (o : Option ℕ) → count_told here message ≡ o
+    asks_message : (message : Message) (now : Stage State) (sent : List Wire) (o : Option ℕ) → count_reported here message ≡ o
         → MatchOption o ((now ≡ stage.Asking) × (sent ≡ [])) (λ count. RestartGoes service here count [] now [] sent)
         → Led Asking Asks (Message_comes message) (option_map (λ count. (count, [])) o) sent now
     asks_message message now sent None is (same, silent) =
@@ -316,7 +316,7 @@ module _ {State : Type 0} (services : ℕ → Machine State) where
 
     goes_asking : (input : Input) (now : Stage State) (sent : List Wire) → ByLaw who input stage.Asking now sent → TurnsApart service who input stage.Asking now sent
         → Led Asking Asks input (restarts_by here input Asking) sent now
-    goes_asking (Message_comes message) now sent goes apart = asks_message message now sent (count_told here message) refl (apart.restarts Asking)
+    goes_asking (Message_comes message) now sent goes apart = asks_message message now sent (count_reported here message) refl (apart.restarts Asking)
     goes_asking (Packet_comes segment) now sent goes apart =
         let g = goes Asking tt tt refl in asks_by (Packet_comes segment) now sent g g.turn.stage.0 (refl, g.turn.stage.1)
     goes_asking Noise_comes now sent goes apart = let g = goes Asking tt tt refl in asks_by Noise_comes now sent g g.turn.stage.0 (refl, g.turn.stage.1)

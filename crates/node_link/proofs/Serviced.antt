@@ -8,10 +8,10 @@ use Rattle.ft_io.specs.declared.Key.{Key}
 use Rattle.ft_io.specs.declared.Failed.{Failed}
 use Rattle.ft_io.specs.declared.link_call.LinkCall.{LinkCall}
 use Rattle.ft_io.specs.declared.link_call.LinkCall.TheVariants.{Bound, Handed}
-use Rattle.ft_io.specs.Link.{send_told}
+use Rattle.ft_io.specs.Link.{send_reported}
 use Rattle.ft_io.specs.Sink.{AppendsFront}
-use Rattle.ft_io.specs.Told.{Tells}
-use Rattle.ft_io.proofs.Tellings.{tells_on, none_told}
+use Rattle.ft_io.specs.Reported.{Reports}
+use Rattle.ft_io.proofs.Recordings.{reports_on, none_reported}
 use Rattle.ft_model.specs.Node as law
 use Rattle.ft_model.specs.Lawful.{LawfulTurn, node_after, fence, hello}
 use Rattle.server_trait.specs.Service.{Machine}
@@ -30,7 +30,7 @@ use Rattle.link_parts.specs.Counts.{count_line, counts_of, with_calls, HasRoom}
 use Rattle.node_link.specs.KeyLife.{AreFairFor}
 use Rattle.node_link.specs.ServerStages.{stage_after}
 use Rattle.link_parts.specs.Receipt.{Received, received_as}
-use Rattle.link_parts.specs.LineOutput.{TellStops}
+use Rattle.link_parts.specs.LineOutput.{ReportStops}
 use Rattle.node_link.specs.ServerTurns.{input_from, Sent, wires_in, address_of, second_for, sent_second, sent_as, sending, ServerTurn, turn_calls, server_calls}
 use Rattle.link_parts.specs.ServiceNumber.{kind_in}
 use Rattle.node_link.specs.Incarnation.{service_of, first_of, grammar_for, input_in, IsFairAt, AreFair, fence_in}
@@ -41,10 +41,10 @@ use Rattle.link_parts.proofs.Calls.{counts_on, with_both, with_none, few_calls, 
 use Rattle.link_parts.specs.Ranges.{most_turns}
 
 -- bytes that were handed to send
-pub handed : (to : Addr) (bytes : List ℕ) (old new : Option (List LinkCall)) (c c' : Counts) (r : Result (Unit {0}) Failed) → Tells old new (send_told to bytes r)
-    → c' ≡ with_calls c (send_told to bytes r) → HasHanded to bytes old new c c'
-handed to bytes old new c c' (Ok x) t k = record { is_lost = false; tells = t; counts_are = k }
-handed to bytes old new c c' (Err e) t k = record { is_lost = true; tells = t; counts_are = k }
+pub handed : (to : Addr) (bytes : List ℕ) (old new : Option (List LinkCall)) (c c' : Counts) (r : Result (Unit {0}) Failed) → Reports old new (send_reported to bytes r)
+    → c' ≡ with_calls c (send_reported to bytes r) → HasHanded to bytes old new c c'
+handed to bytes old new c c' (Ok x) t k = record { is_lost = false; reports = t; counts_are = k }
+handed to bytes old new c c' (Err e) t k = record { is_lost = true; reports = t; counts_are = k }
 
 -- a packet that was handed to send once, ..
 pub sent_once : (loggers : Loggers) (wire : Wire) (old new : Option (List LinkCall)) (c c' : Counts) → second_for loggers wire.to ≡ None
@@ -53,7 +53,7 @@ sent_once loggers wire old new c c' none h =
     let s : Sent = record { wire = wire; is_lost = h.is_lost; is_second_lost = false } in
     let first : LinkCall = Handed (address_of loggers.first wire.to) wire.bytes h.is_lost in
     let calls : first ∷ [] ≡ sending loggers (s ∷ []) = ap (λ o. first ∷ (sent_second o s ++ [])) (sym none) in
-    record { sent = s ∷ []; wires_are = refl; tells = subst (Tells old new) calls h.tells; counts_are = h.counts_are ∙ ap (with_calls c) calls }
+    record { sent = s ∷ []; wires_are = refl; reports = subst (Reports old new) calls h.reports; counts_are = h.counts_are ∙ ap (with_calls c) calls }
 
 -- .. and one that was handed to both loggers
 pub sent_twice : (loggers : Loggers) (wire : Wire) (second : Addr) (old mid new : Option (List LinkCall)) (c c' c'' : Counts) → second_for loggers wire.to ≡ Some second
@@ -66,13 +66,13 @@ sent_twice loggers wire second old mid new c c' c'' is h k =
     record {
       sent = s ∷ [];
       wires_are = refl;
-      tells = subst (Tells old new) calls (tells_on old mid new (first ∷ []) (next ∷ []) h.tells k.tells);
+      reports = subst (Reports old new) calls (reports_on old mid new (first ∷ []) (next ∷ []) h.reports k.reports);
       counts_are = k.counts_are ∙ (ap (λ x. with_calls x (next ∷ [])) h.counts_are ∙ (with_both c (first ∷ []) (next ∷ []) ∙ ap (with_calls c) calls));
     }
 
 -- packets that were handed to send so far
-pub sent_none : (loggers : Loggers) (told : Option (List LinkCall)) (c : Counts) → HasSent loggers [] told told c c
-sent_none loggers told c = record { sent = []; wires_are = refl; tells = none_told told; counts_are = sym (with_none c) }
+pub sent_none : (loggers : Loggers) (reported : Option (List LinkCall)) (c : Counts) → HasSent loggers [] reported reported c c
+sent_none loggers reported c = record { sent = []; wires_are = refl; reports = none_reported reported; counts_are = sym (with_none c) }
 
 sent_more : (loggers : Loggers) (wires : List Wire) (wire : Wire) (old mid new : Option (List LinkCall)) (c c' c'' : Counts) → HasSent loggers wires old mid c c'
     → HasSent loggers (wire ∷ []) mid new c' c'' → HasSent loggers (wires ++ wire ∷ []) old new c c''
@@ -81,7 +81,7 @@ sent_more loggers wires wire old mid new c c' c'' h k =
     record {
       sent = h.sent ++ k.sent;
       wires_are = map-append (λ (x : Sent). x.wire) h.sent k.sent ∙ ap₂ (λ a b. a ++ b) h.wires_are k.wires_are;
-      tells = subst (Tells old new) (sym together) (tells_on old mid new (sending loggers h.sent) (sending loggers k.sent) h.tells k.tells);
+      reports = subst (Reports old new) (sym together) (reports_on old mid new (sending loggers h.sent) (sending loggers k.sent) h.reports k.reports);
       counts_are = k.counts_are
           ∙ (ap (λ x. with_calls x (sending loggers k.sent)) h.counts_are ∙ (with_both c (sending loggers h.sent) (sending loggers k.sent) ∙ ap (with_calls c) (sym together)));
     }
@@ -122,13 +122,13 @@ room_for_packet loggers wires i old new c counts lt room h =
     })
 
 -- a turn that ended the node
-pub turn_stops : {State : Type 0} → (loggers : Loggers) (before : Standing State) (old new : Option (List LinkCall)) (r : Received) (input : law.Input) (e : TurnEnd) → Tells old new (received_as r ∷ [])
+pub turn_stops : {State : Type 0} → (loggers : Loggers) (before : Standing State) (old new : Option (List LinkCall)) (r : Received) (input : law.Input) (e : TurnEnd) → Reports old new (received_as r ∷ [])
     → input ≡ input_from (grammar_in before.who) loggers r → IsFence e (λ newer. (standing : law.Stage) → fence (node_of before.who standing) input ≡ Some newer)
     → (e ≡ end.NoMemory → (standing : law.Stage) → fence (node_of before.who standing) input ≡ None) → TurnStops loggers before old new e
 turn_stops loggers before old new r input end.NoMemory t is f none =
-    record { received = r; tells = t; ends = subst (λ i. (standing : law.Stage) → fence (node_of before.who standing) i ≡ None) is (none refl) }
+    record { received = r; reports = t; ends = subst (λ i. (standing : law.Stage) → fence (node_of before.who standing) i ≡ None) is (none refl) }
 turn_stops loggers before old new r input (end.Fenced newer) t is f none =
-    record { received = r; tells = t; ends = subst (λ i. (standing : law.Stage) → fence (node_of before.who standing) i ≡ Some newer) is f }
+    record { received = r; reports = t; ends = subst (λ i. (standing : law.Stage) → fence (node_of before.who standing) i ≡ Some newer) is f }
 
 -- the calls are no longer than this
 longer : (role : ServerRole) (at_boot : List Sent) (turns : List ServerTurn) (turn : ServerTurn) (count : ℕ) → length (server_calls role.loggers at_boot turns) ≤ (count + 1) * (2 ^ 65 + 1)
@@ -141,14 +141,14 @@ longer role at_boot turns turn count le few =
 module _ {State : Type 0} (services : ℕ → Machine State) where
   -- a turn, from its parts
   pub turned : (loggers : Loggers) (before after : Standing State) (old mid new : Option (List LinkCall)) (c between counts : Counts) (r : Received) (input : law.Input) (wires : List Wire)
-      → Tells old mid (received_as r ∷ []) → between ≡ with_calls c (received_as r ∷ []) → input ≡ input_from (grammar_in before.who) loggers r → length wires ≤ 2 ^ 64 → HasSent loggers wires mid new between counts
+      → Reports old mid (received_as r ∷ []) → between ≡ with_calls c (received_as r ∷ []) → input ≡ input_from (grammar_in before.who) loggers r → length wires ≤ 2 ^ 64 → HasSent loggers wires mid new between counts
       → after.who ≡ before.who → Goes services before input after wires → TurnsApart (services before.who.kind) before.who input before.stage after.stage wires
       → ((standing : law.Stage) → fence (node_of before.who standing) input ≡ None) → HasTurned services loggers before after old new c counts
   turned loggers before after old mid new c between counts r input wires t k is few sent who goes apart unfenced =
       record {
         turn = record { received = r; sent = sent.sent };
         few = subst (λ n. n ≤ 2 ^ 64) (sym (length_sent loggers wires mid new between counts sent)) few;
-        tells = tells_on old mid new (received_as r ∷ []) (sending loggers sent.sent) t sent.tells;
+        reports = reports_on old mid new (received_as r ∷ []) (sending loggers sent.sent) t sent.reports;
         counts_are = sent.counts_are ∙ (ap (λ x. with_calls x (sending loggers sent.sent)) k ∙ with_both c (received_as r ∷ []) (sending loggers sent.sent));
         who = who;
         goes = subst (λ i. Goes services before i after (wires_in sent.sent)) is (subst (Goes services before input after) (sym sent.wires_are) goes);
@@ -165,7 +165,7 @@ module _ {State : Type 0} (services : ℕ → Machine State) where
         at_boot = h.sent;
         wires_are = h.wires_are ∙ is;
         few = subst (λ n. n ≤ 2 ^ 64) (sym (length_sent role.loggers wires old new c counts h ∙ ap length is)) (omega arith);
-        tells = h.tells;
+        reports = h.reports;
         counts_are = h.counts_are;
         who = who;
         stands = stands;
@@ -178,7 +178,7 @@ module _ {State : Type 0} (services : ℕ → Machine State) where
         at_boot = b.at_boot;
         turns = [];
         count_is = refl;
-        tells = b.tells;
+        reports = b.reports;
         serves = record { boots = b.wires_are; lawful = tt; sends = tt; each_key = λ key. tt; unfenced = tt };
         counts_are = b.counts_are ∙ (ap (λ x. with_calls x (sending role.loggers b.at_boot)) none ∙ sym (counts_on [] (sending role.loggers b.at_boot)));
         total = omega (arith, length_sending role.loggers b.at_boot, b.few);
@@ -225,11 +225,11 @@ module _ {State : Type 0} (services : ℕ → Machine State) where
       stands_on role turns turn s s' who goes st (fair.1 st.turns_by_law st.incarnation)
 
   -- whatever has come, the server is as far as what has come says, and sends what it may send
-  goes_on : (role : ServerRole) (turns : List ServerTurn) (turn : ServerTurn) (s s' : Standing State) → s.who ≡ identity_of role
+  proceeds : (role : ServerRole) (turns : List ServerTurn) (turn : ServerTurn) (s s' : Standing State) → s.who ≡ identity_of role
       → Goes services s (input_in role turn.received) s' (wires_in turn.sent) → TurnsApart (services s.who.kind) s.who (input_in role turn.received) s.stage s'.stage (wires_in turn.sent)
       → StandsAt services (first_of role) (stage_after (first_of role) role.loggers turns) s.stage (kind_in role.service)
       → ServerGoes services (identity_of role) (input_in role turn.received) (stage_after (first_of role) role.loggers turns) s.stage (wires_in turn.sent) s'.stage
-  goes_on role turns turn s s' who goes apart at =
+  proceeds role turns turn s s' who goes apart at =
       server_goes services (identity_of role) (input_in role turn.received) s.stage s'.stage (wires_in turn.sent)
       (goes_by role s (input_in role turn.received) s' (wires_in turn.sent) who goes)
       (subst (λ w. TurnsApart (services w.kind) w (input_in role turn.received) s.stage s'.stage (wires_in turn.sent)) who apart)
@@ -255,7 +255,7 @@ module _ {State : Type 0} (services : ℕ → Machine State) where
       let apart : TurnsApart (services s.who.kind) s.who (input_in role t.turn.received) s.stage s'.stage (wires_in t.turn.sent) =
       subst (λ i. TurnsApart (services s.who.kind) s.who i s.stage s'.stage (wires_in t.turn.sent)) read t.apart in
       let g : ServerGoes services (identity_of role) (input_in role t.turn.received) (stage_after (first_of role) role.loggers h.turns) s.stage (wires_in t.turn.sent) s'.stage =
-      goes_on role h.turns t.turn s s' h.who goes apart h.at in
+      proceeds role h.turns t.turn s s' h.who goes apart h.at in
       let stands : AreFair services role (t.turn ∷ h.turns) → IsAfterTurns services role (t.turn ∷ h.turns) s' = lawful_on role h.turns t.turn s s' h.who goes h.stands in
       let keys : (key : Key) → AreFairFor (service_of services role) (first_of role) key role.loggers (t.turn ∷ h.turns) → StandsForKey services role key (t.turn ∷ h.turns) s' =
       λ key. key_on role h.turns t.turn s s' key g (h.each_key key) in
@@ -265,7 +265,7 @@ module _ {State : Type 0} (services : ℕ → Machine State) where
         at_boot = h.at_boot;
         turns = t.turn ∷ h.turns;
         count_is = ap suc h.count_is ∙ sym (add-one i);
-        tells = tells_on old mid new (server_calls role.loggers h.at_boot h.turns) (turn_calls role.loggers t.turn) h.tells t.tells;
+        reports = reports_on old mid new (server_calls role.loggers h.at_boot h.turns) (turn_calls role.loggers t.turn) h.reports t.reports;
         serves = record {
           boots = h.serves.boots;
           lawful = (h.serves.lawful, λ fair. ((stands fair).turns_by_law, (stands fair).incarnation));
@@ -295,7 +295,7 @@ module _ {State : Type 0} (services : ℕ → Machine State) where
 
   pub served_all : (role : ServerRole) (i : ℕ) (s : Standing State) (old new : Option (List LinkCall)) (counts : Counts) → i ≡ role.turns → IsServing services role i s old new counts → HasServed services role old new counts
   served_all role i s old new counts e h =
-      record { at_boot = h.at_boot; turns = h.turns; count_is = h.count_is ∙ e; tells = h.tells; serves = h.serves; counts_are = h.counts_are }
+      record { at_boot = h.at_boot; turns = h.turns; count_is = h.count_is ∙ e; reports = h.reports; serves = h.serves; counts_are = h.counts_are }
 
   cut_by : (role : ServerRole) (i : ℕ) (s : Standing State) (old mid new : Option (List LinkCall)) (counts : Counts) (Ends : Received → Type 0) (Why : law.Input → Type 0) → i < role.turns
       → IsServing services role i s old mid counts → (t : EndsTurn (grammar_for role) role.loggers mid new Why) → ((r : Received) → Why (input_in role r) → Ends r) → IsCutServing services role old new Ends
@@ -305,7 +305,7 @@ module _ {State : Type 0} (services : ℕ → Machine State) where
         turns = h.turns;
         last = t.received;
         within = omega (arith, h.count_is, lt);
-        tells = tells_on old mid new (server_calls role.loggers h.at_boot h.turns) (received_as t.received ∷ []) h.tells t.tells;
+        reports = reports_on old mid new (server_calls role.loggers h.at_boot h.turns) (received_as t.received ∷ []) h.reports t.reports;
         serves = h.serves;
         ends = f t.received t.ends;
       }
@@ -322,34 +322,34 @@ module _ {State : Type 0} (services : ℕ → Machine State) where
       (λ r f. subst (λ w. fence (node_of w law.Stage.Asking) (input_in role r) ≡ Some newer) h.who (f law.Stage.Asking))
 
   -- a whole life
-  pub server_done : (role : ServerRole) (before mid new : Option (List LinkCall)) (counts : Counts) (Writes : List ℕ → Type 0) → Tells before mid (Bound role.local ∷ [])
+  pub server_done : (role : ServerRole) (before mid new : Option (List LinkCall)) (counts : Counts) (Writes : List ℕ → Type 0) → Reports before mid (Bound role.local ∷ [])
       → HasServed services role mid new counts → Writes (count_line counts) → IsServer services role before new Writes
   server_done role before mid new counts Writes b s w = record {
     at_boot = s.at_boot;
     turns = s.turns;
     count_is = s.count_is;
-    tells = tells_on before mid new (Bound role.local ∷ []) (server_calls role.loggers s.at_boot s.turns) b s.tells;
+    reports = reports_on before mid new (Bound role.local ∷ []) (server_calls role.loggers s.at_boot s.turns) b s.reports;
     serves = s.serves;
     written = subst (λ c. Writes (count_line c)) s.counts_are w;
   }
 
   -- .. whose line wants memory
-  untold : (role : ServerRole) (before mid new : Option (List LinkCall)) (counts : Counts) → Tells before mid (Bound role.local ∷ []) → HasServed services role mid new counts → IsCutServer services role before new
-  untold role before mid new counts b s =
+  unreported : (role : ServerRole) (before mid new : Option (List LinkCall)) (counts : Counts) → Reports before mid (Bound role.local ∷ []) → HasServed services role mid new counts → IsCutServer services role before new
+  unreported role before mid new counts b s =
       let calls : List LinkCall = server_calls role.loggers s.at_boot s.turns in
       record {
         at_boot = s.at_boot;
         turns = s.turns;
         last = None;
         within = omega (arith, s.count_is);
-        tells = tells_on before mid new (Bound role.local ∷ []) (server_calls role.loggers s.at_boot s.turns ++ []) b (subst (Tells mid new) (sym (append-nil (server_calls role.loggers s.at_boot s.turns))) s.tells);
+        reports = reports_on before mid new (Bound role.local ∷ []) (server_calls role.loggers s.at_boot s.turns ++ []) b (subst (Reports mid new) (sym (append-nil (server_calls role.loggers s.at_boot s.turns))) s.reports);
         serves = s.serves;
         unfenced = tt;
       }
 
-  pub server_stops : (role : ServerRole) (before mid new : Option (List LinkCall)) (counts : Counts) (out_old out_new : Option (List ℕ)) (e : NodeEnd) → Tells before mid (Bound role.local ∷ [])
-      → HasServed services role mid new counts → TellStops (count_line counts) out_old out_new e → ServerStops services role before new out_old out_new e
-  server_stops role before mid new counts out_old out_new ends.NoMemory b s t = (inr (untold role before mid new counts b s), t)
+  pub server_stops : (role : ServerRole) (before mid new : Option (List LinkCall)) (counts : Counts) (out_old out_new : Option (List ℕ)) (e : NodeEnd) → Reports before mid (Bound role.local ∷ [])
+      → HasServed services role mid new counts → ReportStops (count_line counts) out_old out_new e → ServerStops services role before new out_old out_new e
+  server_stops role before mid new counts out_old out_new ends.NoMemory b s t = (inr (unreported role before mid new counts b s), t)
   server_stops role before mid new counts out_old out_new ends.WriteFault b s t = server_done role before mid new counts (AppendsFront out_old out_new) b s t
   server_stops role before mid new counts out_old out_new ends.LinkFault b s t = absurd t
   server_stops role before mid new counts out_old out_new ends.Usage b s t = absurd t
@@ -360,23 +360,23 @@ module _ {State : Type 0} (services : ℕ → Machine State) where
   server_stops role before mid new counts out_old out_new ends.ChildFault b s t = absurd t
 
   -- one that its turns ended
-  pub server_lost : (role : ServerRole) (before mid new : Option (List LinkCall)) (out : Option (List ℕ)) → Tells before mid (Bound role.local ∷ []) → ServeStops services role mid new end.NoMemory
+  pub server_lost : (role : ServerRole) (before mid new : Option (List LinkCall)) (out : Option (List ℕ)) → Reports before mid (Bound role.local ∷ []) → ServeStops services role mid new end.NoMemory
       → ServerStops services role before new out out ends.NoMemory
-  server_lost role before mid new out b (inl same) = (inl (subst (λ t. Tells before t (Bound role.local ∷ [])) (sym same) b), refl)
+  server_lost role before mid new out b (inl same) = (inl (subst (λ t. Reports before t (Bound role.local ∷ [])) (sym same) b), refl)
   server_lost role before mid new out b (inr s) = (
     inr (record {
       at_boot = s.at_boot;
       turns = s.turns;
       last = Some s.last;
       within = omega (arith, s.within);
-      tells = tells_on before mid new (Bound role.local ∷ []) (server_calls role.loggers s.at_boot s.turns ++ received_as s.last ∷ []) b s.tells;
+      reports = reports_on before mid new (Bound role.local ∷ []) (server_calls role.loggers s.at_boot s.turns ++ received_as s.last ∷ []) b s.reports;
       serves = s.serves;
       unfenced = s.ends;
     }),
     refl,
   )
 
-  pub server_fenced : (role : ServerRole) (newer : ℕ) (before mid new : Option (List LinkCall)) (out : Option (List ℕ)) → Tells before mid (Bound role.local ∷ [])
+  pub server_fenced : (role : ServerRole) (newer : ℕ) (before mid new : Option (List LinkCall)) (out : Option (List ℕ)) → Reports before mid (Bound role.local ∷ [])
       → ServeStops services role mid new (end.Fenced newer) → ServerStops services role before new out out (ends.Fenced newer)
   server_fenced role newer before mid new out b s = (
     record {
@@ -384,7 +384,7 @@ module _ {State : Type 0} (services : ℕ → Machine State) where
       turns = s.turns;
       last = s.last;
       within = s.within;
-      tells = tells_on before mid new (Bound role.local ∷ []) (server_calls role.loggers s.at_boot s.turns ++ received_as s.last ∷ []) b s.tells;
+      reports = reports_on before mid new (Bound role.local ∷ []) (server_calls role.loggers s.at_boot s.turns ++ received_as s.last ∷ []) b s.reports;
       serves = s.serves;
       fenced = s.ends;
     },

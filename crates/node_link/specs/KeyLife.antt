@@ -40,7 +40,7 @@ module _ {State : Type 0} (service : Machine State) (node : Node) (key : Key) wh
   pub record EndsRestart (before : Stage) (input : Input) (after : Option Place) (sent : List Wire) : Type 0 where
     pub count : ℕ
     pub fetched : List Fetched
-    pub told : restarts_by node input before ≡ Some (count, fetched)
+    pub reported : restarts_by node input before ≡ Some (count, fetched)
     pub complete : wanted count fetched ≡ None
     pub packets : List Packet
     pub turn : Revived (entry_of key fetched) after packets

@@ -15,7 +15,7 @@ use Rattle.ft_model.specs.declared.schedule.Script.{Script}
 use Rattle.sample_servers.specs.AnyService.{any_started, any_after}
 use Rattle.peer_client.specs.declared.live.ClientEnd.TheVariants.{Closed}
 use Rattle.link_parts.specs.ClientRuns.{RunsScript, IsEndedBy, ClientStops}
-use Rattle.link_parts.specs.Ends.{IsTold}
+use Rattle.link_parts.specs.Ends.{IsReported}
 use Rattle.link_parts.specs.LoggerParts.{IsLogger, LoggerStops}
 use Rattle.link_parts.specs.Pair.{steps_of, IsPair, PairStops}
 use Rattle.node_link.specs.ServerLife.{IsServer, ServerStops}
@@ -66,7 +66,7 @@ module _ {State : Type 0} (services : ℕ → Machine State) where
   pub record HasEndedWith (role : Option NodeRole) (before after : Given) (err_old err_new : Option (List ℕ)) (code : ℕ) : Type 0 where
     pub end : Result (Unit {0}) NodeEnd
     pub lives : Lives role end before after
-    pub told : IsTold end err_old err_new code
+    pub reported : IsReported end err_old err_new code
 
 -- the same for a program with the four services
 abbrev pub HasEnded : Option NodeRole → (before after : Given) → (err_old err_new : Option (List ℕ)) → (code : ℕ) → Type 0

@@ -4,7 +4,7 @@ use Rattle.std.specs.Option.{option_to_list}
 use Rattle.ft_io.specs.declared.link_call.LinkCall.{LinkCall}
 use Rattle.ft_io.specs.declared.link_call.LinkCall.TheVariants.{Bound}
 use Rattle.ft_io.specs.Sink.{AppendsFront}
-use Rattle.ft_io.specs.Told.{Tells}
+use Rattle.ft_io.specs.Reported.{Reports}
 use Rattle.server_trait.specs.Service.{Machine}
 use Rattle.link_parts.specs.declared.role.ServerRole.{ServerRole}
 use Rattle.link_parts.specs.declared.status.NodeEnd.{NodeEnd}
@@ -20,7 +20,7 @@ module _ {State : Type 0} (services : ℕ → Machine State) where
     pub at_boot : List Sent
     pub turns : List ServerTurn  -- the newest first
     pub count_is : length turns ≡ role.turns
-    pub tells : Tells old new (Bound role.local ∷ server_calls role.loggers at_boot turns)
+    pub reports : Reports old new (Bound role.local ∷ server_calls role.loggers at_boot turns)
     pub serves : Serves services role at_boot turns
     pub written : Writes (count_line (counts_of (server_calls role.loggers at_boot turns)))
 
@@ -30,13 +30,13 @@ module _ {State : Type 0} (services : ℕ → Machine State) where
     pub turns : List ServerTurn
     pub last : Option Received
     pub within : length turns ≤ role.turns
-    pub tells : Tells old new (Bound role.local ∷ (server_calls role.loggers at_boot turns ++ map received_as (option_to_list last)))
+    pub reports : Reports old new (Bound role.local ∷ (server_calls role.loggers at_boot turns ++ map received_as (option_to_list last)))
     pub serves : Serves services role at_boot turns
     pub unfenced : IfSome last (λ received. fence_in role received ≡ None)
 
   -- an allocation may fail before it sends anything
   abbrev pub IsLostServer : ServerRole → (old new : Option (List LinkCall)) → Type 0
-  IsLostServer role old new = Tells old new (Bound role.local ∷ []) ⊎ IsCutServer role old new
+  IsLostServer role old new = Reports old new (Bound role.local ∷ []) ⊎ IsCutServer role old new
 
   -- a server that a newer one fenced: what it received last names the newer one's boot number
   pub record IsFencedServer (role : ServerRole) (newer : ℕ) (old new : Option (List LinkCall)) : Type 0 where
@@ -44,13 +44,13 @@ module _ {State : Type 0} (services : ℕ → Machine State) where
     pub turns : List ServerTurn
     pub last : Received
     pub within : length turns < role.turns
-    pub tells : Tells old new (Bound role.local ∷ (server_calls role.loggers at_boot turns ++ received_as last ∷ []))
+    pub reports : Reports old new (Bound role.local ∷ (server_calls role.loggers at_boot turns ++ received_as last ∷ []))
     pub serves : Serves services role at_boot turns
     pub fenced : fence_in role last ≡ Some newer
 
   -- how a server stops early: nothing was written where the bind failed, and a prefix of the line where a write did
   abbrev pub ServerStops : ServerRole → (old new : Option (List LinkCall)) → (out_old out_new : Option (List ℕ)) → NodeEnd → Type 0
-  ServerStops role old new out_old out_new LinkFault = Tells old new [] × (out_new ≡ out_old)
+  ServerStops role old new out_old out_new LinkFault = Reports old new [] × (out_new ≡ out_old)
   ServerStops role old new out_old out_new NoMemory = IsLostServer role old new × (out_new ≡ out_old)
   ServerStops role old new out_old out_new (Fenced newer) = IsFencedServer role newer old new × (out_new ≡ out_old)
   ServerStops role old new out_old out_new WriteFault = IsServer role old new (AppendsFront out_old out_new)

@@ -4,7 +4,7 @@ use Rattle.ft_io.specs.declared.Addr.{Addr}
 use Rattle.ft_io.specs.declared.Key.{Key}
 use Rattle.ft_io.specs.declared.link_call.LinkCall.{LinkCall}
 use Rattle.ft_io.specs.declared.link_call.LinkCall.TheVariants.{Handed}
-use Rattle.ft_io.specs.Told.{Tells}
+use Rattle.ft_io.specs.Reported.{Reports}
 use Rattle.seq_arith.specs.declared.kinds.Grammar.{Grammar}
 use Rattle.ft_model.specs.Node as law
 use Rattle.ft_model.specs.Lawful.{Turn, node_after, fence, hello, IsNearInput, IsSoundInput}
@@ -46,14 +46,14 @@ standing_of node = record { who = node.who; stage = node.stage }
 -- bytes were handed to send
 pub record HasHanded (to : Addr) (bytes : List ℕ) (old new : Option (List LinkCall)) (counted counts : Counts) : Type 0 where
   pub is_lost : Bool
-  pub tells : Tells old new (Handed to bytes is_lost ∷ [])
+  pub reports : Reports old new (Handed to bytes is_lost ∷ [])
   pub counts_are : counts ≡ with_calls counted (Handed to bytes is_lost ∷ [])
 
 -- all of these were handed to send, in order
 pub record HasSent (loggers : Loggers) (wires : List Wire) (old new : Option (List LinkCall)) (counted counts : Counts) : Type 0 where
   pub sent : List Sent
   pub wires_are : wires_in sent ≡ wires
-  pub tells : Tells old new (sending loggers sent)
+  pub reports : Reports old new (sending loggers sent)
   pub counts_are : counts ≡ with_calls counted (sending loggers sent)
 
 abbrev pub identity_of : ServerRole → Identity
@@ -62,7 +62,7 @@ identity_of role = record { boot = role.boot; isn = role.isn; kind = kind_in rol
 -- a turn that ended the node: it received, and sent nothing
 pub record EndsTurn (grammar : Grammar) (loggers : Loggers) (old new : Option (List LinkCall)) (Ends : law.Input → Type 0) : Type 0 where
   pub received : Received
-  pub tells : Tells old new (received_as received ∷ [])
+  pub reports : Reports old new (received_as received ∷ [])
   pub ends : Ends (input_from grammar loggers received)
 
 abbrev pub TurnStops : {State : Type 0} → Loggers → Standing State → (old new : Option (List LinkCall)) → TurnEnd → Type 0
@@ -77,7 +77,7 @@ module _ {State : Type 0} (services : ℕ → Machine State) where
     pub at_boot : List Sent
     pub wires_are : wires_in at_boot ≡ map (wire_by (grammar_for role)) (hello (first_of role))
     pub few : length at_boot ≤ 2 ^ 64
-    pub tells : Tells old new (sending role.loggers at_boot)
+    pub reports : Reports old new (sending role.loggers at_boot)
     pub counts_are : counts ≡ with_calls counted (sending role.loggers at_boot)
     pub who : s.who ≡ identity_of role
     pub stands : StageStands (service_of services role) (first_of role) s.stage
@@ -92,7 +92,7 @@ module _ {State : Type 0} (services : ℕ → Machine State) where
   pub record HasTurned (loggers : Loggers) (before after : Standing State) (old new : Option (List LinkCall)) (counted counts : Counts) : Type 0 where
     pub turn : ServerTurn
     pub few : length turn.sent ≤ 2 ^ 64
-    pub tells : Tells old new (turn_calls loggers turn)
+    pub reports : Reports old new (turn_calls loggers turn)
     pub counts_are : counts ≡ with_calls counted (turn_calls loggers turn)
     pub who : after.who ≡ before.who
     pub goes : Goes before (input_from (grammar_in before.who) loggers turn.received) after (wires_in turn.sent)
@@ -131,7 +131,7 @@ module _ {State : Type 0} (services : ℕ → Machine State) where
     pub at_boot : List Sent
     pub turns : List ServerTurn
     pub count_is : length turns ≡ count
-    pub tells : Tells old new (server_calls role.loggers at_boot turns)
+    pub reports : Reports old new (server_calls role.loggers at_boot turns)
     pub serves : Serves services role at_boot turns
     pub counts_are : counts ≡ counts_of (server_calls role.loggers at_boot turns)
     pub total : length (server_calls role.loggers at_boot turns) ≤ (count + 1) * (2 ^ 65 + 1)
@@ -145,7 +145,7 @@ module _ {State : Type 0} (services : ℕ → Machine State) where
     pub at_boot : List Sent
     pub turns : List ServerTurn
     pub count_is : length turns ≡ role.turns
-    pub tells : Tells old new (server_calls role.loggers at_boot turns)
+    pub reports : Reports old new (server_calls role.loggers at_boot turns)
     pub serves : Serves services role at_boot turns
     pub counts_are : counts ≡ counts_of (server_calls role.loggers at_boot turns)
 
@@ -155,7 +155,7 @@ module _ {State : Type 0} (services : ℕ → Machine State) where
     pub turns : List ServerTurn
     pub last : Received
     pub within : length turns < role.turns
-    pub tells : Tells old new (server_calls role.loggers at_boot turns ++ received_as last ∷ [])
+    pub reports : Reports old new (server_calls role.loggers at_boot turns ++ received_as last ∷ [])
     pub serves : Serves services role at_boot turns
     pub ends : Ends last
 

@@ -4,7 +4,7 @@ use Rattle.std.specs.List.{AllByRecursion}
 use Rattle.seq_arith.specs.Message.{Message}
 use Rattle.tcp_rules.specs.Profile.{grammar_of}
 use Rattle.server_trait.specs.Service.{Machine}
-use Rattle.ft_model.specs.Lawful.{StageTurn, count_told, fetched_then}
+use Rattle.ft_model.specs.Lawful.{StageTurn, count_reported, fetched_then}
 use Rattle.ft_model.specs.Network.{Packet}
 use Rattle.ft_model.specs.Node.{Node, Stage, Input}
 use Rattle.ft_model.specs.Node.Stage.{Asking, Fetching}
@@ -23,13 +23,13 @@ pub data ServerStage : Type 0 where
   Serves_with : Clients → ServerStage  -- it serves, and knows these clients
 
 -- how many entries the log has and which have come, after an input that continues a restart
-abbrev pub told_then : Node → Message → Stage → Option (ℕ × List Fetched)
-told_then node message Asking = option_map (λ count. (count, [])) (count_told node message)
-told_then node message (Fetching count fetched) = option_map (λ more. (count, more)) (fetched_then node message count fetched)
-told_then node message _ = None
+abbrev pub reported_then : Node → Message → Stage → Option (ℕ × List Fetched)
+reported_then node message Asking = option_map (λ count. (count, [])) (count_reported node message)
+reported_then node message (Fetching count fetched) = option_map (λ more. (count, more)) (fetched_then node message count fetched)
+reported_then node message _ = None
 
 abbrev pub restarts_by : Node → Input → Stage → Option (ℕ × List Fetched)
-restarts_by node (Message_comes message) stage = told_then node message stage
+restarts_by node (Message_comes message) stage = reported_then node message stage
 restarts_by node (Packet_comes segment) stage = None
 restarts_by node Noise_comes stage = None
 restarts_by node Tick_comes stage = None

@@ -3,7 +3,7 @@
 
 ghost use Rattle.std.specs.Prelude.{◌≡◌, ◌^◌, Bool, Some, [], ◌∷◌, List, map, IfOk, IsErrOf, OnOk};
 ghost use Rattle.ft_io.specs.declared.Addr.{Addr};
-ghost use Rattle.ft_io.specs.Told.{Tells};
+ghost use Rattle.ft_io.specs.Reported.{Reports};
 ghost use Rattle.ft_io.specs.declared.link_call.LinkCall.{LinkCall};
 ghost use Rattle.ft_io.specs.declared.link_call.LinkCall.TheVariants.{Bound, Handed};
 ghost use Rattle.tcp_rules.specs.Profile.{wan};
@@ -34,8 +34,8 @@ fn sends_before_its_bind<S: Saved, L: Link, O: Sink>(
     out: &mut O,
 ) -> Result<(), NodeEnd>
     requires { ServerInRange role.now }
-    ensures bound { OnOk result ((later : List LinkCall) × Tells (L.told link.old) (L.told link.new) (Bound role.now.local ∷ later)) }
-    ensures untold { IsErrOf result NodeEnd.LinkFault → Tells (L.told link.old) (L.told link.new) [] }
+    ensures bound { OnOk result ((later : List LinkCall) × Reports (L.reported link.old) (L.reported link.new) (Bound role.now.local ∷ later)) }
+    ensures unreported { IsErrOf result NodeEnd.LinkFault → Reports (L.reported link.old) (L.reported link.new) [] }
 {
     run_server::<S, L, O>(alloc, role, link, out)
 }
@@ -51,7 +51,7 @@ fn sends_nothing_of_a_turn<S: Saved, L: Link>(
     requires room { HasRoom (2 ^ 65) counts.old }
     requires asks { (standing_of node.old).stage ≡ stages.Asking }
     ensures { let who = (standing_of node.old).who
-        in OnOk result ((turn : ServerTurn) × Tells (L.told link.old) (L.told link.new) (turn_calls loggers turn)
+        in OnOk result ((turn : ServerTurn) × Reports (L.reported link.old) (L.reported link.new) (turn_calls loggers turn)
         × (input_from (grammar_in who) loggers turn.received ≡ Tick_comes
         → wires_in turn.sent ≡ map (wire_by (grammar_in who)) (hello (node_of who Stage.Asking)))) }
 {
@@ -67,7 +67,7 @@ fn sends_to_one_logger_alone<L: Link>(
 )
     requires { HasRoom 2 counts.old }
     ensures { (second : Addr) → second_for loggers packet.now.to ≡ Some second → (is_lost : Bool) × (is_second_lost : Bool)
-        × Tells (L.told link.old) (L.told link.new)
+        × Reports (L.reported link.old) (L.reported link.new)
         (Handed (address_of loggers.first packet.now.to) packet.now.bytes is_lost ∷ Handed second packet.now.bytes is_second_lost ∷ []) }
 {
     send_one(link, loggers, packet, counts);

@@ -6,7 +6,7 @@ ghost use Rattle.seq_arith.specs.Packet.{Segment};
 ghost use Rattle.seq_arith.specs.Message.Body.{OpenMsg};
 ghost use Rattle.tcp_rules.specs.Profile.{grammar_of};
 ghost use Rattle.server_trait.specs.Service.{Machine};
-ghost use Rattle.ft_model.specs.Connection.{told_by};
+ghost use Rattle.ft_model.specs.Connection.{reported_by};
 ghost use Rattle.ft_model.specs.Node.{Node, Place};
 ghost use Rattle.ft_model.specs.Node.Place.{Opens};
 ghost use Rattle.ft_model.specs.Node.Input.{Packet_comes};
@@ -27,5 +27,5 @@ pub fn new_clients_are_served<S: Service>()
         → ServesKey service node key clients None (Packet_comes segment) after sent
         → (after ≡ Some (Opens (numbers_for node.profile node.isn clients.opened segment) (timestamping_for node.profile segment)))
         × (of_key (grammar_of node.profile) key sent
-        ≡ map (wire_by (grammar_of node.profile)) (told_by node.boot (OpenMsg (numbers_for node.profile node.isn clients.opened segment)) ∷ [])) }
+        ≡ map (wire_by (grammar_of node.profile)) (reported_by node.boot (OpenMsg (numbers_for node.profile node.isn clients.opened segment)) ∷ [])) }
 {}

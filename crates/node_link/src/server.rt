@@ -5,7 +5,7 @@ ghost use Rattle.std.specs.Prelude.{List, ◌≡◌, ◌<◌, ◌≤◌, ◌*◌
 ghost use Rattle.std.specs.Io.KnownBytes.{Appends};
 ghost use Rattle.std.specs.declared.option.Option.{Option};
 ghost use Rattle.ft_io.specs.Faults.{Rose};
-ghost use Rattle.ft_io.specs.Told.{Tells};
+ghost use Rattle.ft_io.specs.Reported.{Reports};
 ghost use Rattle.ft_io.specs.declared.link_call.LinkCall.{LinkCall};
 ghost use Rattle.ft_io.specs.declared.link_call.LinkCall.TheVariants.{Bound};
 ghost use Rattle.seq_arith.specs.declared.kinds.Grammar.{Grammar};
@@ -52,7 +52,7 @@ fn second_for(loggers: Loggers, to: To) -> Option<Addr>
 /// Hands bytes to send.
 fn hand<L: Link>(link: &mut L, to: Addr, bytes: &[u8], counts: &mut Counts)
     requires { HasRoom 1 counts.old }
-    ensures handed { HasHanded to bytes.now (L.told link.old) (L.told link.new) counts.old counts.new }
+    ensures handed { HasHanded to bytes.now (L.reported link.old) (L.reported link.new) counts.old counts.new }
     ensures no_bind_fault { L.bind_fault_count link.new ≡ L.bind_fault_count link.old }
 {
     let sent = link.send(to, bytes);
@@ -67,7 +67,7 @@ pub(crate) fn send_one<L: Link>(
     counts: &mut Counts,
 )
     requires { HasRoom 2 counts.old }
-    ensures sent { HasSent loggers (packet.now ∷ []) (L.told link.old) (L.told link.new) counts.old counts.new }
+    ensures sent { HasSent loggers (packet.now ∷ []) (L.reported link.old) (L.reported link.new) counts.old counts.new }
     ensures no_bind_fault { L.bind_fault_count link.new ≡ L.bind_fault_count link.old }
 {
     hand(
@@ -84,7 +84,7 @@ pub(crate) fn send_one<L: Link>(
 /// Hands packets to send, in order.
 fn send_all<L: Link>(link: &mut L, loggers: Loggers, packets: &[OutPacket], counts: &mut Counts)
     requires { HasRoom (2 * length packets.now) counts.old }
-    ensures sent { HasSent loggers packets.now (L.told link.old) (L.told link.new) counts.old counts.new }
+    ensures sent { HasSent loggers packets.now (L.reported link.old) (L.reported link.new) counts.old counts.new }
     ensures short { length packets.now < 2 ^ 64 }
     ensures no_bind_fault { L.bind_fault_count link.new ≡ L.bind_fault_count link.old }
 {
@@ -136,9 +136,9 @@ pub(crate) fn take_turn<S: Saved, L: Link>(
     counts: &mut Counts,
 ) -> Result<(), TurnEnd>
     requires { HasRoom (2 ^ 65) counts.old }
-    ensures turned { OnOk result (HasTurned (machines S.started S.after S.greeting) loggers (standing_of node.old) (standing_of node.new) (L.told link.old)
-        (L.told link.new) counts.old counts.new) }
-    ensures stops { IfErr result (TurnStops loggers (standing_of node.old) (L.told link.old) (L.told link.new)) }
+    ensures turned { OnOk result (HasTurned (machines S.started S.after S.greeting) loggers (standing_of node.old) (standing_of node.new) (L.reported link.old)
+        (L.reported link.new) counts.old counts.new) }
+    ensures stops { IfErr result (TurnStops loggers (standing_of node.old) (L.reported link.old) (L.reported link.new)) }
     ensures no_bind_fault { L.bind_fault_count link.new ≡ L.bind_fault_count link.old }
 {
     let mut buffer = [0; DATAGRAM_ROOM];
@@ -157,9 +157,9 @@ pub(crate) fn boot<S: Saved, L: Link>(
 ) -> Result<Node<S>, NoMemory>
     requires range { ServerInRange role.now }
     requires room { HasRoom (2 ^ 65) counts.old }
-    ensures booted { IfOk result (λ node. HasBooted (machines S.started S.after S.greeting) role.now (standing_of node) (L.told link.old)
-        (L.told link.new) counts.old counts.new) }
-    ensures lost { OnErr result (L.told link.new ≡ L.told link.old) }
+    ensures booted { IfOk result (λ node. HasBooted (machines S.started S.after S.greeting) role.now (standing_of node) (L.reported link.old)
+        (L.reported link.new) counts.old counts.new) }
+    ensures lost { OnErr result (L.reported link.new ≡ L.reported link.old) }
     ensures no_bind_fault { L.bind_fault_count link.new ≡ L.bind_fault_count link.old }
 {
     let node = Node::boot_in(
@@ -182,8 +182,8 @@ fn serve<S: Saved, L: Link>(
     link: &mut L,
 ) -> Result<Counts, TurnEnd>
     requires { ServerInRange role.now }
-    ensures served { IfOk result (λ counts. HasServed (machines S.started S.after S.greeting) role.now (L.told link.old) (L.told link.new) counts) }
-    ensures stops { IfErr result (ServeStops (machines S.started S.after S.greeting) role.now (L.told link.old) (L.told link.new)) }
+    ensures served { IfOk result (λ counts. HasServed (machines S.started S.after S.greeting) role.now (L.reported link.old) (L.reported link.new) counts) }
+    ensures stops { IfErr result (ServeStops (machines S.started S.after S.greeting) role.now (L.reported link.old) (L.reported link.new)) }
     ensures no_bind_fault { L.bind_fault_count link.new ≡ L.bind_fault_count link.old }
 {
     let mut counts = Counts::new();
@@ -195,17 +195,17 @@ fn serve<S: Saved, L: Link>(
 }
 
 /// Runs a server after its bind: boots, takes its turns, and writes the line of the counts.
-fn serve_and_tell<S: Saved, L: Link, O: Sink>(
+fn serve_and_report<S: Saved, L: Link, O: Sink>(
     alloc: Global,
     role: &ServerRole,
     link: &mut L,
     out: &mut O,
 ) -> Result<(), NodeEnd>
     requires { ServerInRange role.now }
-    ensures done { OnOk result ((before : Option (List LinkCall)) → Tells before (L.told link.old) (Bound role.now.local ∷ [])
-        → IsServer (machines S.started S.after S.greeting) role.now before (L.told link.new) (Appends (O.taken out.old) (O.taken out.new))) }
-    ensures stops { IfErr result (λ end. (before : Option (List LinkCall)) → Tells before (L.told link.old) (Bound role.now.local ∷ [])
-        → ServerStops (machines S.started S.after S.greeting) role.now before (L.told link.new) (O.taken out.old) (O.taken out.new) end) }
+    ensures done { OnOk result ((before : Option (List LinkCall)) → Reports before (L.reported link.old) (Bound role.now.local ∷ [])
+        → IsServer (machines S.started S.after S.greeting) role.now before (L.reported link.new) (Appends (O.taken out.old) (O.taken out.new))) }
+    ensures stops { IfErr result (λ end. (before : Option (List LinkCall)) → Reports before (L.reported link.old) (Bound role.now.local ∷ [])
+        → ServerStops (machines S.started S.after S.greeting) role.now before (L.reported link.new) (O.taken out.old) (O.taken out.new) end) }
     ensures write_cause { IsErrOf result NodeEnd.WriteFault → Rose (O.fault_count out.old) (O.fault_count out.new) }
     ensures bound { IsErrOf result NodeEnd.LinkFault → ⊥ }
     ensures no_bind_fault { L.bind_fault_count link.new ≡ L.bind_fault_count link.old }
@@ -226,9 +226,9 @@ pub(crate) fn run_server<S: Saved, L: Link, O: Sink>(
     out: &mut O,
 ) -> Result<(), NodeEnd>
     requires { ServerInRange role.now }
-    ensures done { OnOk result (IsServer (machines S.started S.after S.greeting) role.now (L.told link.old) (L.told link.new)
+    ensures done { OnOk result (IsServer (machines S.started S.after S.greeting) role.now (L.reported link.old) (L.reported link.new)
         (Appends (O.taken out.old) (O.taken out.new))) }
-    ensures stops { IfErr result (ServerStops (machines S.started S.after S.greeting) role.now (L.told link.old) (L.told link.new) (O.taken out.old)
+    ensures stops { IfErr result (ServerStops (machines S.started S.after S.greeting) role.now (L.reported link.old) (L.reported link.new) (O.taken out.old)
         (O.taken out.new)) }
     ensures bind_cause { IsErrOf result NodeEnd.LinkFault → Rose (L.bind_fault_count link.old) (L.bind_fault_count link.new) }
     ensures write_cause { IsErrOf result NodeEnd.WriteFault → Rose (O.fault_count out.old) (O.fault_count out.new) }
@@ -237,6 +237,6 @@ pub(crate) fn run_server<S: Saved, L: Link, O: Sink>(
 {
     match link.bind(role.local) {
         Err(Failed) => Err(NodeEnd::LinkFault),
-        Ok(()) => serve_and_tell::<S, L, O>(alloc, role, link, out),
+        Ok(()) => serve_and_report::<S, L, O>(alloc, role, link, out),
     }
 }

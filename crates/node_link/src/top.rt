@@ -36,8 +36,8 @@ pub fn run_role<S: Saved, L: Link, I: Source, O: Sink, P: Spawner>(
 ) -> Result<(), NodeEnd>
     requires { InRange role.now }
     ensures lives { LivesAs (machines S.started S.after S.greeting) role.now result
-        (record { left = I.left input.old; calls = L.told link.old; started = P.started kids.old; spawned = P.told kids.old; out = O.taken out.old })
-        (record { left = I.left input.new; calls = L.told link.new; started = P.started kids.new; spawned = P.told kids.new; out = O.taken out.new }) }
+        (record { left = I.left input.old; calls = L.reported link.old; started = P.started kids.old; spawned = P.reported kids.old; out = O.taken out.old })
+        (record { left = I.left input.new; calls = L.reported link.new; started = P.started kids.new; spawned = P.reported kids.new; out = O.taken out.new }) }
     ensures same_kids { is_pair (Some role.now) ≡ false → kids.new ≡ kids.old }
     ensures unread { reads_input (Some role.now) ≡ false → input.new ≡ input.old }
     ensures same_link { is_pair (Some role.now) ≡ true → link.new ≡ link.old }
@@ -69,8 +69,8 @@ fn run<L: Link, I: Source, O: Sink, P: Spawner>(
     kids: &mut P,
 ) -> Result<(), NodeEnd>
     ensures lives { Lives (machines any_started any_after no_greeting) (role_of (map string_bytes words.now)) result
-        (record { left = I.left input.old; calls = L.told link.old; started = P.started kids.old; spawned = P.told kids.old; out = O.taken out.old })
-        (record { left = I.left input.new; calls = L.told link.new; started = P.started kids.new; spawned = P.told kids.new; out = O.taken out.new }) }
+        (record { left = I.left input.old; calls = L.reported link.old; started = P.started kids.old; spawned = P.reported kids.old; out = O.taken out.old })
+        (record { left = I.left input.new; calls = L.reported link.new; started = P.started kids.new; spawned = P.reported kids.new; out = O.taken out.new }) }
     ensures same_kids { is_pair (role_of (map string_bytes words.now)) ≡ false → kids.new ≡ kids.old }
     ensures unread { reads_input (role_of (map string_bytes words.now)) ≡ false → input.new ≡ input.old }
     ensures taken { ConsumesAtMost 16777217 (I.left input.old) (I.left input.new) }
@@ -105,8 +105,8 @@ pub fn node<L: Link, I: Source, O: Sink, E: Sink, P: Spawner>(
 ) -> Status
     // The role decides what is read, which calls are made on the link and on kids, and what is written to out; the end decides what is written to err.
     ensures ended { HasEnded (role_of (map string_bytes words.now))
-        (record { left = I.left input.old; calls = L.told link.old; started = P.started kids.old; spawned = P.told kids.old; out = O.taken out.old })
-        (record { left = I.left input.new; calls = L.told link.new; started = P.started kids.new; spawned = P.told kids.new; out = O.taken out.new })
+        (record { left = I.left input.old; calls = L.reported link.old; started = P.started kids.old; spawned = P.reported kids.old; out = O.taken out.old })
+        (record { left = I.left input.new; calls = L.reported link.new; started = P.started kids.new; spawned = P.reported kids.new; out = O.taken out.new })
         (E.taken err.old) (E.taken err.new) result.code }
     // Only a client without a script in its words reads the input, at most one byte past the limit of a script. Only a pair starts children.
     ensures unread { reads_input (role_of (map string_bytes words.now)) ≡ false → input.new ≡ input.old }

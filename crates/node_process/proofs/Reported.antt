@@ -4,7 +4,7 @@ use Rattle.ft_io.specs.Faults.{Rose}
 use Rattle.link_parts.specs.Ends.{is_fault_status}
 use Rattle.link_parts.specs.declared.status.NodeEnd.TheVariants as node
 use Rattle.node_link.specs.Outcome.{IsStill}
-use Rattle.journal_parts.specs.Ends.{TellsEnd, code_of, is_fault}
+use Rattle.journal_parts.specs.Ends.{ReportsEnd, code_of, is_fault}
 use Rattle.journal_parts.specs.declared.status.ProcessEnd.{ProcessEnd}
 use Rattle.journal_parts.specs.declared.status.ProcessEnd.TheVariants.{Node, JournalFault, BadJournal, NoJournal, InUse}
 
@@ -32,7 +32,7 @@ module _ (old mid new : ℕ) (never : old ≤ mid) where
   pub still_by_then : IsStill old new → IsStill mid new
   still_by_then still = λ rose. still (rose_by_then rose)
 
-  pub write_failed : {Writes : Type 0} (end : ProcessEnd) (taken_mid taken_new : Option (List ℕ)) (code : ℕ) → TellsEnd end taken_mid taken_new mid new code
+  pub write_failed : {Writes : Type 0} (end : ProcessEnd) (taken_mid taken_new : Option (List ℕ)) (code : ℕ) → ReportsEnd end taken_mid taken_new mid new code
       → (end ≡ Node node.WriteFault → new ≡ mid) → (end ≡ Node node.WriteFault → Writes ⊎ Rose old mid) → code ≡ 5 → Writes ⊎ Rose old new
   write_failed end taken_mid taken_new code (inr (is, front, rose)) unreported cause five = inr (rose_by_then rose)
   write_failed {Writes} end taken_mid taken_new code (inl (is, whole)) unreported cause five =

@@ -5,7 +5,7 @@ use Rattle.disk.specs.declared.calls.DeskCall.{DeskCall}
 use Rattle.link_parts.specs.declared.status.NodeEnd.TheVariants.{Usage, NoMemory}
 use Rattle.link_parts.specs.Options.{Text}
 use Rattle.node_link.specs.Outcome as node
-use Rattle.journal_parts.specs.Outcome.{KeepsJournal, IsTold}
+use Rattle.journal_parts.specs.Outcome.{KeepsJournal, IsReported}
 use Rattle.chain_parts.specs.PairOutcome as twin
 use Rattle.journal_parts.specs.declared.status.ProcessEnd.{ProcessEnd}
 use Rattle.journal_parts.specs.declared.status.ProcessEnd.TheVariants as ends
@@ -50,4 +50,4 @@ module _ {State : Type 0} (services : ℕ → Machine State) where
     pub noted : Option (List ℕ)
     pub runs : Runs role end before (record after { err = noted })
     pub same : uses_desk role ≡ false → noted ≡ before.err
-    pub told : IsTold end noted after.err code
+    pub reported : IsReported end noted after.err code

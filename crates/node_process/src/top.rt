@@ -12,7 +12,7 @@ ghost use Rattle.node_process.specs.Run.{RunsAs, Runs, HasRun};
 
 use crate::process::Process;
 use crate::role::{Role, Services, read_role};
-use chain_parts::{TwinRole, run_part, run_teller};
+use chain_parts::{TwinRole, run_part, run_notifier};
 use disk::Desk;
 use ft_io::{Link, Sink, Source, Spawner};
 use journal_parts::{ProcessEnd, report_end, run_keeper};
@@ -32,24 +32,24 @@ fn run_as<S: Saved, L: Link, I: Source, O: Sink, E: Sink, P: Spawner, K: Desk>(
         (record {
           given = record {
             left = I.left process.old.input;
-            calls = L.told process.old.link;
+            calls = L.reported process.old.link;
             started = P.started process.old.children;
-            spawned = P.told process.old.children;
+            spawned = P.reported process.old.children;
             out = O.taken process.old.out;
           };
-          desk = K.told process.old.desk;
+          desk = K.reported process.old.desk;
           files = K.file_of process.old.desk;
           err = E.taken process.old.err;
         })
         (record {
           given = record {
             left = I.left process.new.input;
-            calls = L.told process.new.link;
+            calls = L.reported process.new.link;
             started = P.started process.new.children;
-            spawned = P.told process.new.children;
+            spawned = P.reported process.new.children;
             out = O.taken process.new.out;
           };
-          desk = K.told process.new.desk;
+          desk = K.reported process.new.desk;
           files = K.file_of process.new.desk;
           err = E.taken process.new.err;
         }) }
@@ -89,7 +89,7 @@ fn run_as<S: Saved, L: Link, I: Source, O: Sink, E: Sink, P: Spawner, K: Desk>(
         Role::Node(role) => Ok(run_role::<S, L, I, O, P>(alloc, role, link, input, out, children)?),
         Role::Journal(role) => run_keeper(alloc, role, desk, out, err),
         Role::Twin(TwinRole::Logger(role)) => Ok(run_part(alloc, role, link, out)?),
-        Role::Twin(TwinRole::Alone(role)) => Ok(run_teller(role, link, out)?),
+        Role::Twin(TwinRole::Alone(role)) => Ok(run_notifier(role, link, out)?),
     }
 }
 
@@ -104,24 +104,24 @@ fn run_words<S: Saved, L: Link, I: Source, O: Sink, E: Sink, P: Spawner, K: Desk
         (record {
           given = record {
             left = I.left process.old.input;
-            calls = L.told process.old.link;
+            calls = L.reported process.old.link;
             started = P.started process.old.children;
-            spawned = P.told process.old.children;
+            spawned = P.reported process.old.children;
             out = O.taken process.old.out;
           };
-          desk = K.told process.old.desk;
+          desk = K.reported process.old.desk;
           files = K.file_of process.old.desk;
           err = E.taken process.old.err;
         })
         (record {
           given = record {
             left = I.left process.new.input;
-            calls = L.told process.new.link;
+            calls = L.reported process.new.link;
             started = P.started process.new.children;
-            spawned = P.told process.new.children;
+            spawned = P.reported process.new.children;
             out = O.taken process.new.out;
           };
-          desk = K.told process.new.desk;
+          desk = K.reported process.new.desk;
           files = K.file_of process.new.desk;
           err = E.taken process.new.err;
         }) }
@@ -168,24 +168,24 @@ fn run_and_report<S: Saved, L: Link, I: Source, O: Sink, E: Sink, P: Spawner, K:
         (record {
           given = record {
             left = I.left process.old.input;
-            calls = L.told process.old.link;
+            calls = L.reported process.old.link;
             started = P.started process.old.children;
-            spawned = P.told process.old.children;
+            spawned = P.reported process.old.children;
             out = O.taken process.old.out;
           };
-          desk = K.told process.old.desk;
+          desk = K.reported process.old.desk;
           files = K.file_of process.old.desk;
           err = E.taken process.old.err;
         })
         (record {
           given = record {
             left = I.left process.new.input;
-            calls = L.told process.new.link;
+            calls = L.reported process.new.link;
             started = P.started process.new.children;
-            spawned = P.told process.new.children;
+            spawned = P.reported process.new.children;
             out = O.taken process.new.out;
           };
-          desk = K.told process.new.desk;
+          desk = K.reported process.new.desk;
           files = K.file_of process.new.desk;
           err = E.taken process.new.err;
         }) result.code }
@@ -280,24 +280,24 @@ pub fn run<S: Saved, L: Link, I: Source, O: Sink, E: Sink, P: Spawner, K: Desk>(
         (record {
           given = record {
             left = I.left process.old.input;
-            calls = L.told process.old.link;
+            calls = L.reported process.old.link;
             started = P.started process.old.children;
-            spawned = P.told process.old.children;
+            spawned = P.reported process.old.children;
             out = O.taken process.old.out;
           };
-          desk = K.told process.old.desk;
+          desk = K.reported process.old.desk;
           files = K.file_of process.old.desk;
           err = E.taken process.old.err;
         })
         (record {
           given = record {
             left = I.left process.new.input;
-            calls = L.told process.new.link;
+            calls = L.reported process.new.link;
             started = P.started process.new.children;
-            spawned = P.told process.new.children;
+            spawned = P.reported process.new.children;
             out = O.taken process.new.out;
           };
-          desk = K.told process.new.desk;
+          desk = K.reported process.new.desk;
           files = K.file_of process.new.desk;
           err = E.taken process.new.err;
         }) result.code }

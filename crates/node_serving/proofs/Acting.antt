@@ -28,10 +28,10 @@ use Rattle.wrapped_conn.specs.NewConnection.{first_conn_in}
 use Rattle.wrapped_conn.specs.Refinement as conn
 use Rattle.wrapped_conn.specs.Refinement.{StandsLive, StandsReset, Leads}
 use Rattle.wrapped_conn.specs.LoggerMessages.{grammar_by, with_done}
-use Rattle.wrapped_conn.specs.Turn.{Starts, Receives, Hears, IsTold, Ticks as TicksOn, counted, ticked}
+use Rattle.wrapped_conn.specs.Turn.{Starts, Receives, OnReceipt, IsReported, Ticks as TicksOn, counted, ticked}
 use Rattle.wrapped_conn.specs.Numbers.{resets}
 use Rattle.south_wrap.specs.Translation.{repeats_syn}
-use Rattle.wrapped_conn.proofs.Hearing.{hears, starts}
+use Rattle.wrapped_conn.proofs.Arrivals.{on_receipt, starts}
 use Rattle.wrapped_conn.proofs.Joining.{new_starts}
 use Rattle.wrapped_conn.proofs.Receiving.{receives}
 use Rattle.wrapped_conn.proofs.SoundAgain.{fitting_leaves, fitting_short}
@@ -69,8 +69,8 @@ receives_same service segment c now out messages r =
     (λ m. either (resets c segment) m (λ k. record { key = ap (λ x. x.key) k.state; local = ap (λ x. x.local) k.state; boot = ap (λ x. x.boot) k.state; batches = ap (λ x. x.batches) k.state })
     (λ k. let same = arrived_same segment c in record { key = ap (λ x. x.key) k.state ∙ same.key; local = ap (λ x. x.local) k.state ∙ same.local; boot = ap (λ x. x.boot) k.state ∙ same.boot; batches = ap (λ x. x.batches) k.state ∙ same.batches }))
 
-pub hears_same : {S : Type 0} (service : Machine S) (kept : Kept) (c now : ConnState S) (out messages : List (List ℕ)) → Hears service.after kept.length kept.fin kept.reads c now out messages → IsSame c now
-hears_same service kept c now out messages r =
+pub receipt_same : {S : Type 0} (service : Machine S) (kept : Kept) (c now : ConnState S) (out messages : List (List ℕ)) → OnReceipt service.after kept.length kept.fin kept.reads c now out messages → IsSame c now
+receipt_same service kept c now out messages r =
     either c.reset r (λ k. record { key = ap (λ x. x.key) k.state; local = ap (λ x. x.local) k.state; boot = ap (λ x. x.boot) k.state; batches = ap (λ x. x.batches) k.state }) (λ k. record { key = ap (λ x. x.key) k.state; local = ap (λ x. x.local) k.state; boot = ap (λ x. x.boot) k.state; batches = ap (λ x. x.batches) k.state })
 
 pub ticks_same : {S : Type 0} (c now : ConnState S) (out messages : List (List ℕ)) → TicksOn c now out messages → IsSame c now
@@ -89,11 +89,11 @@ starts_same service c now out messages k = record { key = ap (λ x. x.key) k.sta
 rests_same : {S : Type 0} (c was now : ConnState S) → IsSame c was → now ≡ was → IsSame c now
 rests_same c was now same is = subst (IsSame c) (sym is) same
 
-pub told_same : {S : Type 0} (service : Machine S) (said : Said) (c now : ConnState S) (out messages : List (List ℕ)) → IsTold service.after said c now out messages → IsSame c now
-told_same service (body.Stable kept) c now out messages r = hears_same service (kept_said kept) c now out messages r
-told_same service (body.Reads kept) c now out messages r = hears_same service (kept_said kept) c now out messages r
-told_same service (body.Ended key) c now out messages r = rests_same c _ now (record { key = refl; local = refl; boot = refl; batches = refl }) r.state
-told_same service _ c now out messages r = rests_same c c now (record { key = refl; local = refl; boot = refl; batches = refl }) r.state
+pub reported_same : {S : Type 0} (service : Machine S) (said : Said) (c now : ConnState S) (out messages : List (List ℕ)) → IsReported service.after said c now out messages → IsSame c now
+reported_same service (body.Stable kept) c now out messages r = receipt_same service (kept_said kept) c now out messages r
+reported_same service (body.Reads kept) c now out messages r = receipt_same service (kept_said kept) c now out messages r
+reported_same service (body.Ended key) c now out messages r = rests_same c _ now (record { key = refl; local = refl; boot = refl; batches = refl }) r.state
+reported_same service _ c now out messages r = rests_same c c now (record { key = refl; local = refl; boot = refl; batches = refl }) r.state
 
 -- no more reads are known to be logged than were made
 counts : {S : Type 0} (service : Machine S) (c : ConnState S) (p : Point) (given : ℕ) → NorthStands service p given c.north → p.reads_answered ≤ length p.lengths
@@ -133,8 +133,8 @@ pub segment_acts : {S : Type 0} (grammar : Grammar) (service : Machine S) (serve
     → IfOk (reading bytes) (λ came. Receives service.after came c now segments messages) → reading bytes ≡ Ok segment → IsNear p.cisn p.sisn segment → IsOursAt service server boot c p → grammar_by c.batches ≡ grammar
     → Acts grammar service server boot (Comes segment) p now segments messages
 unfolding IsOursAt IsSound
-segment_acts grammar service server boot p c now bytes segment segments messages small typed s s_now told reads near st its =
-    let r : Receives service.after segment c now segments messages = subst (λ read. IfOk read (λ came. Receives service.after came c now segments messages)) reads told in
+segment_acts grammar service server boot p c now bytes segment segments messages small typed s s_now reported reads near st its =
+    let r : Receives service.after segment c now segments messages = subst (λ read. IfOk read (λ came. Receives service.after came c now segments messages)) reads reported in
     let same = receives_same service segment c now segments messages r in
     written grammar service server boot (Comes segment) p c now segments messages st.0.keeps.batches its
     (acts service server boot (Comes segment) p now segments messages typed (text_fits bytes segment reads, stamps_short bytes segment small reads) (fits_of st.1) (counts_standing service c p p.reset st.0.parts) s_now
@@ -142,24 +142,24 @@ segment_acts grammar service server boot p c now bytes segment segments messages
     (ours service server boot (Comes segment) p c now segments messages st.1 (receives service p c now segment segments messages s s_now st.0 (fits p bytes segment small reads near) r)))
 
 -- what a message says is logged is what the connection hears
-pub heard_in : {S : Type 0} (service : Machine S) (said : Said) (kept : Kept) (c now : ConnState S) (segments messages : List (List ℕ)) → logged_in (body_of said) ≡ Some kept
-    → IsTold service.after said c now segments messages → Hears service.after kept.length kept.fin kept.reads c now segments messages
-heard_in service (body.Stable logged) kept c now segments messages e r =
-    subst (λ (k : Kept). Hears service.after k.length k.fin k.reads c now segments messages) (some_is _ kept e) r
-heard_in service (body.Reads logged) kept c now segments messages e r =
-    subst (λ (k : Kept). Hears service.after k.length k.fin k.reads c now segments messages) (some_is _ kept e) r
-heard_in service _ kept c now segments messages e r = none_is_some kept e
+pub received_in : {S : Type 0} (service : Machine S) (said : Said) (kept : Kept) (c now : ConnState S) (segments messages : List (List ℕ)) → logged_in (body_of said) ≡ Some kept
+    → IsReported service.after said c now segments messages → OnReceipt service.after kept.length kept.fin kept.reads c now segments messages
+received_in service (body.Stable logged) kept c now segments messages e r =
+    subst (λ (k : Kept). OnReceipt service.after k.length k.fin k.reads c now segments messages) (some_is _ kept e) r
+received_in service (body.Reads logged) kept c now segments messages e r =
+    subst (λ (k : Kept). OnReceipt service.after k.length k.fin k.reads c now segments messages) (some_is _ kept e) r
+received_in service _ kept c now segments messages e r = none_is_some kept e
 
 pub message_acts : {S : Type 0} (grammar : Grammar) (service : Machine S) (server : Addr) (boot : ℕ) (p : Point) (c now : ConnState S) (said : Said) (kept : Kept) (segments messages : List (List ℕ))
-    → IsTyped server boot p.key segments messages → IsSound c → IsSound now → logged_in (body_of said) ≡ Some kept → IsTold service.after said c now segments messages
+    → IsTyped server boot p.key segments messages → IsSound c → IsSound now → logged_in (body_of said) ≡ Some kept → IsReported service.after said c now segments messages
     → IsOursAt service server boot c p → grammar_by c.batches ≡ grammar → Acts grammar service server boot (Logged kept) p now segments messages
 unfolding IsOursAt IsSound
-message_acts grammar service server boot p c now said kept segments messages typed s s_now says told st its =
-    let r = heard_in service said kept c now segments messages says told in
-    let same = hears_same service kept c now segments messages r in
+message_acts grammar service server boot p c now said kept segments messages typed s s_now says reported st its =
+    let r = received_in service said kept c now segments messages says reported in
+    let same = receipt_same service kept c now segments messages r in
     written grammar service server boot (Logged kept) p c now segments messages st.0.keeps.batches its
     (acts service server boot (Logged kept) p now segments messages typed tt (fits_of st.1) (counts_standing service c p p.reset st.0.parts) s_now (same.local ∙ st.1.local) (same.boot ∙ st.1.incarnation)
-    (ours service server boot (Logged kept) p c now segments messages st.1 (hears service p c now kept segments messages s s_now st.0 r)))
+    (ours service server boot (Logged kept) p c now segments messages st.1 (on_receipt service p c now kept segments messages s s_now st.0 r)))
 
 pub start_acts : {S : Type 0} (grammar : Grammar) (service : Machine S) (server : Addr) (boot : ℕ) (p : Point) (c now : ConnState S) (segments messages : List (List ℕ))
     → IsTyped server boot p.key segments messages → IsSound c → IsSound now → Starts service.after c now segments messages → Begins service server boot c p → grammar_by c.batches ≡ grammar

@@ -20,7 +20,7 @@ use Rattle.ft_model.specs.ServingTurn.{opens_at, newcomers, is_strange}
 use Rattle.node_serving.specs.declared.slot.Slot.{Slot}
 use Rattle.node_serving.specs.declared.slot.Slot.TheVariants as slot
 use Rattle.seq_arith.specs.Message.Body.{OpenMsg}
-use Rattle.ft_model.specs.Connection.{told_by}
+use Rattle.ft_model.specs.Connection.{reported_by}
 use Rattle.ft_model.specs.Wire.{Wire}
 use Rattle.node_serving.specs.declared.slot.Opening.{Opening}
 use Rattle.node_serving.specs.Openings.{ArePut, Admits, all_opens, slot_opens, is_pending_slot, pending_slots}
@@ -102,10 +102,10 @@ module _ {S : Type 0} (service : Machine S) (node : Node) (segment : Segment) (o
   unasked_all es none = all_other node segment es (none_found (key_eq (source_of segment)) es none)
 
   -- a segment that isn't a SYN, or one that comes while 64 are pending, makes nothing
-  pub none_admitted : (next : ℕ) (es : List (Key × Slot S)) (told : List Wire) → lookup (key_eq (source_of segment)) es ≡ None → next ≡ initial_number node.isn opened
-      → AllStand service node es places → (is_syn segment && nat_lt (pending_slots es) 64) ≡ false → Admits service node segment opened places next es told told
-  none_admitted next es told none number st shut = admits [] next es told told nothing (number ∙ ap (initial_number node.isn) same)
-      (subst (AllStand service node es) (sym (append-nil places)) st) (subst (λ ps. ArePut (grammar_of node.profile) ps told told) (sym (unasked_all es none)) (put_none (grammar_of node.profile) told))
+  pub none_admitted : (next : ℕ) (es : List (Key × Slot S)) (reported : List Wire) → lookup (key_eq (source_of segment)) es ≡ None → next ≡ initial_number node.isn opened
+      → AllStand service node es places → (is_syn segment && nat_lt (pending_slots es) 64) ≡ false → Admits service node segment opened places next es reported reported
+  none_admitted next es reported none number st shut = admits [] next es reported reported nothing (number ∙ ap (initial_number node.isn) same)
+      (subst (AllStand service node es) (sym (append-nil places)) st) (subst (λ ps. ArePut (grammar_of node.profile) ps reported reported) (sym (unasked_all es none)) (put_none (grammar_of node.profile) reported))
     where
       same : opened ≡ opened + 0
       same = omega arith
@@ -124,7 +124,7 @@ module _ {S : Type 0} (service : Machine S) (node : Node) (segment : Segment) (o
   pub one_admitted : (key : Key) (o : Opening) (next : ℕ) (es : List (Key × Slot S)) (old new : List Wire) → source_of segment ≡ key → lookup (key_eq key) es ≡ None
       → is_for node.server segment ≡ true → is_syn segment ≡ true → nat_lt (pending_slots es) 64 ≡ true → AllStand service node es places
       → numbers_for node.profile node.isn opened segment ≡ numbers_of key o → timestamping_for node.profile segment ≡ o.timestamping → next ≡ initial_number node.isn (opened + 1)
-      → ArePut (grammar_of node.profile) (told_by node.boot (OpenMsg (numbers_of key o)) ∷ []) old new
+      → ArePut (grammar_of node.profile) (reported_by node.boot (OpenMsg (numbers_of key o)) ∷ []) old new
       → Admits service node segment opened places next (es ++ (key, slot.Pending o) ∷ []) old new
   one_admitted key o next es old new from none mine syn few st numbers timestamping number asked =
       admits (Opens (numbers_for node.profile node.isn opened segment) (timestamping_for node.profile segment) ∷ []) next (es ++ (key, slot.Pending o) ∷ []) old new one number
@@ -143,7 +143,7 @@ module _ {S : Type 0} (service : Machine S) (node : Node) (segment : Segment) (o
       one : newcomers node (Packet_comes segment) opened places ≡ Opens (numbers_for node.profile node.isn opened segment) (timestamping_for node.profile segment) ∷ []
       one = ap (λ b. if b then Opens (numbers_for node.profile node.isn opened segment) (timestamping_for node.profile segment) ∷ [] else []) opening
 
-      opens : all_opens node (Packet_comes segment) (es ++ (key, slot.Pending o) ∷ []) ≡ told_by node.boot (OpenMsg (numbers_of key o)) ∷ []
+      opens : all_opens node (Packet_comes segment) (es ++ (key, slot.Pending o) ∷ []) ≡ reported_by node.boot (OpenMsg (numbers_of key o)) ∷ []
       opens = flat_map-append (λ (e : Key × Slot S). slot_opens node (Packet_comes segment) e.0 e.1) es ((key, slot.Pending o) ∷ [])
           ∙ (ap (λ ps. ps ++ all_opens {S = S} node (Packet_comes segment) ((key, slot.Pending o) ∷ [])) (unasked_all es gone)
           ∙ (append-nil _ ∙ asked_at_syn node segment key o mine syn from (ap (λ n. n.cisn) numbers)))

@@ -64,11 +64,11 @@ module _ {S : Type 0} (service : Machine S) (node : Node) (input : Input) where
   put_slot (x ∷ es) (p ∷ ps) others place after (suc i) now st e h = (st.0, put_slot es ps others place after i now st.1 (omega arith) h)
 
   -- one place more
-  pub go_on : (Goes : Place → List Place → List Packet → Type 0) (done went : List Place) (packets more : List Packet) (place after : Place) → AllGo Goes done went packets
+  pub proceed : (Goes : Place → List Place → List Packet → Type 0) (done went : List Place) (packets more : List Packet) (place after : Place) → AllGo Goes done went packets
       → Goes place (after ∷ []) more → AllGo Goes (done ++ place ∷ []) (went ++ after ∷ []) (packets ++ more)
-  go_on Goes [] went packets more place after go g =
+  proceed Goes [] went packets more place after go g =
       (after ∷ [], [], more, [], ap (λ xs. xs ++ after ∷ []) go.0, ap (λ xs. xs ++ more) go.1 ∙ sym (append-nil more), g, (refl, refl))
-  go_on Goes (d ∷ done) went packets more place after (now, later, first, others, w, p, g, rest) h = (
+  proceed Goes (d ∷ done) went packets more place after (now, later, first, others, w, p, g, rest) h = (
     now,
     later ++ after ∷ [],
     first,
@@ -76,7 +76,7 @@ module _ {S : Type 0} (service : Machine S) (node : Node) (input : Input) where
     ap (λ xs. xs ++ after ∷ []) w ∙ append_assoc now later (after ∷ []),
     ap (λ xs. xs ++ more) p ∙ append_assoc first others more,
     g,
-    go_on Goes done later others more place after rest h,
+    proceed Goes done later others more place after rest h,
   )
 
   pub first_more : (places : List Place) (i : ℕ) (es : List (Key × Slot S)) (old mid new : List Wire) (now : Slot S) → i < length es
@@ -105,7 +105,7 @@ module _ {S : Type 0} (service : Machine S) (node : Node) (input : Input) where
             split = f.split ∙ (ap (λ l. f.done ++ l) left ∙ sym (append_assoc f.done (place ∷ []) others));
             at = length-append f.went (s.after ∷ []) ∙ ap (λ n. n + 1) f.at;
             stands = put_slot es f.went others place s.after i now stood f.at (λ d at. subst (λ (o : Key × Slot S). SlotStands service node o.0 now s.after) (same is at) s.stands);
-            go = go_on (PlaceTurn service node input) f.done f.went f.packets s.packets place s.after f.go s.turn;
+            go = proceed (PlaceTurn service node input) f.done f.went f.packets s.packets place s.after f.go s.turn;
             wires = s.wires ∙ (ap (λ xs. xs ++ map (wire_by (grammar_of node.profile)) s.packets) f.wires
                 ∙ (append_assoc old (map (wire_by (grammar_of node.profile)) f.packets) (map (wire_by (grammar_of node.profile)) s.packets) ∙ ap (λ xs. old ++ xs) (sym (map-append (wire_by (grammar_of node.profile)) f.packets s.packets))));
             spelled = all_append (HasWireBy (grammar_of node.profile)) f.packets s.packets f.spelled s.spelled;

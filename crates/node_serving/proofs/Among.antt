@@ -72,15 +72,15 @@ marks_among grammar boot key from ms old new sends =
     its [] = tt
     its (m ∷ ms) = ((m, refl), its ms)
 
-pub marks_nothing : (boot : ℕ) (key : Key) (was : KeyMarks) (told : List Wire) → MarksOnly boot key was was told told
-marks_nothing boot key was told = record { others = λ k other. refl; among = among_none (IsMarkOf boot key) told }
+pub marks_nothing : (boot : ℕ) (key : Key) (was : KeyMarks) (reported : List Wire) → MarksOnly boot key was was reported reported
+marks_nothing boot key was reported = record { others = λ k other. refl; among = among_none (IsMarkOf boot key) reported }
 
 module _ {S : Type 0} (service : Machine S) (node : Node) where
   -- an input that is about one key: its turn without marks, and then its marks
   pub goes_beside : (i : MarkedInput) (key : Key) (was now : Serving S) (marks later : KeyMarks) (old mid new : List Wire) → concerns_marked node i key ≡ true
       → ServesAlone service node (plain_input i) was now old mid → MarksOnly node.boot key marks later mid new → GoesBesideMarks service node i was now marks later old new
   goes_beside i key was now marks later old mid new about s m = record {
-    told = s.told;
+    reported = s.reported;
     others = s.others;
     alone = s.alone;
     among = subst (λ l. AreAmong (IsMarkOfSubject node i) l new) s.put (among_weaker (IsMarkOf node.boot key) (IsMarkOfSubject node i) mid new (λ w its. (key, about, its)) m.among);
@@ -95,7 +95,7 @@ module _ {S : Type 0} (service : Machine S) (node : Node) where
   pub goes_unmarked : (i : MarkedInput) (was now : Serving S) (marks : KeyMarks) (old new : List Wire) → ServesAlone service node (plain_input i) was now old new
       → GoesBesideMarks service node i was now marks marks old new
   goes_unmarked i was now marks old new s = record {
-    told = s.told;
+    reported = s.reported;
     others = s.others;
     alone = s.alone;
     among = subst (λ l. AreAmong (IsMarkOfSubject node i) l new) s.put (among_none (IsMarkOfSubject node i) new);
@@ -105,15 +105,15 @@ module _ {S : Type 0} (service : Machine S) (node : Node) where
   -- an input that is about no key changes nothing
   pub idle_alone : (input : Input) (was : Serving S) (opened : ℕ) → was.next.0 ≡ initial_number node.isn opened → ((key : Key) → concerns node input key ≡ false) → ServesAlone service node input was was [] []
   idle_alone input was opened number none = record {
-    told = [];
+    reported = [];
     put = refl;
     others = record { slots = λ key other. refl; whose = tt };
     alone = λ key place st near. rests_key service node input key place was was [] opened number (none key) st refl refl;
   }
 
-  pub rests_unmarked : (message : MarkMessage) (was : Serving S) (marks : KeyMarks) (told : List Wire) → told ≡ [] → (opened : ℕ) → was.next.0 ≡ initial_number node.isn opened
-      → GoesBesideMarks service node (Mark_comes message) was was marks marks told told
-  rests_unmarked message was marks told none opened number =
+  pub rests_unmarked : (message : MarkMessage) (was : Serving S) (marks : KeyMarks) (reported : List Wire) → reported ≡ [] → (opened : ℕ) → was.next.0 ≡ initial_number node.isn opened
+      → GoesBesideMarks service node (Mark_comes message) was was marks marks reported reported
+  rests_unmarked message was marks reported none opened number =
       subst (λ (l : List Wire). GoesBesideMarks service node (Mark_comes message) was was marks marks l l) (sym none)
       (goes_unmarked (Mark_comes message) was was marks [] [] (idle_alone Noise_comes was opened number (λ key. refl)))
 
@@ -122,12 +122,12 @@ module _ {S : Type 0} (service : Machine S) (node : Node) where
       → AllTickBeside service node was.slots.entries now.slots.entries old mid → ArePut (grammar_of node.profile) (all_opens node Tick_comes now.slots.entries) mid new
       → GoesBesideMarks service node (Plain_comes Tick_comes) was now marks marks old new
   ticks_beside was now marks opened old mid new number distinct t asked = record {
-    told = s.told;
+    reported = s.reported;
     others = s.others;
     alone = s.alone;
     among = subst (λ l. AreAmong Is (old ++ l) new) s.put
-        (subst (λ l. AreAmong Is l new) (append_assoc old t.told opens)
-        (subst (AreAmong Is ((old ++ t.told) ++ opens)) (sym asked.wires) (among_behind Is (old ++ t.told) mid opens t.among)));
+        (subst (λ l. AreAmong Is l new) (append_assoc old t.reported opens)
+        (subst (AreAmong Is ((old ++ t.reported) ++ opens)) (sym asked.wires) (among_behind Is (old ++ t.reported) mid opens t.among)));
     markings = λ k none. refl;
   }
     where
@@ -137,15 +137,15 @@ module _ {S : Type 0} (service : Machine S) (node : Node) where
       opens : List Wire
       opens = map (wire_by (grammar_of node.profile)) (all_opens node Tick_comes now.slots.entries)
 
-      s : ServesAlone service node Tick_comes was now [] (t.told ++ opens)
-      s = served_alone service node Tick_comes was now [] t.told (t.told ++ opens) opened number
+      s : ServesAlone service node Tick_comes was now [] (t.reported ++ opens)
+      s = served_alone service node Tick_comes was now [] t.reported (t.reported ++ opens) opened number
           (λ key. opens_of_key node Tick_comes key now.slots.entries distinct asked.spelled) (λ key place st about. (refl, refl)) t.slots (record { wires = refl; spelled = asked.spelled })
 
   -- one slot's tick more
-  pub tick_among : (key : Key) (start sofar told cur mid new : List Wire) → AreAmong (IsMarkOfSubject node (Plain_comes Tick_comes)) (start ++ sofar) cur → mid ≡ cur ++ told
-      → AreAmong (IsMarkOf node.boot key) mid new → AreAmong (IsMarkOfSubject node (Plain_comes Tick_comes)) (start ++ (sofar ++ told)) new
-  tick_among key start sofar told cur mid new a put b =
+  pub tick_among : (key : Key) (start sofar reported cur mid new : List Wire) → AreAmong (IsMarkOfSubject node (Plain_comes Tick_comes)) (start ++ sofar) cur → mid ≡ cur ++ reported
+      → AreAmong (IsMarkOf node.boot key) mid new → AreAmong (IsMarkOfSubject node (Plain_comes Tick_comes)) (start ++ (sofar ++ reported)) new
+  tick_among key start sofar reported cur mid new a put b =
       let Is : Wire → Type 0 = IsMarkOfSubject node (Plain_comes Tick_comes) in
-      subst (λ l. AreAmong Is l new) (append_assoc start sofar told)
-      (among_on Is ((start ++ sofar) ++ told) (cur ++ told) new (among_behind Is (start ++ sofar) cur told a)
-      (among_weaker (IsMarkOf node.boot key) Is (cur ++ told) new (λ w its. (key, refl, its)) (subst (λ l. AreAmong (IsMarkOf node.boot key) l new) put b)))
+      subst (λ l. AreAmong Is l new) (append_assoc start sofar reported)
+      (among_on Is ((start ++ sofar) ++ reported) (cur ++ reported) new (among_behind Is (start ++ sofar) cur reported a)
+      (among_weaker (IsMarkOf node.boot key) Is (cur ++ reported) new (λ w its. (key, refl, its)) (subst (λ l. AreAmong (IsMarkOf node.boot key) l new) put b)))

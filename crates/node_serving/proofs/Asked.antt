@@ -7,7 +7,7 @@ use Rattle.ft_io.specs.Key.{key_eq}
 use Rattle.seq_arith.specs.Packet.{Segment}
 use Rattle.seq_arith.specs.Message.Body.{OpenMsg}
 use Rattle.ft_model.specs.Network.{Packet, source_of}
-use Rattle.ft_model.specs.Connection.{told_by}
+use Rattle.ft_model.specs.Connection.{reported_by}
 use Rattle.ft_model.specs.Node.{Node, is_for}
 use Rattle.ft_model.specs.Node.Input.{Packet_comes}
 use Rattle.ft_model.specs.Opening.{is_syn}
@@ -24,7 +24,7 @@ module _ (node : Node) (segment : Segment) where
   -- the Open of an opening, if this segment is its SYN
   abbrev pub opens_of : Key → Option Opening → List Packet
   opens_of key None = []
-  opens_of key (Some o) = if is_asked node (Packet_comes segment) (numbers_of key o) then told_by node.boot (OpenMsg (numbers_of key o)) ∷ [] else []
+  opens_of key (Some o) = if is_asked node (Packet_comes segment) (numbers_of key o) then reported_by node.boot (OpenMsg (numbers_of key o)) ∷ [] else []
 
   -- no slot of another key is asked for
   other_slot : {S : Type 0} (key : Key) (s : Slot S) → key_eq (source_of segment) key ≡ false → slot_opens node (Packet_comes segment) key s ≡ []
@@ -73,7 +73,7 @@ module _ (node : Node) (segment : Segment) where
 
   -- its SYN asks for an opening
   pub asked_at_syn : (key : Key) (o : Opening) → is_for node.server segment ≡ true → is_syn segment ≡ true → source_of segment ≡ key → segment.head.seq ≡ o.cisn.0
-      → opens_of key (Some o) ≡ told_by node.boot (OpenMsg (numbers_of key o)) ∷ []
+      → opens_of key (Some o) ≡ reported_by node.boot (OpenMsg (numbers_of key o)) ∷ []
   asked_at_syn key o mine syn same seq =
       let itself : key_eq (source_of segment) key ≡ true = ap (λ k. key_eq k key) same ∙ key_is key in
       let number : (segment.head.seq == o.cisn.0) ≡ true = eq-eqb segment.head.seq o.cisn.0 seq in

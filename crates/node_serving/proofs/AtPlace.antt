@@ -6,7 +6,7 @@ use Rattle.std.specs.Map.{set_value, remove_entry, keys_of}
 use Rattle.ft_io.proofs.Choices.{by_cases}
 use Rattle.indexmap.specs.IndexMap.{set_value_at}
 use Rattle.indexmap.proofs.MapLemmas.{Found-position, remove_entry-first}
-use Rattle.node_serving.specs.declared.hearing.PendingAt.{PendingAt}
+use Rattle.node_serving.specs.declared.arrivals.PendingAt.{PendingAt}
 use Rattle.node_serving.specs.declared.slot.Opening.{Opening}
 
 pub removed_at : {K X : Type 0} (t : K → Bool) (es : List (K × X)) (i : ℕ) → position t (keys_of es) ≡ Some i → remove es i ≡ remove_entry t es

@@ -31,27 +31,27 @@ opened_range grammar msg numbers sendable is =
     (leb-true 64 mss range.0, leb-true mss 1460 range.1)
 
 -- other messages name no key
-pub others_unheard : (b : Body) → ((numbers : Numbers) → b ≡ body.Opened numbers → ⊥) → ((kept : Kept) → b ≡ body.Stable kept → ⊥)
+pub others_unreceived : (b : Body) → ((numbers : Numbers) → b ≡ body.Opened numbers → ⊥) → ((kept : Kept) → b ≡ body.Stable kept → ⊥)
     → ((kept : Kept) → b ≡ body.Reads kept → ⊥) → ((key : Key) → b ≡ body.Ended key → ⊥) → ((key : Key) → b ≡ body.Full key → ⊥)
     → (k : Key) → names (body_of b) k ≡ false
-others_unheard (body.Opened numbers) opened stable reads ended full k = absurd (opened numbers refl)
-others_unheard (body.Stable kept) opened stable reads ended full k = absurd (stable kept refl)
-others_unheard (body.Reads kept) opened stable reads ended full k = absurd (reads kept refl)
-others_unheard (body.Ended key) opened stable reads ended full k = absurd (ended key refl)
-others_unheard (body.Full key) opened stable reads ended full k = absurd (full key refl)
-others_unheard body.Hello opened stable reads ended full k = refl
-others_unheard (body.Summary n) opened stable reads ended full k = refl
-others_unheard (body.List n) opened stable reads ended full k = refl
-others_unheard (body.Entry n head) opened stable reads ended full k = refl
-others_unheard (body.Bytes key n) opened stable reads ended full k = refl
-others_unheard (body.Part key n bytes) opened stable reads ended full k = refl
-others_unheard (body.Cuts key n) opened stable reads ended full k = refl
-others_unheard (body.Lens key n lens) opened stable reads ended full k = refl
-others_unheard (body.Open numbers) opened stable reads ended full k = refl
-others_unheard (body.Data part) opened stable reads ended full k = refl
-others_unheard (body.Read key n length) opened stable reads ended full k = refl
-others_unheard (body.Done key) opened stable reads ended full k = refl
-others_unheard (body.Stale n) opened stable reads ended full k = refl
+others_unreceived (body.Opened numbers) opened stable reads ended full k = absurd (opened numbers refl)
+others_unreceived (body.Stable kept) opened stable reads ended full k = absurd (stable kept refl)
+others_unreceived (body.Reads kept) opened stable reads ended full k = absurd (reads kept refl)
+others_unreceived (body.Ended key) opened stable reads ended full k = absurd (ended key refl)
+others_unreceived (body.Full key) opened stable reads ended full k = absurd (full key refl)
+others_unreceived body.Hello opened stable reads ended full k = refl
+others_unreceived (body.Summary n) opened stable reads ended full k = refl
+others_unreceived (body.List n) opened stable reads ended full k = refl
+others_unreceived (body.Entry n head) opened stable reads ended full k = refl
+others_unreceived (body.Bytes key n) opened stable reads ended full k = refl
+others_unreceived (body.Part key n bytes) opened stable reads ended full k = refl
+others_unreceived (body.Cuts key n) opened stable reads ended full k = refl
+others_unreceived (body.Lens key n lens) opened stable reads ended full k = refl
+others_unreceived (body.Open numbers) opened stable reads ended full k = refl
+others_unreceived (body.Data part) opened stable reads ended full k = refl
+others_unreceived (body.Read key n length) opened stable reads ended full k = refl
+others_unreceived (body.Done key) opened stable reads ended full k = refl
+others_unreceived (body.Stale n) opened stable reads ended full k = refl
 
 -- other messages end no opening
 pub others_keep : (b : Body) → ((numbers : Numbers) → b ≡ body.Opened numbers → ⊥) → ((key : Key) → b ≡ body.Full key → ⊥) → (known : List (Key × Known))

@@ -5,7 +5,7 @@ use Rattle.ft_io.specs.declared.Key.{Key}
 use Rattle.seq_arith.specs.Packet.{Segment, text_size}
 use Rattle.seq_arith.specs.Message.Body.{OpenMsg}
 use Rattle.tcp_rules.specs.Profile.{grammar_of}
-use Rattle.ft_model.specs.Connection.{told_by}
+use Rattle.ft_model.specs.Connection.{reported_by}
 use Rattle.ft_model.specs.Network.{source_of}
 use Rattle.ft_model.specs.Node.{Node}
 use Rattle.ft_model.specs.Opening.{is_syn, initial_number, timestamping_for}
@@ -18,14 +18,14 @@ use Rattle.node_serving.specs.Openings.{ArePut, Opened, Waits, Knocks, IsCounted
 use Rattle.node_serving.specs.Slots.{numbers_of}
 
 module _ {S : Type 0} (node : Node) (segment : Segment) (key : Key) (number : ℕ) where
-  pub waits_outside : (es : List (Key × Slot S)) (told : List Wire) → (is_syn segment && nat_lt (pending_slots es) 64) ≡ false → Knocks node segment key number number es es told told
-  waits_outside es told shut =
-      let waits : Waits number number es es told told = record { number = refl; slots = refl; silent = refl } in
-      subst (λ b. MatchBool b (Opened node segment key number number es es told told) (Waits number number es es told told)) (sym shut) waits
+  pub waits_outside : (es : List (Key × Slot S)) (reported : List Wire) → (is_syn segment && nat_lt (pending_slots es) 64) ≡ false → Knocks node segment key number number es es reported reported
+  waits_outside es reported shut =
+      let waits : Waits number number es es reported reported = record { number = refl; slots = refl; silent = refl } in
+      subst (λ b. MatchBool b (Opened node segment key number number es es reported reported) (Waits number number es es reported reported)) (sym shut) waits
 
   pub comes_in : (next : ℕ) (was now : List (Key × Slot S)) (old new : List Wire) (o : Opening) → (is_syn segment && nat_lt (pending_slots was) 64) ≡ true
       → numbers_of key o ≡ record { key = source_of segment; cisn = segment.head.seq; sisn = number; mss = text_size segment.head.mss (timestamps_sent (timestamping_for node.profile segment)) }
-      → o.timestamping ≡ timestamping_for node.profile segment → next ≡ (number + 65536) % 2 ^ 32 → now ≡ was ++ (key, slot.Pending o) ∷ [] → ArePut (grammar_of node.profile) (told_by node.boot (OpenMsg (numbers_of key o)) ∷ []) old new
+      → o.timestamping ≡ timestamping_for node.profile segment → next ≡ (number + 65536) % 2 ^ 32 → now ≡ was ++ (key, slot.Pending o) ∷ [] → ArePut (grammar_of node.profile) (reported_by node.boot (OpenMsg (numbers_of key o)) ∷ []) old new
       → Knocks node segment key number next was now old new
   comes_in next was now old new o free numbers timestamping counted slots asked =
       let opened : Opened node segment key number next was now old new = record { opening = o; numbers = numbers; timestamping = timestamping; counted = counted; slots = slots; asked = asked } in

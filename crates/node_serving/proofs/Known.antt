@@ -126,9 +126,9 @@ module _ {S : Type 0} (key : Key) (connects : ℕ → Bool) (es : List (Key × S
 module _ {S : Type 0} (node : Node) where
   pub message_knows : (message : Message) (was now : Serving S) → message.boot ≡ node.boot → now.next.0 ≡ was.next.0
       → known_in now.slots.entries ≡ known_after message.body (known_in was.slots.entries) → KnowsOn node (Message_comes message) was now
-  message_knows message was now boot number heard clients k =
+  message_knows message was now boot number receipt clients k =
       let after : Clients = record { opened = clients.opened; known = known_after message.body clients.known } in
-      let knows : Knows node after now = record { number = number ∙ k.number; known = heard ∙ ap (known_after message.body) k.known } in
+      let knows : Knows node after now = record { number = number ∙ k.number; known = receipt ∙ ap (known_after message.body) k.known } in
       subst (λ b. Knows node (if b then after else clients) now) (sym (eq-eqb message.boot node.boot boot)) knows
 
   module _ (segment : Segment) where

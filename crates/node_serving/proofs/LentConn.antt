@@ -13,13 +13,13 @@ use Rattle.ft_model.specs.Point.{Point, made, is_over}
 use Rattle.connection_laws.specs.ClosedTcp.{StandsClosed}
 use Rattle.connection_laws.specs.Parts.{StandsOpen, PartsStand}
 use Rattle.connection_laws.specs.PointNumbers.{acked_at}
-use Rattle.connection_laws.proofs.PointNumbers.{parts_tell}
+use Rattle.connection_laws.proofs.PointNumbers.{parts_show}
 use Rattle.north_wrap.specs.NorthState.{NorthState}
 use Rattle.tcp_endpoint.specs.Tcb.{Tcb}
 use Rattle.wrapped_conn.specs.ConnState.{ConnState}
 use Rattle.wrapped_conn.specs.Sound as sound
 use Rattle.wrapped_conn.specs.Refinement.{StandsLive, StandsReset}
-use Rattle.wrapped_conn.proofs.Lending.{tells}
+use Rattle.wrapped_conn.proofs.Lending.{reports}
 use Rattle.wrapped_conn.proofs.Receiving.{parts_live}
 use Rattle.node_serving.specs.declared.identity.Identity.{Identity}
 use Rattle.node_serving.specs.declared.slot.Slot.{Slot}
@@ -27,13 +27,13 @@ use Rattle.node_serving.specs.declared.slot.Slot.TheVariants as slot
 use Rattle.node_serving.specs.Conn.{IsOursAt, IsSound}
 use Rattle.node_serving.specs.Loan.{conn_in}
 use Rattle.node_serving.specs.Slots.{IsSoundSlot}
-use Rattle.node_serving.specs.LentConn.{BeginsBehind, TcpTells, TellsItsPoint}
+use Rattle.node_serving.specs.LentConn.{BeginsBehind, TcpShows, ReportsItsPoint}
 use Rattle.endpoint_laws.proofs.SegmentsLaw.{begun_open}
 
 begins_open : (u i delta : ℕ) (p : Point) (e : Tcb) → StandsOpen u i delta p e → BeginsBehind p delta e
 begins_open u i delta p e st =
     let inside = st.stands.stands.sends in
-    let on = st.stands.goes_on in record {
+    let on = st.stands.proceeds in record {
       behind = u;
       low = on.una;
       una = sym inside.una;
@@ -52,31 +52,31 @@ is_open : {S : Type 0} (service : Machine S) (u i delta given : ℕ) (p : Point)
     → StandsOpen u i delta p e
 is_open service u i delta given p n e st off = ⊎_elim (λ standing. standing) (λ closed. absurd (false≢true (sym off ∙ closed.over))) st.tcp
 
-tcp_tells : {S : Type 0} (service : Machine S) (u i delta given : ℕ) (p : Point) (n : NorthState S) (e : Tcb) → PartsStand service u i delta given p n e → is_over service p ≡ false
-    → TcpTells p delta e
-tcp_tells service u i delta given p n e st off =
-    let tell = parts_tell service u i delta given p n e st in
+tcp_shows : {S : Type 0} (service : Machine S) (u i delta given : ℕ) (p : Point) (n : NorthState S) (e : Tcb) → PartsStand service u i delta given p n e → is_over service p ≡ false
+    → TcpShows p delta e
+tcp_shows service u i delta given p n e st off =
+    let shown = parts_show service u i delta given p n e st in
     let standing = is_open service u i delta given p n e st off in record {
       unclosed = begun_open e.name standing.stands.begun;
       unreset = st.kept;
-      sent = tell.sent;
-      acked = λ counted. tell.acked ∙ ap (λ b. distance (acked_at b p.sisn p.una) delta) counted;
+      sent = shown.sent;
+      acked = λ counted. shown.acked ∙ ap (λ b. distance (acked_at b p.sisn p.una) delta) counted;
     }
 
 made_is : {S : Type 0} (service : Machine S) (c : ConnState S) (p : Point) (b : Bool) → MatchBool b (StandsReset service p c) (StandsLive service p c) → c.north.run.made ≡ made service p
 made_is service c p true st = st.north.run.made
 made_is service c p false st = st.parts.stand.north.run.made
 
-pub tells_its_point : {S : Type 0} (service : Machine S) (server : Addr) (boot : ℕ) (p : Point) (c : ConnState S) → sound.IsSound c → IsOursAt service server boot c p → TellsItsPoint service p c
+pub reports_its_point : {S : Type 0} (service : Machine S) (server : Addr) (boot : ℕ) (p : Point) (c : ConnState S) → sound.IsSound c → IsOursAt service server boot c p → ReportsItsPoint service p c
 unfolding IsOursAt
-tells_its_point service server boot p c s st = record {
-  numbers = tells service p c s st.0;
+reports_its_point service server boot p c s st = record {
+  numbers = reports service p c s st.0;
   south = st.0.keeps.south;
   made = made_is service c p p.reset st.0.parts;
   begins = λ unreset. let live = parts_live service c p st.0 unreset in
       ⊎_elim (begins_open live.u live.i c.south.delta p c.endpoint) (begins_closed service live.u live.i c.south.delta p c.endpoint) live.parts.stand.tcp;
   tcp = λ unreset off. let live = parts_live service c p st.0 unreset in
-      tcp_tells service live.u live.i c.south.delta live.given p c.north c.endpoint live.parts.stand off;
+      tcp_shows service live.u live.i c.south.delta live.given p c.north c.endpoint live.parts.stand off;
 }
 
 -- .. and it is sound, as its slot is

@@ -4,7 +4,7 @@ pub mod AllSlots
 pub mod OneKey
 pub mod AtPlace
 pub mod SegmentArrival
-pub mod Heard
+pub mod Receipt
 pub mod Opened
 pub mod Opens
 pub mod Asked

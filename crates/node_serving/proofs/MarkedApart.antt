@@ -12,7 +12,7 @@ use Rattle.seq_arith.proofs.MessageSpelling.{message_is_read}
 use Rattle.server_trait.specs.Service.{Machine}
 use Rattle.seq_arith.specs.declared.kinds.Grammar.{Grammar}
 use Rattle.tcp_rules.specs.Profile.{grammar_of}
-use Rattle.ft_model.specs.Connection.{told_by}
+use Rattle.ft_model.specs.Connection.{reported_by}
 use Rattle.ft_model.specs.Network.{Packet, source_of}
 use Rattle.ft_model.specs.Node.{Node, Place, Input, is_for}
 use Rattle.ft_model.specs.Node.Place.{Opens, Lives, Ended}
@@ -48,13 +48,13 @@ asked_about node (Message_comes message) n e = absurd (true≢false (sym e))
 asked_about node Noise_comes n e = absurd (true≢false (sym e))
 
 -- an Open tells of its key
-pub open_for : (grammar : Grammar) (boot : ℕ) (n : Numbers) (key : Key) → key ≡ n.key → HasWireBy grammar (told_by boot (OpenMsg n)) → IsFor grammar key (wire_by grammar (told_by boot (OpenMsg n)))
+pub open_for : (grammar : Grammar) (boot : ℕ) (n : Numbers) (key : Key) → key ≡ n.key → HasWireBy grammar (reported_by boot (OpenMsg n)) → IsFor grammar key (wire_by grammar (reported_by boot (OpenMsg n)))
 open_for grammar boot n key same spelled =
     let message : Message = record { boot = boot; body = OpenMsg n } in
-    subst (λ r. IfOk r (λ m. Rattle.node_serving.specs.Ownership.tells_of m.body key ≡ true)) (sym (message_is_read message spelled.0)) (ap (λ k. key_eq n.key k) same ∙ key_is n.key)
+    subst (λ r. IfOk r (λ m. Rattle.node_serving.specs.Ownership.reports_of m.body key ≡ true)) (sym (message_is_read message spelled.0)) (ap (λ k. key_eq n.key k) same ∙ key_is n.key)
 
 -- packets of those that an input is about are none of another key's
-silent_whose : (node : Node) (input : Input) (key : Key) (told : List Wire) → concerns node input key ≡ false → AllByRecursion (IsForSubject node input) told → of_key (grammar_of node.profile) key told ≡ []
+silent_whose : (node : Node) (input : Input) (key : Key) (reported : List Wire) → concerns node input key ≡ false → AllByRecursion (IsForSubject node input) reported → of_key (grammar_of node.profile) key reported ≡ []
 silent_whose node input key [] other whose = refl
 silent_whose node input key (w ∷ ws) other whose = one w whose.0 (silent_whose node input key ws other whose.1)
   where
@@ -69,8 +69,8 @@ module _ {S : Type 0} (node : Node) (input : Input) where
   opens_for : (key : Key) (s : Slot S) → AllByRecursion (HasWireBy (grammar_of node.profile)) (slot_opens node input key s) → AllByRecursion (IsFor (grammar_of node.profile) key) (map (wire_by (grammar_of node.profile)) (slot_opens node input key s))
   opens_for key (slot.Pending o) spelled = go (is_asked node input (numbers_of key o)) spelled
     where
-      go : (b : Bool) → AllByRecursion (HasWireBy (grammar_of node.profile)) (if b then told_by node.boot (OpenMsg (numbers_of key o)) ∷ [] else [])
-          → AllByRecursion (IsFor (grammar_of node.profile) key) (map (wire_by (grammar_of node.profile)) (if b then told_by node.boot (OpenMsg (numbers_of key o)) ∷ [] else []))
+      go : (b : Bool) → AllByRecursion (HasWireBy (grammar_of node.profile)) (if b then reported_by node.boot (OpenMsg (numbers_of key o)) ∷ [] else [])
+          → AllByRecursion (IsFor (grammar_of node.profile) key) (map (wire_by (grammar_of node.profile)) (if b then reported_by node.boot (OpenMsg (numbers_of key o)) ∷ [] else []))
       go true a = (open_for (grammar_of node.profile) node.boot (numbers_of key o) key refl a.0, tt)
       go false a = tt
   opens_for key (slot.Live c) spelled = tt
@@ -82,7 +82,7 @@ module _ {S : Type 0} (node : Node) (input : Input) where
     where
       go : (b : Bool) → is_asked node input (numbers_of key o) ≡ b → slot_opens {S = S} node input key (slot.Pending o) ≡ []
       go true t = absurd (true≢false (sym (asked_about node input (numbers_of key o) t) ∙ other))
-      go false t = ap (λ b. if b then told_by node.boot (OpenMsg (numbers_of key o)) ∷ [] else []) t
+      go false t = ap (λ b. if b then reported_by node.boot (OpenMsg (numbers_of key o)) ∷ [] else []) t
   unasked_slot key (slot.Live c) other = refl
   unasked_slot key slot.Done other = refl
 
@@ -173,10 +173,10 @@ module _ {S : Type 0} (service : Machine S) (node : Node) (input : Input) where
   }
   rests opened None = record { went = []; by_places = []; all_go = (refl, refl); places = refl; packets = refl }
 
-  pub rests_key : (key : Key) (place : Option Place) (was now : Serving S) (told : List Wire) (opened : ℕ) → was.next.0 ≡ initial_number node.isn opened
-      → concerns node input key ≡ false → StandsFor service node key (slot_of key was) place → slot_of key now ≡ slot_of key was → of_key (grammar_of node.profile) key told ≡ []
-      → KeyGoes service node input key place was now told
-  rests_key key place was now told opened number other st same none = record {
+  pub rests_key : (key : Key) (place : Option Place) (was now : Serving S) (reported : List Wire) (opened : ℕ) → was.next.0 ≡ initial_number node.isn opened
+      → concerns node input key ≡ false → StandsFor service node key (slot_of key was) place → slot_of key now ≡ slot_of key was → of_key (grammar_of node.profile) key reported ≡ []
+      → KeyGoes service node input key place was now reported
+  rests_key key place was now reported opened number other st same none = record {
     opened = opened;
     after = place;
     packets = [];
@@ -196,17 +196,17 @@ module _ {S : Type 0} (service : Machine S) (node : Node) (input : Input) where
   opens_there key None (Some q) st = absurd st
 
   -- a key's turn, from that of its place and the Opens after it
-  place_turn : (key : Key) (place : Option Place) (slot : Option (Slot S)) (told : List Wire) (opened : ℕ) → (m : KeyMeets service node input key place slot told)
+  place_turn : (key : Key) (place : Option Place) (slot : Option (Slot S)) (reported : List Wire) (opened : ℕ) → (m : KeyMeets service node input key place slot reported)
       → newcomers node input opened (option_to_list place) ≡ [] → refusals node input (option_to_list place) ≡ []
       → ServingTurn service node input opened (option_to_list place) (option_to_list m.after) (m.packets ++ key_opens node input key slot)
-  place_turn key (Some q) slot told opened m fresh refused = record {
+  place_turn key (Some q) slot reported opened m fresh refused = record {
     went = option_to_list m.after;
     by_places = m.packets;
     all_go = (option_to_list m.after, [], m.packets, [], sym (append-nil (option_to_list m.after)), sym (append-nil m.packets), m.turn, (refl, refl));
     places = sym (append-nil (option_to_list m.after)) ∙ ap (λ ps. option_to_list m.after ++ ps) (sym fresh);
     packets = ap (λ ps. m.packets ++ ps) (opens_there key slot m.after m.stands ∙ ap (λ ps. ps ++ flat_map (opens_at node input) (option_to_list m.after)) (sym refused));
   }
-  place_turn key None slot told opened m fresh refused = record {
+  place_turn key None slot reported opened m fresh refused = record {
     went = [];
     by_places = [];
     all_go = (refl, refl);
@@ -222,8 +222,8 @@ module _ {S : Type 0} (service : Machine S) (node : Node) (input : Input) where
       → SlotsAlone service node input was.slots.entries now.slots.entries old mid → ArePut (grammar_of node.profile) (all_opens node input now.slots.entries) mid new
       → ServesAlone service node input was now old new
   served_alone was now old mid new opened number owns calm s asked = record {
-    told = told;
-    put = asked.wires ∙ (ap (λ ws. ws ++ map (wire_by (grammar_of node.profile)) opens) s.put ∙ append_assoc old s.told (map (wire_by (grammar_of node.profile)) opens));
+    reported = reported;
+    put = asked.wires ∙ (ap (λ ws. ws ++ map (wire_by (grammar_of node.profile)) opens) s.put ∙ append_assoc old s.reported (map (wire_by (grammar_of node.profile)) opens));
     others = record { slots = s.slots; whose = whose };
     alone = λ key place st near. go key place st near (concerns node input key) refl;
   }
@@ -231,15 +231,15 @@ module _ {S : Type 0} (service : Machine S) (node : Node) (input : Input) where
       opens : List Packet
       opens = all_opens node input now.slots.entries
 
-      told : List Wire
-      told = s.told ++ map (wire_by (grammar_of node.profile)) opens
+      reported : List Wire
+      reported = s.reported ++ map (wire_by (grammar_of node.profile)) opens
 
-      whose : AllByRecursion (IsForSubject node input) told
-      whose = all_append (IsForSubject node input) s.told (map (wire_by (grammar_of node.profile)) opens) s.whose (opens_whose node input now.slots.entries asked.spelled)
+      whose : AllByRecursion (IsForSubject node input) reported
+      whose = all_append (IsForSubject node input) s.reported (map (wire_by (grammar_of node.profile)) opens) s.whose (opens_whose node input now.slots.entries asked.spelled)
 
       go : (key : Key) (place : Option Place) → StandsFor service node key (slot_of key was) place → IsNearFor node.server input place → (b : Bool) → concerns node input key ≡ b
-          → KeyGoes service node input key place was now told
-      go key place st near false t = rests_key key place was now told opened number t st (s.slots key t) (silent_whose node input key told t whose)
+          → KeyGoes service node input key place was now reported
+      go key place st near false t = rests_key key place was now reported opened number t st (s.slots key t) (silent_whose node input key reported t whose)
       go key place st near true t =
           let m = s.turn key place st near in
           let calms = calm key place st t in
@@ -250,8 +250,8 @@ module _ {S : Type 0} (service : Machine S) (node : Node) (input : Input) where
             number = number;
             stands = m.stands;
             turn = inl (subst (λ i. ServingTurn service node i opened (option_to_list place) (option_to_list m.after) (m.packets ++ key_opens node input key (slot_of key now))) (sym (comes key t))
-                (place_turn key place (slot_of key now) s.told opened m calms.0 calms.1));
-            wires = of_both (grammar_of node.profile) key s.told (map (wire_by (grammar_of node.profile)) opens) ∙ (ap₂ ◌++◌ m.wires own.wires ∙ sym (map-append (wire_by (grammar_of node.profile)) m.packets (key_opens node input key (slot_of key now))));
+                (place_turn key place (slot_of key now) s.reported opened m calms.0 calms.1));
+            wires = of_both (grammar_of node.profile) key s.reported (map (wire_by (grammar_of node.profile)) opens) ∙ (ap₂ ◌++◌ m.wires own.wires ∙ sym (map-append (wire_by (grammar_of node.profile)) m.packets (key_opens node input key (slot_of key now))));
             spelled = all_append (HasWireBy (grammar_of node.profile)) m.packets (key_opens node input key (slot_of key now)) m.spelled own.spelled;
           }
 

@@ -49,9 +49,9 @@ savable_of true every n is some = refl
 savable_of false every n is some = absurd (omega (arith, is, some))
 
 -- whether a mark waits
-pub told_is : (boot : ℕ) (key : Key) (o : Option CodeMsg) (m : Marking) (b : Bool) → option_map message_of o ≡ option_map (λ mark. record { boot = boot; body = MarkMsg key mark }) m.outstanding → is_some o ≡ b
+pub reported_is : (boot : ℕ) (key : Key) (o : Option CodeMsg) (m : Marking) (b : Bool) → option_map message_of o ≡ option_map (λ mark. record { boot = boot; body = MarkMsg key mark }) m.outstanding → is_some o ≡ b
     → is_none m.outstanding ≡ not b
-told_is boot key o m b is waits = go o m.outstanding is waits
+reported_is boot key o m b is waits = go o m.outstanding is waits
   where
     go : (o : Option CodeMsg) (p : Option Mark) → option_map message_of o ≡ option_map (λ mark. mark_message boot key mark) p → is_some o ≡ b → is_none p ≡ not b
     go None None e w = ap not w
@@ -60,13 +60,13 @@ told_is boot key o m b is waits = go o m.outstanding is waits
     go (Some x) None e w = none_is_some (message_of x) (sym e)
 
 -- one does: no other is made
-pub waits_not : {S : Type 0} (grammar : Grammar) (by : Marker S) (boot : ℕ) (key : Key) (p : Point) (was now : KeyMarks) (from : ℕ) (told : List Wire) → was.every ≡ by.every
-    → Changes key (with_new by.service by.writing was.every p (marking_in was key)) was now → is_none (marking_in was key).outstanding ≡ false → MarksNew by grammar boot key p was now from told told
-waits_not grammar by boot key p was now from told number changes waits =
+pub waits_not : {S : Type 0} (grammar : Grammar) (by : Marker S) (boot : ℕ) (key : Key) (p : Point) (was now : KeyMarks) (from : ℕ) (reported : List Wire) → was.every ≡ by.every
+    → Changes key (with_new by.service by.writing was.every p (marking_in was key)) was now → is_none (marking_in was key).outstanding ≡ false → MarksNew by grammar boot key p was now from reported reported
+waits_not grammar by boot key p was now from reported number changes waits =
     let none : new_marks by.service by.writing by.every (marking_in was key) p ≡ [] =
     made_are by (marking_in was key) p ∙ if_false (is_none (marking_in was key).outstanding) _ [] waits in record {
       changes = subst (λ n. Changes key (with_new by.service by.writing n p (marking_in was key)) was now) number changes;
-      sends = subst (λ ms. SendsMarks grammar boot key from ms told told) (sym none) (sends_none grammar boot key from told);
+      sends = subst (λ ms. SendsMarks grammar boot key from ms reported reported) (sym none) (sends_none grammar boot key from reported);
     }
 
 -- none does: what is then outstanding was made
@@ -100,12 +100,12 @@ sends_one grammar boot key from o m old new is spells wires = go m.outstanding i
           spelled = (subst marks.IsSpellable same spells, tt);
         }
 
-pub sends_nothing : (grammar : Grammar) (boot : ℕ) (key : Key) (from : ℕ) (o : Option CodeMsg) (m : Marking) (told : List Wire) → option_map message_of o ≡ option_map (λ mark. record { boot = boot; body = MarkMsg key mark }) m.outstanding
-    → o ≡ None → SendsMarks grammar boot key from (outstanding_in m) told told
-sends_nothing grammar boot key from o m told is none = go m.outstanding (sym (ap (option_map message_of) none) ∙ is)
+pub sends_nothing : (grammar : Grammar) (boot : ℕ) (key : Key) (from : ℕ) (o : Option CodeMsg) (m : Marking) (reported : List Wire) → option_map message_of o ≡ option_map (λ mark. record { boot = boot; body = MarkMsg key mark }) m.outstanding
+    → o ≡ None → SendsMarks grammar boot key from (outstanding_in m) reported reported
+sends_nothing grammar boot key from o m reported is none = go m.outstanding (sym (ap (option_map message_of) none) ∙ is)
   where
-    go : (p : Option Mark) → None ≡ option_map (λ mark. mark_message boot key mark) p → SendsMarks grammar boot key from (outstanding_in (record m { outstanding = p })) told told
-    go None e = sends_none grammar boot key from told
+    go : (p : Option Mark) → None ≡ option_map (λ mark. mark_message boot key mark) p → SendsMarks grammar boot key from (outstanding_in (record m { outstanding = p })) reported reported
+    go None e = sends_none grammar boot key from reported
     go (Some mark) e = none_is_some (mark_message boot key mark) e
 
 -- the mark of a place, by the connection that is there
@@ -116,12 +116,12 @@ place_marked by node boot key from c (Some (Opens n timestamping)) was now old n
 place_marked by node boot key from c (Some (Ended k)) was now old new at h = absurd at
 place_marked by node boot key from c None was now old new at h = absurd at
 
-pub place_unmarked : {S : Type 0} (by : Marker S) (node : Node) (boot : ℕ) (key : Key) (from : ℕ) (o : Option Place) (was : KeyMarks) (told : List Wire) → IsConnAt {S = S} by.service node None o
-    → MarksPlace by (grammar_of node.profile) boot key from o was was told told
-place_unmarked by node boot key from (Some (Lives p)) was told at = absurd at
-place_unmarked by node boot key from (Some (Opens n timestamping)) was told at = (refl, refl)
-place_unmarked by node boot key from (Some (Ended k)) was told at = (refl, refl)
-place_unmarked by node boot key from None was told at = (refl, refl)
+pub place_unmarked : {S : Type 0} (by : Marker S) (node : Node) (boot : ℕ) (key : Key) (from : ℕ) (o : Option Place) (was : KeyMarks) (reported : List Wire) → IsConnAt {S = S} by.service node None o
+    → MarksPlace by (grammar_of node.profile) boot key from o was was reported reported
+place_unmarked by node boot key from (Some (Lives p)) was reported at = absurd at
+place_unmarked by node boot key from (Some (Opens n timestamping)) was reported at = (refl, refl)
+place_unmarked by node boot key from (Some (Ended k)) was reported at = (refl, refl)
+place_unmarked by node boot key from None was reported at = (refl, refl)
 
 -- .. and of a slot
 pub slot_marked : {S : Type 0} (by : Marker S) (node : Node) (boot : ℕ) (key : Key) (from : ℕ) (s : Slot S) (c : ConnState S) (place : Place) (was now : KeyMarks) (old new : List Wire) → Some c ≡ conn_in (Some s)
@@ -134,15 +134,15 @@ slot_marked by node boot key from (slot.Live d) c (Ended k) was now old new is s
 slot_marked by node boot key from (slot.Pending o) c place was now old new is st h = none_is_some c (sym is)
 slot_marked by node boot key from slot.Done c place was now old new is st h = none_is_some c (sym is)
 
-pub slot_unmarked : {S : Type 0} (by : Marker S) (node : Node) (boot : ℕ) (key : Key) (from : ℕ) (s : Slot S) (place : Place) (was : KeyMarks) (told : List Wire) → None ≡ conn_in (Some s)
-    → SlotStands by.service node key s place → MarksPlace by (grammar_of node.profile) boot key from (Some place) was was told told
-slot_unmarked by node boot key from (slot.Live d) place was told is st = none_is_some d is
-slot_unmarked by node boot key from (slot.Pending o) (Opens n timestamping) was told is st = (refl, refl)
-slot_unmarked by node boot key from (slot.Pending o) (Lives p) was told is st = absurd st
-slot_unmarked by node boot key from (slot.Pending o) (Ended k) was told is st = absurd st
-slot_unmarked by node boot key from slot.Done (Ended k) was told is st = (refl, refl)
-slot_unmarked by node boot key from slot.Done (Lives p) was told is st = absurd st
-slot_unmarked by node boot key from slot.Done (Opens n timestamping) was told is st = absurd st
+pub slot_unmarked : {S : Type 0} (by : Marker S) (node : Node) (boot : ℕ) (key : Key) (from : ℕ) (s : Slot S) (place : Place) (was : KeyMarks) (reported : List Wire) → None ≡ conn_in (Some s)
+    → SlotStands by.service node key s place → MarksPlace by (grammar_of node.profile) boot key from (Some place) was was reported reported
+slot_unmarked by node boot key from (slot.Live d) place was reported is st = none_is_some d is
+slot_unmarked by node boot key from (slot.Pending o) (Opens n timestamping) was reported is st = (refl, refl)
+slot_unmarked by node boot key from (slot.Pending o) (Lives p) was reported is st = absurd st
+slot_unmarked by node boot key from (slot.Pending o) (Ended k) was reported is st = absurd st
+slot_unmarked by node boot key from slot.Done (Ended k) was reported is st = (refl, refl)
+slot_unmarked by node boot key from slot.Done (Lives p) was reported is st = absurd st
+slot_unmarked by node boot key from slot.Done (Opens n timestamping) was reported is st = absurd st
 
 -- what is written stands at the front
 pub text_is : (message : MarkMessage) (n : ℕ) (out old : List ℕ) → out ≡ marks.spelling message ++ drop n old → n ≤ 1134 → length out ≡ 2048 → length old ≡ 2048 → take n out ≡ marks.spelling message

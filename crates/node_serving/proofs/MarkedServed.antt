@@ -28,7 +28,7 @@ use Rattle.ft_model.specs.Keys.{AreDistinct, has_key}
 use Rattle.ft_model.proofs.Keys.{key_eq_turns, finds_itself, all_from_get}
 use Rattle.ft_model.proofs.Lists.{all_slice_get, all_find, found_passes, same_key, key_is, some_is}
 use Rattle.mark_laws.specs.Marking.{Marking, Outgoing, MarkedTurn, is_due, with_new, new_marks, marking_answered, marks_out}
-use Rattle.mark_laws.specs.MarkedNode.{Marker, MarkedNode, RestsMarked, HearsOfMark, is_tick_input, live_at, with_marking}
+use Rattle.mark_laws.specs.MarkedNode.{Marker, MarkedNode, RestsMarked, ReceivesOfMark, is_tick_input, live_at, with_marking}
 use Rattle.wrapped_conn.specs.ConnState.{ConnState}
 use Rattle.conn_marks.specs.KeyMarks.{KeyMarks, marking_in, Changes}
 use Rattle.conn_marks.specs.MarkSends.{AreOut, SendsMarks}
@@ -44,7 +44,7 @@ use Rattle.node_serving.specs.declared.slot.Slot.{Slot}
 use Rattle.node_serving.specs.Conn.{IsOursAt}
 use Rattle.node_serving.specs.Identity.{node_of, grammar_in}
 use Rattle.node_serving.specs.Loan.{IsConnAt}
-use Rattle.node_serving.specs.MarkedServing.{ServingGoesMarked, HeardOfMark}
+use Rattle.node_serving.specs.MarkedServing.{ServingGoesMarked, ReceivedOfMark}
 use Rattle.node_serving.specs.Markers.{node_at}
 use Rattle.node_serving.specs.ServingStage.{ServingGoes}
 use Rattle.node_serving.specs.Slots.{AllStand}
@@ -89,27 +89,27 @@ served_marked by who standing awaits marking input key opened places es now m la
     }
 
 -- where none of these is concerned, nothing is due
-pub unmarked_place : {S : Type 0} (grammar : Grammar) (by : Marker S) (boot : ℕ) (key : Key) (marking : Key → Marking) (places : List Place) (m : KeyMarks) (told : List Wire) (o : Option Place) → place_at key places ≡ o → Keeps by marking m
-    → AllSettled by marking places → MarksPlace by grammar boot key 0 o m m told told
-unmarked_place grammar by boot key marking places m told (Some (Lives p)) e keeps settled = λ bytes.
+pub unmarked_place : {S : Type 0} (grammar : Grammar) (by : Marker S) (boot : ℕ) (key : Key) (marking : Key → Marking) (places : List Place) (m : KeyMarks) (reported : List Wire) (o : Option Place) → place_at key places ≡ o → Keeps by marking m
+    → AllSettled by marking places → MarksPlace by grammar boot key 0 o m m reported reported
+unmarked_place grammar by boot key marking places m reported (Some (Lives p)) e keeps settled = λ bytes.
     let at : IsSettledPoint by (marking p.key) p = all_find (IsSettledPlace by marking) (λ x. key_eq (key_of x) key) places (Lives p) settled e in
     let is : p.key ≡ key = same_key p.key key (found_passes (λ x. key_eq (key_of x) key) places (Lives p) e) in
     let held : marking p.key ≡ marking_in m key = ap marking is ∙ sym (keeps.each key) in
     let off = subst (λ x. is_due by.service by.every x p ≡ false) held at.settled.marked in record {
       changes = changes_none m key (with_new by.service by.writing by.every p (marking_in m key)) (sym (new_same by (marking_in m key) p off));
-      sends = subst (λ ms. SendsMarks grammar boot key 0 ms told told) (sym (new_none by (marking_in m key) p off)) (sends_none grammar boot key 0 told);
+      sends = subst (λ ms. SendsMarks grammar boot key 0 ms reported reported) (sym (new_none by (marking_in m key) p off)) (sends_none grammar boot key 0 reported);
     }
-unmarked_place grammar by boot key marking places m told (Some (Opens n timestamping)) e keeps settled = (refl, refl)
-unmarked_place grammar by boot key marking places m told (Some (Ended k)) e keeps settled = (refl, refl)
-unmarked_place grammar by boot key marking places m told None e keeps settled = (refl, refl)
+unmarked_place grammar by boot key marking places m reported (Some (Opens n timestamping)) e keeps settled = (refl, refl)
+unmarked_place grammar by boot key marking places m reported (Some (Ended k)) e keeps settled = (refl, refl)
+unmarked_place grammar by boot key marking places m reported None e keeps settled = (refl, refl)
 
 -- an answer to a mark
 
 -- nothing is heard
-pub not_heard : {S : Type 0} (by : Marker S) (node : MarkedNode) (places : List Place) (message : MarkMessage) (m : KeyMarks) (told : List Wire) → HearsOfMark by node places message.body [] node → told ≡ []
-    → Keeps by node.marking m → AllSettled by node.marking places → HeardOfMark by node places message m told told
-not_heard by node places message m told hears none keeps settled =
-    record { marking = node.marking; sent = []; hears = hears; keeps = keeps; settled = settled; out = out_none (grammar_of node.plain.profile) told }
+pub not_received : {S : Type 0} (by : Marker S) (node : MarkedNode) (places : List Place) (message : MarkMessage) (m : KeyMarks) (reported : List Wire) → ReceivesOfMark by node places message.body [] node → reported ≡ []
+    → Keeps by node.marking m → AllSettled by node.marking places → ReceivedOfMark by node places message m reported reported
+not_received by node places message m reported on_receipt none keeps settled =
+    record { marking = node.marking; sent = []; on_receipt = on_receipt; keeps = keeps; settled = settled; out = out_none (grammar_of node.plain.profile) reported }
 
 -- what an answer leads to, at what is live of its key
 abbrev AtLive : {S : Type 0} → Marker S → MarkedNode → (reads : ℕ) → Option Point → List Outgoing → MarkedNode → Type 0
@@ -118,17 +118,17 @@ AtLive by before reads o sent after =
     (λ p. (m : Marking) × MarkedTurn by.service by.writing by.every before.plain.boot reads p (before.marking p.key) m sent × (after ≡ record before { marking = with_marking p.key m before.marking }))
 
 pub none_live : {S : Type 0} (by : Marker S) (node : MarkedNode) (key : Key) (reads : ℕ) (places : List Place) (o : Option Place) → place_at key places ≡ o
-    → IsConnAt by.service node.plain None o → HearsOfMark by node places (MarkedMsg key reads) [] node
+    → IsConnAt by.service node.plain None o → ReceivesOfMark by node places (MarkedMsg key reads) [] node
 none_live by node key reads places (Some (Lives p)) e c = absurd c
 none_live by node key reads places (Some (Opens n timestamping)) e c = subst (λ o. AtLive by node reads (live_at o) [] node) (sym e) (refl, refl)
 none_live by node key reads places (Some (Ended k)) e c = subst (λ o. AtLive by node reads (live_at o) [] node) (sym e) (refl, refl)
 none_live by node key reads places None e c = subst (λ o. AtLive by node reads (live_at o) [] node) (sym e) (refl, refl)
 
 -- it is heard: the next mark may be due
-pub heard_live : {S : Type 0} (by : Marker S) (node : MarkedNode) (key : Key) (reads : ℕ) (boot_of : ℕ) (places : List Place) (p : Point) (was mid later : KeyMarks) (new : List Wire) → AreDistinct (map key_of places)
+pub received_live : {S : Type 0} (by : Marker S) (node : MarkedNode) (key : Key) (reads : ℕ) (boot_of : ℕ) (places : List Place) (p : Point) (was mid later : KeyMarks) (new : List Wire) → AreDistinct (map key_of places)
     → place_at key places ≡ Some (Lives p) → Keeps by node.marking was → AllSettled by node.marking places → Changes key (marking_answered reads (marking_in was key)) was mid
-    → MarksNew by (grammar_of node.plain.profile) node.plain.boot key p mid later 0 [] new → HeardOfMark by node places (record { boot = boot_of; body = MarkedMsg key reads }) later [] new
-heard_live {S} by node key reads boot_of places p was mid later new apart e keeps settled changes marks =
+    → MarksNew by (grammar_of node.plain.profile) node.plain.boot key p mid later 0 [] new → ReceivedOfMark by node places (record { boot = boot_of; body = MarkedMsg key reads }) later [] new
+received_live {S} by node key reads boot_of places p was mid later new apart e keeps settled changes marks =
     let is : p.key ≡ key = same_key p.key key (found_passes (λ x. key_eq (key_of x) key) places (Lives p) e) in
     let at : IsSettledPoint by (node.marking p.key) p = all_find (IsSettledPlace by node.marking) (λ x. key_eq (key_of x) key) places (Lives p) settled e in
     let answered : Marking = marking_answered reads (node.marking p.key) in
@@ -144,7 +144,7 @@ heard_live {S} by node key reads boot_of places p was mid later new apart e keep
     record {
       marking = then_marking;
       sent = marks_out node.plain.boot p ms;
-      hears = subst (λ o. AtLive by node reads (live_at o) (marks_out node.plain.boot p ms) (record node { marking = then_marking })) (sym e)
+      on_receipt = subst (λ o. AtLive by node reads (live_at o) (marks_out node.plain.boot p ms) (record node { marking = then_marking })) (sym e)
           (next, record { marking = refl; sent_are = refl }, refl);
       keeps = record {
         every = marks.changes.every ∙ (changes.every ∙ keeps.every);
@@ -216,14 +216,14 @@ unfolding segment_in
 payload_bytes bytes segment reads h = subst AreBytes (ap (λ (s : Segment). s.payload) (packet_is bytes segment reads)) (bytes_drop (payload_at bytes) bytes h)
 
 -- at the connection that is live there
-pub heard_at : {S : Type 0} (by : Marker S) (node : MarkedNode) (key : Key) (reads : ℕ) (boot_of : ℕ) (places : List Place) (c : ConnState S) (was mid later : KeyMarks) (new : List Wire) → AreDistinct (map key_of places)
+pub received_at : {S : Type 0} (by : Marker S) (node : MarkedNode) (key : Key) (reads : ℕ) (boot_of : ℕ) (places : List Place) (c : ConnState S) (was mid later : KeyMarks) (new : List Wire) → AreDistinct (map key_of places)
     → (o : Option Place) → place_at key places ≡ o → IsConnAt by.service node.plain (Some c) o → Keeps by node.marking was → AllSettled by node.marking places
     → Changes key (marking_answered reads (marking_in was key)) was mid
     → ((p : Point) → IsOursAt by.service node.plain.server node.plain.boot c p → AreBytes p.taken → MarksNew by (grammar_of node.plain.profile) node.plain.boot key p mid later 0 [] new)
-    → HeardOfMark by node places (record { boot = boot_of; body = MarkedMsg key reads }) later [] new
-heard_at by node key reads boot_of places c was mid later new apart (Some (Lives p)) e at keeps settled changes marks =
+    → ReceivedOfMark by node places (record { boot = boot_of; body = MarkedMsg key reads }) later [] new
+received_at by node key reads boot_of places c was mid later new apart (Some (Lives p)) e at keeps settled changes marks =
     let calm : IsSettledPoint by (node.marking p.key) p = all_find (IsSettledPlace by node.marking) (λ x. key_eq (key_of x) key) places (Lives p) settled e in
-    heard_live by node key reads boot_of places p was mid later new apart e keeps settled changes (marks p at calm.taken)
-heard_at by node key reads boot_of places c was mid later new apart (Some (Opens n timestamping)) e at keeps settled changes marks = absurd at
-heard_at by node key reads boot_of places c was mid later new apart (Some (Ended k)) e at keeps settled changes marks = absurd at
-heard_at by node key reads boot_of places c was mid later new apart None e at keeps settled changes marks = absurd at
+    received_live by node key reads boot_of places p was mid later new apart e keeps settled changes (marks p at calm.taken)
+received_at by node key reads boot_of places c was mid later new apart (Some (Opens n timestamping)) e at keeps settled changes marks = absurd at
+received_at by node key reads boot_of places c was mid later new apart (Some (Ended k)) e at keeps settled changes marks = absurd at
+received_at by node key reads boot_of places c was mid later new apart None e at keeps settled changes marks = absurd at

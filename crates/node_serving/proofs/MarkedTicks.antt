@@ -132,11 +132,11 @@ module _ {S : Type 0} (by : Marker S) (node : Node) (marking : Key → Marking) 
           unsent (slot.Pending o) st same = absurd st
 
 -- one place more
-pub go_on_marked : (Goes : Place → List Place → List Outgoing → Type 0) (done went : List Place) (sent more : List Outgoing) (place after : Place) → AllGoMarked Goes done went sent
+pub proceed_marked : (Goes : Place → List Place → List Outgoing → Type 0) (done went : List Place) (sent more : List Outgoing) (place after : Place) → AllGoMarked Goes done went sent
     → Goes place (after ∷ []) more → AllGoMarked Goes (done ++ place ∷ []) (went ++ after ∷ []) (sent ++ more)
-go_on_marked Goes [] went sent more place after go g =
+proceed_marked Goes [] went sent more place after go g =
     (after ∷ [], [], more, [], ap (λ xs. xs ++ after ∷ []) go.0, ap (λ xs. xs ++ more) go.1 ∙ sym (append-nil more), g, (refl, refl))
-go_on_marked Goes (d ∷ done) went sent more place after (now, later, first, others, w, p, g, rest) h = (
+proceed_marked Goes (d ∷ done) went sent more place after (now, later, first, others, w, p, g, rest) h = (
   now,
   later ++ after ∷ [],
   first,
@@ -144,7 +144,7 @@ go_on_marked Goes (d ∷ done) went sent more place after (now, later, first, ot
   ap (λ xs. xs ++ after ∷ []) w ∙ append_assoc now later (after ∷ []),
   ap (λ xs. xs ++ more) p ∙ append_assoc first others more,
   g,
-  go_on_marked Goes done later others more place after rest h,
+  proceed_marked Goes done later others more place after rest h,
 )
 
 module _ {S : Type 0} (by : Marker S) (node : Node) (marking : Key → Marking) where
@@ -176,7 +176,7 @@ module _ {S : Type 0} (by : Marker S) (node : Node) (marking : Key → Marking) 
             split = f.split ∙ (ap (λ l. f.done ++ l) left ∙ sym (append_assoc f.done (place ∷ []) others));
             at = length-append f.went (s.after ∷ []) ∙ ap (λ n. n + 1) f.at;
             stands = put_slot by.service node Tick_comes es f.went others place s.after i now stood f.at (λ d at. subst (λ (o : Key × Slot S). SlotStands by.service node o.0 now s.after) (same is at) s.stands);
-            go = go_on_marked (GoesMarked (PlaceTurn by.service node Tick_comes) (marks_at by node.boot true marking)) f.done f.went f.sent s.sent place s.after f.go s.goes;
+            go = proceed_marked (GoesMarked (PlaceTurn by.service node Tick_comes) (marks_at by node.boot true marking)) f.done f.went f.sent s.sent place s.after f.go s.goes;
             settled = all_append (IsSettledPlace by marking) f.went (s.after ∷ []) f.settled (s.settled, tt);
             waiting = waiting.1;
             out = out_on (grammar_of node.profile) f.sent s.sent old mid new f.out s.out;
@@ -251,7 +251,7 @@ again_live grammar boot key from (slot.Live d) c m old new is sends = sends
 again_live grammar boot key from (slot.Pending o) c m old new is sends = none_is_some c (sym is)
 again_live grammar boot key from slot.Done c m old new is sends = none_is_some c (sym is)
 
-pub again_none : {S : Type 0} (grammar : Grammar) (boot : ℕ) (key : Key) (from : ℕ) (s : Slot S) (m : Marking) (told : List Wire) → None ≡ conn_in (Some s) → SendsAgain grammar boot key from s m told told
-again_none grammar boot key from (slot.Live d) m told is = none_is_some d is
-again_none grammar boot key from (slot.Pending o) m told is = refl
-again_none grammar boot key from slot.Done m told is = refl
+pub again_none : {S : Type 0} (grammar : Grammar) (boot : ℕ) (key : Key) (from : ℕ) (s : Slot S) (m : Marking) (reported : List Wire) → None ≡ conn_in (Some s) → SendsAgain grammar boot key from s m reported reported
+again_none grammar boot key from (slot.Live d) m reported is = none_is_some d is
+again_none grammar boot key from (slot.Pending o) m reported is = refl
+again_none grammar boot key from slot.Done m reported is = refl

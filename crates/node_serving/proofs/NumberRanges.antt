@@ -16,9 +16,9 @@ use Rattle.tcp_rules.specs.Timestamping.{timestamps_sent}
 use Rattle.tcp_rules.specs.declared.timestamping.Timestamping.{Timestamping}
 use Rattle.tcp_rules.specs.declared.timestamping.Timestamping.TheVariants.{Off, Awaited, Echoes}
 use Rattle.server_trait.specs.Service.{Machine}
-use Rattle.ft_model.specs.Connection.{LiveTurn, ResetTurn, told_by}
+use Rattle.ft_model.specs.Connection.{LiveTurn, ResetTurn, reported_by}
 use Rattle.ft_model.specs.Copy.{copies}
-use Rattle.ft_model.specs.ResetAndEnd.{dones, tells_done}
+use Rattle.ft_model.specs.ResetAndEnd.{dones, reports_done}
 use Rattle.ft_model.specs.Network.{Packet, destination_of}
 use Rattle.ft_model.specs.Network.Packet.{To_client, To_logger}
 use Rattle.ft_model.specs.News.{News}
@@ -26,7 +26,7 @@ use Rattle.ft_model.specs.News.News.{Comes, Logged, Ticks, Begins}
 use Rattle.ft_model.specs.Offset.{text_of}
 use Rattle.ft_model.specs.Point.{Point, answered_run}
 use Rattle.ft_model.specs.Readable.{FitsAddr}
-use Rattle.ft_model.specs.Reads.{read_messages, first_told, reads_told}
+use Rattle.ft_model.specs.Reads.{read_messages, first_reported, reads_reported}
 use Rattle.ft_model.specs.Segments.{head_to, segments_of}
 use Rattle.ft_model.proofs.Lists.{all_weaker, all_map, all_append}
 use Rattle.ft_model.proofs.Spoken.{Spoken, segments_spoken}
@@ -53,7 +53,7 @@ pub record IsInRange (q : Point) : Type 0 where
 -- a packet is this connection's, and can be spelled in this grammar but for its bytes
 abbrev pub IsWritten : Grammar → Key → Packet → Type 0
 IsWritten grammar key (To_client segment) = (destination_of segment ≡ key) × packet.IsSpellable segment
-IsWritten grammar key (To_logger told) = message.IsSpellableBy grammar told
+IsWritten grammar key (To_logger reported) = message.IsSpellableBy grammar reported
 IsWritten grammar key _ = ⊥
 
 -- the timestamps of a segment, and how long they are
@@ -100,8 +100,8 @@ segment_written grammar service server news p q segment a r (spoken_bare offset 
     subst (λ s. IsWritten grammar q.key (To_client s)) (sym e) (refl, spells server q _ _ None [] a r (omega arith) (omega arith) tt (omega arith))
 
 -- and messages
-abbrev IsTold : Grammar → ℕ → Body → Type 0
-IsTold grammar boot body = message.IsSpellableBy grammar (record { boot = boot; body = body })
+abbrev IsReported : Grammar → ℕ → Body → Type 0
+IsReported grammar boot body = message.IsSpellableBy grammar (record { boot = boot; body = body })
 
 pub record IsBoot (boot : ℕ) : Type 0 where
   pub least : 1 ≤ boot
@@ -111,10 +111,10 @@ pub record IsBoot (boot : ℕ) : Type 0 where
 no_fin_before : (part : Part) → (part.more ≡ true → part.fin ≡ false) → part.fin ≡ true → part.more ≡ false
 no_fin_before part others ends = by_cases part.more (λ more. absurd (true≢false (sym ends ∙ others more))) (λ last. last)
 
-data_told : (batches : Bool) (boot : ℕ) (part : Part) → IsBoot boot → FitsKey part.key → part.offset + length part.bytes ≤ 2 ^ 24 → part.acked ≤ 2 ^ 24 + 1 → length part.bytes ≤ 1460
-    → (part.more ≡ true → (part.fin ≡ false) × (batches ≡ true)) → IsTold (grammar_by batches) boot (DataMsg part)
+data_reported : (batches : Bool) (boot : ℕ) (part : Part) → IsBoot boot → FitsKey part.key → part.offset + length part.bytes ≤ 2 ^ 24 → part.acked ≤ 2 ^ 24 + 1 → length part.bytes ≤ 1460
+    → (part.more ≡ true → (part.fin ≡ false) × (batches ≡ true)) → IsReported (grammar_by batches) boot (DataMsg part)
 unfolding is_sound_by has_length
-data_told batches boot part b k within few short batch =
+data_reported batches boot part b k within few short batch =
     let last : ending part ≤ most_ending (grammar_by batches) =
     ending_low batches part.fin part.more (no_fin_before part (λ more. (batch more).0)) (λ more. (batch more).1) in record {
       boot = omega (arith, b.most);
@@ -138,49 +138,49 @@ news_short (Logged kept) h = omega arith
 news_short Ticks h = omega arith
 news_short Begins h = omega arith
 
-copies_told : (boot : ℕ) (news : News) (p q : Point) → IsBoot boot → IsShort news → IsInRange q → Grows p q → AllByRecursion (IsTold (grammar_by q.batches) boot) (copies news p q)
-copies_told boot news p q b short r grows =
-    all_copies (IsTold (grammar_by q.batches) boot) news p q
+copies_reported : (boot : ℕ) (news : News) (p q : Point) → IsBoot boot → IsShort news → IsInRange q → Grows p q → AllByRecursion (IsReported (grammar_by q.batches) boot) (copies news p q)
+copies_reported boot news p q b short r grows =
+    all_copies (IsReported (grammar_by q.batches) boot) news p q
     (λ part c. let within = c.within grows in
-    data_told q.batches boot part b (subst FitsKey (sym c.key) r.key) (omega (arith, within, r.taken)) (subst (λ n. n ≤ 2 ^ 24 + 1) (sym c.acked) r.una)
+    data_reported q.batches boot part b (subst FitsKey (sym c.key) r.key) (omega (arith, within, r.taken)) (subst (λ n. n ≤ 2 ^ 24 + 1) (sym c.acked) r.una)
     (c.short (news_short news short)) c.batch)
 
 abbrev pub AreLow : List ℕ → Type 0
 AreLow lengths = AllByRecursion (λ n. n ≤ 2048) lengths
 
 reads_in_order : (grammar : Grammar) (boot : ℕ) (key : Key) (index : ℕ) (lengths : List ℕ) → IsBoot boot → FitsKey key → AreLow lengths → (0 < length lengths → index + length lengths ≤ 2 ^ 24 + 1)
-    → AllByRecursion (IsTold grammar boot) (read_messages key index lengths)
+    → AllByRecursion (IsReported grammar boot) (read_messages key index lengths)
 reads_in_order grammar boot key index [] b k low few = tt
 reads_in_order grammar boot key index (n ∷ lengths) b k low few =
     let all = few (omega arith) in
     ((read_sendable grammar boot key index n b.least b.most k (omega (arith, all)) low.0).spellable, reads_in_order grammar boot key (index + 1) lengths b k low.1 (λ some. omega (arith, all)))
 
-reads_are_told : (grammar : Grammar) (boot : ℕ) (news : News) (p q : Point) → IsBoot boot → IsInRange q → AreLow (drop (first_told news p q) q.lengths) → AllByRecursion (IsTold grammar boot) (reads_told news p q)
-unfolding reads_told
-reads_are_told grammar boot news p q b r low =
-    let rest = length-drop (first_told news p q) q.lengths in
-    reads_in_order grammar boot q.key (first_told news p q) (drop (first_told news p q) q.lengths) b r.key low (λ some. omega (arith, some, rest, r.count))
+reads_are_reported : (grammar : Grammar) (boot : ℕ) (news : News) (p q : Point) → IsBoot boot → IsInRange q → AreLow (drop (first_reported news p q) q.lengths) → AllByRecursion (IsReported grammar boot) (reads_reported news p q)
+unfolding reads_reported
+reads_are_reported grammar boot news p q b r low =
+    let rest = length-drop (first_reported news p q) q.lengths in
+    reads_in_order grammar boot q.key (first_reported news p q) (drop (first_reported news p q) q.lengths) b r.key low (λ some. omega (arith, some, rest, r.count))
 
-dones_told : (grammar : Grammar) (boot : ℕ) (news : News) (p q : Point) → IsBoot boot → FitsKey q.key → AllByRecursion (IsTold grammar boot) (dones news p q)
+dones_reported : (grammar : Grammar) (boot : ℕ) (news : News) (p q : Point) → IsBoot boot → FitsKey q.key → AllByRecursion (IsReported grammar boot) (dones news p q)
 unfolding dones
-dones_told grammar boot news p q b k =
-    holds_if (AllByRecursion (IsTold grammar boot)) (tells_done news p q) (DoneMsg q.key ∷ []) [] (λ t. ((done_sendable grammar boot q.key b.least b.most k).spellable, tt)) (λ t. tt)
+dones_reported grammar boot news p q b k =
+    holds_if (AllByRecursion (IsReported grammar boot)) (reports_done news p q) (DoneMsg q.key ∷ []) [] (λ t. ((done_sendable grammar boot q.key b.least b.most k).spellable, tt)) (λ t. tt)
 
 -- a turn's packets
 pub live_written : {State : Type 0} (service : Machine State) (server : Addr) (boot : ℕ) (news : News) (p q : Point) (sent : List Packet) → FitsAddr server → IsBoot boot
-    → IsShort news → IsInRange q → AreLow (drop (first_told news p q) q.lengths) → LiveTurn service server boot news p q sent → AllByRecursion (IsWritten (grammar_by q.batches) q.key) sent
+    → IsShort news → IsInRange q → AreLow (drop (first_reported news p q) q.lengths) → LiveTurn service server boot news p q sent → AllByRecursion (IsWritten (grammar_by q.batches) q.key) sent
 live_written service server boot news p q sent a b short r low t =
     let grammar : Grammar = grammar_by q.batches in
     let segments : AllByRecursion (λ s. IsWritten grammar q.key (To_client s)) (segments_of service server news p q) =
     all_weaker (Spoken service server news p q) (λ s. IsWritten grammar q.key (To_client s)) (segments_of service server news p q)
     (λ s spoken. segment_written grammar service server news p q s a r spoken) (segments_spoken service server news p q) in
-    let bodies : AllByRecursion (IsTold grammar boot) (copies news p q ++ (reads_told news p q ++ dones news p q)) =
-    all_append (IsTold grammar boot) (copies news p q) _ (copies_told boot news p q b short r (taken_more news p q t.taken))
-    (all_append (IsTold grammar boot) (reads_told news p q) (dones news p q) (reads_are_told grammar boot news p q b r low) (dones_told grammar boot news p q b r.key)) in
+    let bodies : AllByRecursion (IsReported grammar boot) (copies news p q ++ (reads_reported news p q ++ dones news p q)) =
+    all_append (IsReported grammar boot) (copies news p q) _ (copies_reported boot news p q b short r (taken_more news p q t.taken))
+    (all_append (IsReported grammar boot) (reads_reported news p q) (dones news p q) (reads_are_reported grammar boot news p q b r low) (dones_reported grammar boot news p q b r.key)) in
     subst (AllByRecursion (IsWritten grammar q.key)) (sym t.packets)
     (all_append (IsWritten grammar q.key) (map To_client (segments_of service server news p q)) _ (all_map (IsWritten grammar q.key) To_client (segments_of service server news p q) segments)
-    (all_map (IsWritten grammar q.key) (told_by boot) (copies news p q ++ (reads_told news p q ++ dones news p q)) bodies))
+    (all_map (IsWritten grammar q.key) (reported_by boot) (copies news p q ++ (reads_reported news p q ++ dones news p q)) bodies))
 
 pub reset_written : (grammar : Grammar) (boot : ℕ) (news : News) (p q : Point) (sent : List Packet) → IsBoot boot → FitsKey q.key → ResetTurn boot news p q sent → AllByRecursion (IsWritten grammar q.key) sent
 reset_written grammar boot news p q sent b k t =
-    subst (AllByRecursion (IsWritten grammar q.key)) (sym t.packets) (all_map (IsWritten grammar q.key) (told_by boot) (dones news p q) (dones_told grammar boot news p q b k))
+    subst (AllByRecursion (IsWritten grammar q.key)) (sym t.packets) (all_map (IsWritten grammar q.key) (reported_by boot) (dones news p q) (dones_reported grammar boot news p q b k))

@@ -41,10 +41,10 @@ place_meets service node input place now sent concerned meets =
     subst (λ b. MatchBool b (Meets service node input place now sent) (Stays place now sent)) (sym concerned) meets
 
 -- an input that concerns none changes nothing
-pub none_concerned : {S : Type 0} (service : Machine S) (node : Node) (input : Input) (es : List (Key × Slot S)) (places : List Place) (told : List Wire)
-    → ((k : Key) → concerns node input k ≡ false) → AllStand service node es places → AllSlotsGo service node input places es told told
-none_concerned service node input es places told other st =
-    record { after = places; packets = []; stands = st; go = all_rest places; wires = sym (append-nil told); spelled = tt }
+pub none_concerned : {S : Type 0} (service : Machine S) (node : Node) (input : Input) (es : List (Key × Slot S)) (places : List Place) (reported : List Wire)
+    → ((k : Key) → concerns node input k ≡ false) → AllStand service node es places → AllSlotsGo service node input places es reported reported
+none_concerned service node input es places reported other st =
+    record { after = places; packets = []; stands = st; go = all_rest places; wires = sym (append-nil reported); spelled = tt }
   where
     all_rest : (qs : List Place) → AllGo (PlaceTurn service node input) qs qs []
     all_rest [] = (refl, refl)
@@ -60,9 +60,9 @@ module _ {S : Type 0} (service : Machine S) (node : Node) (input : Input) (key :
   all_stay (e ∷ es) (q ∷ qs) st none =
       (q ∷ [], qs, [], [], refl, refl, place_stays service node input q (only (key_of q) (ap (key_eq key) (place_key service node e.0 e.1 q st.0) ∙ none.0)), all_stay es qs st.1 none.1)
 
-  pub none_goes : (es : List (Key × Slot S)) (places : List Place) (told : List Wire) → AllStand service node es places
-      → AllByRecursion (λ k. key_eq key k ≡ false) (keys_of es) → AllSlotsGo service node input places es told told
-  none_goes es places told st none = record { after = places; packets = []; stands = st; go = all_stay es places st none; wires = sym (append-nil told); spelled = tt }
+  pub none_goes : (es : List (Key × Slot S)) (places : List Place) (reported : List Wire) → AllStand service node es places
+      → AllByRecursion (λ k. key_eq key k ≡ false) (keys_of es) → AllSlotsGo service node input places es reported reported
+  none_goes es places reported st none = record { after = places; packets = []; stands = st; go = all_stay es places st none; wires = sym (append-nil reported); spelled = tt }
 
   -- the key's slot goes on
   pub one_goes : (P : Place → Type 0) (es : List (Key × Slot S)) (places : List Place) (was now : Slot S) (old new : List Wire) → AllStand service node es places

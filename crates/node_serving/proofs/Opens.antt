@@ -48,8 +48,8 @@ put_on grammar first more old mid new a b = record {
   spelled = all_append (HasWireBy grammar) first more a.spelled b.spelled;
 }
 
-pub put_none : (grammar : Grammar) (told : List Wire) → ArePut grammar [] told told
-put_none grammar told = record { wires = sym (append-nil told); spelled = tt }
+pub put_none : (grammar : Grammar) (reported : List Wire) → ArePut grammar [] reported reported
+put_none grammar reported = record { wires = sym (append-nil reported); spelled = tt }
 
 -- the Opens of one slot more
 pub opens_more : {S : Type 0} (node : Node) (input : Input) (es : List (Key × Slot S)) (i : ℕ) (key : Key) (s : Slot S) → slice_get es i ≡ Some (key, s)

@@ -60,27 +60,27 @@ module _ {S : Type 0} (service : Machine S) (node : Node) (segment : Segment) (m
   -- a key that is done gets the answer of CLOSED
   pub done_answers : (place : Place) (old new : List Wire) → SlotStands service node (source_of segment) slot.Done place → AreSent (as_closed node.server segment) old new
       → SlotGoes service node (Packet_comes segment) (source_of segment) place slot.Done old new
-  done_answers (Ended k) old new st told = record {
+  done_answers (Ended k) old new st reported = record {
     after = Ended k;
     packets = map To_client (as_closed node.server segment);
     stands = st;
     turn = place_meets service node (Packet_comes segment) (Ended k) (Ended k ∷ []) (map To_client (as_closed node.server segment)) (concerned k st) (refl, refl);
-    wires = (told.each (grammar_of node.profile)).wires;
-    spelled = (told.each (grammar_of node.profile)).spelled;
+    wires = (reported.each (grammar_of node.profile)).wires;
+    spelled = (reported.each (grammar_of node.profile)).spelled;
   }
-  done_answers (Opens n timestamping) old new st told = absurd st
-  done_answers (Lives p) old new st told = absurd st
+  done_answers (Opens n timestamping) old new st reported = absurd st
+  done_answers (Lives p) old new st reported = absurd st
 
   -- a segment of a pending key is dropped here
-  pub pending_drops : (place : Place) (o : Opening) (told : List Wire) → SlotStands service node (source_of segment) (slot.Pending o) place
-      → SlotGoes service node (Packet_comes segment) (source_of segment) place (slot.Pending o) told told
-  pending_drops (Opens n timestamping) o told st = record {
+  pub pending_drops : (place : Place) (o : Opening) (reported : List Wire) → SlotStands service node (source_of segment) (slot.Pending o) place
+      → SlotGoes service node (Packet_comes segment) (source_of segment) place (slot.Pending o) reported reported
+  pending_drops (Opens n timestamping) o reported st = record {
     after = Opens n timestamping;
     packets = [];
     stands = st;
     turn = place_meets service node (Packet_comes segment) (Opens n timestamping) (Opens n timestamping ∷ []) [] (concerned n.key (ap (λ x. x.key) st.0)) (refl, refl);
-    wires = sym (append-nil told);
+    wires = sym (append-nil reported);
     spelled = tt;
   }
-  pending_drops (Lives p) o told st = absurd st
-  pending_drops (Ended k) o told st = absurd st
+  pending_drops (Lives p) o reported st = absurd st
+  pending_drops (Ended k) o reported st = absurd st

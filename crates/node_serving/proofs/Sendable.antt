@@ -12,10 +12,10 @@ use Rattle.logger_wire.specs.declared.Body.TheVariants as body
 use Rattle.logger_wire.specs.Value.{IsSendableBy}
 
 -- the bytes at the front are the whole message
-pub front_told : (grammar : Grammar) (message : Message) (out : List ℕ) (len : ℕ) → IsSpellableBy grammar message → len ≡ message_length message.body
+pub front_reported : (grammar : Grammar) (message : Message) (out : List ℕ) (len : ℕ) → IsSpellableBy grammar message → len ≡ message_length message.body
     → take len (spelling_by grammar message ++ drop len out) ≡ spelling_by grammar message
 unfolding spelling_by
-front_told grammar message out len spellable is =
+front_reported grammar message out len spellable is =
     let size : len ≡ length (spelling_by grammar message) = is ∙ sym (spelled_length grammar message (checksum (spelled grammar message 0)) spellable.numbers)
     in ap (λ n. take n (spelling_by grammar message ++ drop len out)) size ∙ take-append_seam (spelling_by grammar message) (drop len out)
 
@@ -23,12 +23,12 @@ front_told grammar message out len spellable is =
 pub front_in : (grammar other : Grammar) (message : Message) (new out : List ℕ) (len : ℕ) → other ≡ grammar → IsSpellableBy grammar message → len ≡ message_length message.body
     → new ≡ spelling_by other message ++ drop len out → take len new ≡ spelling_by grammar message
 front_in grammar other message new out len same spellable is wrote =
-    ap (take len) (wrote ∙ ap (λ g. spelling_by g message ++ drop len out) same) ∙ front_told grammar message out len spellable is
+    ap (take len) (wrote ∙ ap (λ g. spelling_by g message ++ drop len out) same) ∙ front_reported grammar message out len spellable is
 
-pub open_tells : (grammar : Grammar) (boot : ℕ) (key : Key) (cisn sisn mss : ℕ) → 1 ≤ boot → boot < 2 ^ 64 → key.ip < 2 ^ 32 → key.port < 2 ^ 16 → cisn < 2 ^ 32 → sisn < 2 ^ 32 → 64 ≤ mss → mss ≤ 1460
+pub open_reports : (grammar : Grammar) (boot : ℕ) (key : Key) (cisn sisn mss : ℕ) → 1 ≤ boot → boot < 2 ^ 64 → key.ip < 2 ^ 32 → key.port < 2 ^ 16 → cisn < 2 ^ 32 → sisn < 2 ^ 32 → 64 ≤ mss → mss ≤ 1460
     → IsSendableBy grammar (record { boot = boot; body = body.Open (record { key = key; cisn = cisn; sisn = sisn; mss = mss }) })
 unfolding is_sound_by has_length
-open_tells grammar boot key cisn sisn mss first most ip port own peer least large = record {
+open_reports grammar boot key cisn sisn mss first most ip port own peer least large = record {
   lens = refl;
   spellable = record {
     boot = omega arith;
@@ -40,9 +40,9 @@ open_tells grammar boot key cisn sisn mss first most ip port own peer least larg
   };
 }
 
-pub hello_tells : (grammar : Grammar) (boot : ℕ) → 1 ≤ boot → boot < 2 ^ 64 → IsSendableBy grammar (record { boot = boot; body = body.Hello })
+pub hello_reports : (grammar : Grammar) (boot : ℕ) → 1 ≤ boot → boot < 2 ^ 64 → IsSendableBy grammar (record { boot = boot; body = body.Hello })
 unfolding is_sound_by has_length
-hello_tells grammar boot first most = record {
+hello_reports grammar boot first most = record {
   lens = refl;
   spellable = record {
     boot = omega arith;

@@ -9,7 +9,7 @@ use Rattle.ft_io.specs.Key.{key_eq}
 use Rattle.seq_arith.specs.Message.{Message}
 use Rattle.seq_arith.specs.Message.Body.{OpenMsg}
 use Rattle.tcp_rules.specs.Profile.{grammar_of}
-use Rattle.ft_model.specs.Connection.{told_by}
+use Rattle.ft_model.specs.Connection.{reported_by}
 use Rattle.seq_arith.specs.Packet.{Segment}
 use Rattle.ft_model.specs.Network.{source_of}
 use Rattle.ft_model.specs.Network.Packet.{To_client}
@@ -79,18 +79,18 @@ module _ {S : Type 0} (service : Machine S) (node : Node) where
   no_refusals segment places familiar = ap (λ b. if b then map To_client (as_listen node.server segment) else []) familiar
 
   -- one for another server does nothing
-  pub others_packet : (segment : Segment) (opened : ℕ) (places : List Place) (now : Serving S) (told : List Wire) → is_for node.server segment ≡ false
-      → ServingStands service node opened places now → ServingGoes service node (Packet_comes segment) opened places now told told
-  others_packet segment opened places now told other st =
+  pub others_packet : (segment : Segment) (opened : ℕ) (places : List Place) (now : Serving S) (reported : List Wire) → is_for node.server segment ≡ false
+      → ServingStands service node opened places now → ServingGoes service node (Packet_comes segment) opened places now reported reported
+  others_packet segment opened places now reported other st =
       let familiar : is_strange node segment places ≡ false = ap (λ b. b && not (is_known (source_of segment) places)) other in
-      known_goes (Packet_comes segment) opened places now told told told (no_newcomers segment opened places familiar) (no_refusals segment places familiar) st.number
-      (none_concerned service node (Packet_comes segment) now.slots.entries places told (λ k. ap (λ b. b && key_eq (source_of segment) k) other) st.slots)
-      (subst (λ ps. ArePut (grammar_of node.profile) ps told told) (sym (none_asked now.slots.entries)) (put_none (grammar_of node.profile) told))
+      known_goes (Packet_comes segment) opened places now reported reported reported (no_newcomers segment opened places familiar) (no_refusals segment places familiar) st.number
+      (none_concerned service node (Packet_comes segment) now.slots.entries places reported (λ k. ap (λ b. b && key_eq (source_of segment) k) other) st.slots)
+      (subst (λ ps. ArePut (grammar_of node.profile) ps reported reported) (sym (none_asked now.slots.entries)) (put_none (grammar_of node.profile) reported))
     where
       none_asked : (es : List (Key × Slot S)) → all_opens node (Packet_comes segment) es ≡ []
       none_asked [] = refl
       none_asked ((k, slot.Pending o) ∷ es) =
-          ap (λ b. (if b && is_syn segment && key_eq (source_of segment) k && segment.head.seq == o.cisn.0 then told_by node.boot (OpenMsg (numbers_of k o)) ∷ [] else [])
+          ap (λ b. (if b && is_syn segment && key_eq (source_of segment) k && segment.head.seq == o.cisn.0 then reported_by node.boot (OpenMsg (numbers_of k o)) ∷ [] else [])
           ++ all_opens node (Packet_comes segment) es) other ∙ none_asked es
       none_asked ((k, slot.Live c) ∷ es) = none_asked es
       none_asked ((k, slot.Done) ∷ es) = none_asked es

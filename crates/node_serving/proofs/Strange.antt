@@ -12,7 +12,7 @@ use Rattle.seq_arith.specs.Message.{Numbers}
 use Rattle.seq_arith.specs.Message.Body.{OpenMsg}
 use Rattle.server_trait.specs.Service.{Machine}
 use Rattle.tcp_rules.specs.Profile.{grammar_of}
-use Rattle.ft_model.specs.Connection.{told_by}
+use Rattle.ft_model.specs.Connection.{reported_by}
 use Rattle.ft_model.specs.Network.{Packet, source_of}
 use Rattle.ft_model.specs.Network.Packet.{To_client}
 use Rattle.ft_model.specs.Node.{Node, Place, is_for, is_known}
@@ -34,16 +34,16 @@ use Rattle.node_serving.specs.Ownership.{of_key, IsFor, IsOnlyFor}
 use Rattle.node_serving.proofs.MarkedApart.{open_for, opens_of_key, rests_key, served_alone, comes}
 use Rattle.node_serving.proofs.SegmentArrival.{only_its_client, its_client}
 use Rattle.node_serving.proofs.Found.{other_last, found_last}
-use Rattle.node_serving.proofs.Keyed.{none_of, told_is, told_its, refused_for, listen_back}
+use Rattle.node_serving.proofs.Keyed.{none_of, reported_is, reported_its, refused_for, listen_back}
 use Rattle.node_serving.proofs.OneKey.{place_key}
 
 module _ {S : Type 0} (service : Machine S) (node : Node) (segment : Segment) where
   -- one for another server
-  pub others_alone : (was : Serving S) (told : List Wire) (opened : ℕ) → was.next.0 ≡ initial_number node.isn opened → is_for node.server segment ≡ false
-      → ServesAlone service node (Packet_comes segment) was was told told
-  others_alone was told opened number other = record {
-    told = [];
-    put = sym (append-nil told);
+  pub others_alone : (was : Serving S) (reported : List Wire) (opened : ℕ) → was.next.0 ≡ initial_number node.isn opened → is_for node.server segment ≡ false
+      → ServesAlone service node (Packet_comes segment) was was reported reported
+  others_alone was reported opened number other = record {
+    reported = [];
+    put = sym (append-nil reported);
     others = record { slots = λ key e. refl; whose = tt };
     alone = λ key place st near. rests_key service node (Packet_comes segment) key place was was [] opened number (ap (λ b. b && key_eq (source_of segment) key) other) st refl refl;
   }
@@ -102,8 +102,8 @@ module _ {S : Type 0} (service : Machine S) (node : Node) (segment : Segment) wh
     none_came opened other = ap₂ (λ x y. if x && y && true then Opens (numbers_for node.profile node.isn opened segment) (timestamping_for node.profile segment) ∷ [] else []) stranger other
 
     asked : (opened : ℕ) → is_syn segment ≡ true
-        → flat_map (opens_at node (Packet_comes segment)) (Opens (numbers_for node.profile node.isn opened segment) (timestamping_for node.profile segment) ∷ []) ≡ told_by node.boot (OpenMsg (numbers_for node.profile node.isn opened segment)) ∷ []
-    asked opened syn = ap (λ b. (if b then told_by node.boot (OpenMsg (numbers_for node.profile node.isn opened segment)) ∷ [] else []) ++ []) asks
+        → flat_map (opens_at node (Packet_comes segment)) (Opens (numbers_for node.profile node.isn opened segment) (timestamping_for node.profile segment) ∷ []) ≡ reported_by node.boot (OpenMsg (numbers_for node.profile node.isn opened segment)) ∷ []
+    asked opened syn = ap (λ b. (if b then reported_by node.boot (OpenMsg (numbers_for node.profile node.isn opened segment)) ∷ [] else []) ++ []) asks
       where
         asks : is_asked node (Packet_comes segment) (numbers_for node.profile node.isn opened segment) ≡ true
         asks = rw (mine, syn, key_is (source_of segment), eq-eqb segment.head.seq segment.head.seq refl) refl
@@ -111,7 +111,7 @@ module _ {S : Type 0} (service : Machine S) (node : Node) (segment : Segment) wh
     -- the turn of such a server, at a SYN, ..
     opened_alone : (opened : ℕ) → is_syn segment ≡ true
         → ServingTurn service node (Packet_comes segment) opened [] (Opens (numbers_for node.profile node.isn opened segment) (timestamping_for node.profile segment) ∷ [])
-        (map To_client (as_listen node.server segment) ++ told_by node.boot (OpenMsg (numbers_for node.profile node.isn opened segment)) ∷ [])
+        (map To_client (as_listen node.server segment) ++ reported_by node.boot (OpenMsg (numbers_for node.profile node.isn opened segment)) ∷ [])
     opened_alone opened syn = record {
       went = [];
       by_places = [];
@@ -140,9 +140,9 @@ module _ {S : Type 0} (service : Machine S) (node : Node) (segment : Segment) wh
         none : after ≡ []
         none = t.places ∙ ap₂ ◌++◌ t.all_go.0 (none_came opened other)
 
-    pub answers_stranger : (was now : Serving S) (told : List Wire) → is_syn segment ≡ false → KeyGoes service node (Packet_comes segment) key None was now told
-        → of_key (grammar_of node.profile) key told ≡ map (wire_by (grammar_of node.profile)) (map To_client (as_listen node.server segment))
-    answers_stranger was now told other g = g.wires ∙ ap (map (wire_by (grammar_of node.profile))) (go g.turn)
+    pub answers_stranger : (was now : Serving S) (reported : List Wire) → is_syn segment ≡ false → KeyGoes service node (Packet_comes segment) key None was now reported
+        → of_key (grammar_of node.profile) key reported ≡ map (wire_by (grammar_of node.profile)) (map To_client (as_listen node.server segment))
+    answers_stranger was now reported other g = g.wires ∙ ap (map (wire_by (grammar_of node.profile))) (go g.turn)
       where
         its : coming_to node key (Packet_comes segment) ≡ Packet_comes segment
         its = comes service node (Packet_comes segment) key (its_client node segment key mine from)
@@ -165,7 +165,7 @@ module _ {S : Type 0} (service : Machine S) (node : Node) (segment : Segment) wh
 
     -- so the law leaves no choice at a SYN either
     opened_by : (opened : ℕ) (after : List Place) (sent : List Packet) → is_syn segment ≡ true → ServingTurn service node (Packet_comes segment) opened [] after sent
-        → (after ≡ Opens (numbers_for node.profile node.isn opened segment) (timestamping_for node.profile segment) ∷ []) × (sent ≡ told_by node.boot (OpenMsg (numbers_for node.profile node.isn opened segment)) ∷ [])
+        → (after ≡ Opens (numbers_for node.profile node.isn opened segment) (timestamping_for node.profile segment) ∷ []) × (sent ≡ reported_by node.boot (OpenMsg (numbers_for node.profile node.isn opened segment)) ∷ [])
     opened_by opened after sent syn t = (
       one,
       t.packets ∙ (ap₂ (λ xs ys. xs ++ (refusals node (Packet_comes segment) [] ++ flat_map (opens_at node (Packet_comes segment)) ys)) t.all_go.1 one
@@ -177,7 +177,7 @@ module _ {S : Type 0} (service : Machine S) (node : Node) (segment : Segment) wh
 
     pub opens_newcomer : (opened pending : ℕ) (after : Option Place) (sent : List Packet) → is_syn segment ≡ true → pending < 64
         → KeyTurn service node (Packet_comes segment) key opened pending None after sent
-        → (after ≡ Some (Opens (numbers_for node.profile node.isn opened segment) (timestamping_for node.profile segment))) × (sent ≡ told_by node.boot (OpenMsg (numbers_for node.profile node.isn opened segment)) ∷ [])
+        → (after ≡ Some (Opens (numbers_for node.profile node.isn opened segment) (timestamping_for node.profile segment))) × (sent ≡ reported_by node.boot (OpenMsg (numbers_for node.profile node.isn opened segment)) ∷ [])
     opens_newcomer opened pending after sent syn few (inl t) =
         let by = opened_by opened (option_to_list after) sent syn
         (subst (λ i. ServingTurn service node i opened [] (option_to_list after) sent) (comes service node (Packet_comes segment) key (its_client node segment key mine from)) t) in
@@ -194,14 +194,14 @@ module _ {S : Type 0} (service : Machine S) (node : Node) (segment : Segment) wh
     -- what the other keys have of it
     rest_alone : (was now : Serving S) (old new : List Wire) (opened : ℕ) → was.next.0 ≡ initial_number node.isn opened → (put : IsOnlyFor (grammar_of node.profile) key old new)
         → ((k : Key) → key_eq key k ≡ false → slot_of k now ≡ slot_of k was)
-        → ((place : Option Place) → StandsFor service node key (slot_of key was) place → KeyGoes service node (Packet_comes segment) key place was now put.told)
+        → ((place : Option Place) → StandsFor service node key (slot_of key was) place → KeyGoes service node (Packet_comes segment) key place was now put.reported)
         → ServesAlone service node (Packet_comes segment) was now old new
     rest_alone was now old new opened number put same goes = record {
-      told = put.told;
+      reported = put.reported;
       put = put.put;
       others = record {
         slots = λ k e. same k (other_key k e);
-        whose = all_weaker (IsFor (grammar_of node.profile) key) (IsForSubject node (Packet_comes segment)) put.told (λ w a. (key, its_client node segment key mine from, a)) put.alone;
+        whose = all_weaker (IsFor (grammar_of node.profile) key) (IsForSubject node (Packet_comes segment)) put.reported (λ w a. (key, its_client node segment key mine from, a)) put.alone;
       };
       alone = λ k place st near. go k place st (key_eq key k) refl;
     }
@@ -210,13 +210,13 @@ module _ {S : Type 0} (service : Machine S) (node : Node) (segment : Segment) wh
         other_key k e = subst (λ x. key_eq x k ≡ false) from (sym (ap (λ b. b && key_eq (source_of segment) k) mine) ∙ e)
 
         go : (k : Key) (place : Option Place) → StandsFor service node k (slot_of k was) place → (b : Bool) → key_eq key k ≡ b
-            → KeyGoes service node (Packet_comes segment) k place was now put.told
+            → KeyGoes service node (Packet_comes segment) k place was now put.reported
         go k place st true t =
             let its = same_key key k t in
-            subst (λ x. KeyGoes service node (Packet_comes segment) x place was now put.told) its (goes place (subst (λ x. StandsFor service node x (slot_of x was) place) (sym its) st))
+            subst (λ x. KeyGoes service node (Packet_comes segment) x place was now put.reported) its (goes place (subst (λ x. StandsFor service node x (slot_of x was) place) (sym its) st))
         go k place st false t =
-            rests_key service node (Packet_comes segment) k place was now put.told opened number
-            (only_its_client node segment k (subst (λ x. key_eq x k ≡ false) (sym from) t)) st (same k t) (none_of (grammar_of node.profile) key k put.told put.alone t)
+            rests_key service node (Packet_comes segment) k place was now put.reported opened number
+            (only_its_client node segment k (subst (λ x. key_eq x k ≡ false) (sym from) t)) st (same k t) (none_of (grammar_of node.profile) key k put.reported put.alone t)
 
     pub strange_alone : (was now : Serving S) (old mid new : List Wire) (opened : ℕ) → was.next.0 ≡ initial_number node.isn opened → lookup (key_eq key) was.slots.entries ≡ None
         → AreSent (as_listen node.server segment) old mid → Knocks node segment key was.next.0 now.next.0 was.slots.entries now.slots.entries mid new
@@ -243,7 +243,7 @@ module _ {S : Type 0} (service : Machine S) (node : Node) (segment : Segment) wh
             put : IsOnlyFor (grammar_of node.profile) key old new
             put = subst (IsOnlyFor (grammar_of node.profile) key old) (sym w.silent) sent
 
-            at : (place : Option Place) → StandsFor service node key None place → KeyGoes service node (Packet_comes segment) key place was now put.told
+            at : (place : Option Place) → StandsFor service node key None place → KeyGoes service node (Packet_comes segment) key place was now put.reported
             at (Some q) x = absurd x
             at None x = record {
               opened = opened;
@@ -252,7 +252,7 @@ module _ {S : Type 0} (service : Machine S) (node : Node) (segment : Segment) wh
               number = number;
               stands = subst (λ s. StandsFor service node key s None) (sym (ap (lookup (key_eq key)) w.slots ∙ gone)) tt;
               turn = turn;
-              wires = told_its (grammar_of node.profile) key put.told rsts put.alone (told_is (grammar_of node.profile) old new put.told rsts put.put (w.silent ∙ (refused.each (grammar_of node.profile)).wires)) (refused.each (grammar_of node.profile)).spelled;
+              wires = reported_its (grammar_of node.profile) key put.reported rsts put.alone (reported_is (grammar_of node.profile) old new put.reported rsts put.put (w.silent ∙ (refused.each (grammar_of node.profile)).wires)) (refused.each (grammar_of node.profile)).spelled;
               spelled = (refused.each (grammar_of node.profile)).spelled;
             }
 
@@ -262,16 +262,16 @@ module _ {S : Type 0} (service : Machine S) (node : Node) (segment : Segment) wh
             (λ place st. at place (subst (λ s. StandsFor service node key s place) gone st))
           where
             asks : Packet
-            asks = told_by node.boot (OpenMsg (numbers_of key o.opening))
+            asks = reported_by node.boot (OpenMsg (numbers_of key o.opening))
 
             numbers : numbers_of key o.opening ≡ numbers_for node.profile node.isn opened segment
             numbers = o.numbers ∙ ap (λ n. let x : Numbers = record { key = source_of segment; cisn = segment.head.seq; sisn = n; mss = Rattle.seq_arith.specs.Packet.text_size segment.head.mss (Rattle.tcp_rules.specs.Timestamping.timestamps_sent (timestamping_for node.profile segment)) } in x) number
 
             put : IsOnlyFor (grammar_of node.profile) key old new
             put = record {
-              told = sent.told ++ map (wire_by (grammar_of node.profile)) (asks ∷ []);
-              put = o.asked.wires ∙ (ap (λ ws. ws ++ map (wire_by (grammar_of node.profile)) (asks ∷ [])) sent.put ∙ append_assoc old sent.told (map (wire_by (grammar_of node.profile)) (asks ∷ [])));
-              alone = all_append (IsFor (grammar_of node.profile) key) sent.told (map (wire_by (grammar_of node.profile)) (asks ∷ [])) sent.alone (open_for (grammar_of node.profile) node.boot (numbers_of key o.opening) key refl o.asked.spelled.0, tt);
+              reported = sent.reported ++ map (wire_by (grammar_of node.profile)) (asks ∷ []);
+              put = o.asked.wires ∙ (ap (λ ws. ws ++ map (wire_by (grammar_of node.profile)) (asks ∷ [])) sent.put ∙ append_assoc old sent.reported (map (wire_by (grammar_of node.profile)) (asks ∷ [])));
+              alone = all_append (IsFor (grammar_of node.profile) key) sent.reported (map (wire_by (grammar_of node.profile)) (asks ∷ [])) sent.alone (open_for (grammar_of node.profile) node.boot (numbers_of key o.opening) key refl o.asked.spelled.0, tt);
             }
 
             packets : List Packet
@@ -284,7 +284,7 @@ module _ {S : Type 0} (service : Machine S) (node : Node) (segment : Segment) wh
             wires = o.asked.wires ∙ (ap (λ ws. ws ++ map (wire_by (grammar_of node.profile)) (asks ∷ [])) (refused.each (grammar_of node.profile)).wires
                 ∙ (append_assoc old (map (wire_by (grammar_of node.profile)) rsts) (map (wire_by (grammar_of node.profile)) (asks ∷ [])) ∙ ap (λ ws. old ++ ws) (sym (map-append (wire_by (grammar_of node.profile)) rsts (asks ∷ [])))))
 
-            at : (place : Option Place) → StandsFor service node key None place → KeyGoes service node (Packet_comes segment) key place was now put.told
+            at : (place : Option Place) → StandsFor service node key None place → KeyGoes service node (Packet_comes segment) key place was now put.reported
             at (Some q) x = absurd x
             at None x = record {
               opened = opened;
@@ -294,9 +294,9 @@ module _ {S : Type 0} (service : Machine S) (node : Node) (segment : Segment) wh
               stands = subst (λ s. StandsFor service node key s (Some (Opens (numbers_for node.profile node.isn opened segment) (timestamping_for node.profile segment))))
                   (sym (ap (lookup (key_eq key)) o.slots ∙ found_last key was.slots.entries (slot.Pending o.opening) gone)) (sym numbers, sym o.timestamping);
               turn = inl (subst (λ i. ServingTurn service node i opened [] (Opens (numbers_for node.profile node.isn opened segment) (timestamping_for node.profile segment) ∷ []) packets) (sym its)
-                  (subst (λ n. ServingTurn service node (Packet_comes segment) opened [] (Opens (numbers_for node.profile node.isn opened segment) (timestamping_for node.profile segment) ∷ []) (rsts ++ told_by node.boot (OpenMsg n) ∷ [])) (sym numbers)
+                  (subst (λ n. ServingTurn service node (Packet_comes segment) opened [] (Opens (numbers_for node.profile node.isn opened segment) (timestamping_for node.profile segment) ∷ []) (rsts ++ reported_by node.boot (OpenMsg n) ∷ [])) (sym numbers)
                   (opened_alone opened syn)));
-              wires = told_its (grammar_of node.profile) key put.told packets put.alone (told_is (grammar_of node.profile) old new put.told packets put.put wires) spelled;
+              wires = reported_its (grammar_of node.profile) key put.reported packets put.alone (reported_is (grammar_of node.profile) old new put.reported packets put.put wires) spelled;
               spelled = spelled;
             }
 

@@ -23,7 +23,7 @@ use Rattle.ft_model.specs.News.{News}
 use Rattle.ft_model.specs.News.News.{Comes, Logged, Ticks, Begins}
 use Rattle.ft_model.specs.Point.{Point}
 use Rattle.ft_model.specs.Readable.{FitsAddr}
-use Rattle.ft_model.specs.Reads.{first_told}
+use Rattle.ft_model.specs.Reads.{first_reported}
 use Rattle.ft_model.specs.Wire.{Wire, wire_by, HasWireBy}
 use Rattle.ft_model.specs.Wire.Party.{A_client, The_server}
 use Rattle.ft_model.proofs.Formed.{bytes_drop}
@@ -38,8 +38,8 @@ use Rattle.wrapped_conn.proofs.SoundAgain.{echo_leaves, echo_short}
 use Rattle.ft_model.specs.Timestamps.{is_timely, timestamping_after}
 use Rattle.wrapped_conn.specs.Refinement as conn
 use Rattle.wrapped_conn.specs.Refinement.{StandsLive, StandsReset, Leads}
-use Rattle.wrapped_conn.specs.LoggerMessages.{AreTellable, grammar_by}
-use Rattle.wrapped_conn.proofs.Lending.{tells}
+use Rattle.wrapped_conn.specs.LoggerMessages.{AreWritable, grammar_by}
+use Rattle.wrapped_conn.proofs.Lending.{reports}
 use Rattle.wrapped_conn.proofs.Sendable.{FitsKey}
 use Rattle.wrapped_conn.proofs.Small.{taken_small}
 use Rattle.node_serving.specs.Conn.{IsOursAt, Acts, ConnGoes}
@@ -64,7 +64,7 @@ pub record IsTyped (server : Addr) (boot : ℕ) (key : Key) (segments messages :
   pub up : boot < 2 ^ 64
   pub client : FitsKey key
   pub sent : AllByRecursion AreBytes segments
-  pub told : AllByRecursion AreBytes messages
+  pub reported : AllByRecursion AreBytes messages
 
 -- the bytes of a packet
 abbrev packet_of : Segment → Result Segment BadPacket → Segment
@@ -85,15 +85,15 @@ bytes_behind : (xs ys : List ℕ) → AreBytes (xs ++ ys) → AreBytes ys
 bytes_behind [] ys a = a
 bytes_behind (x ∷ xs) ys a = bytes_behind xs ys a.1
 
-behind_bytes : (grammar : Grammar) (told : Message) → AreBytes (message.spelling_by grammar told) → AreBytes (message.behind_of told.body)
+behind_bytes : (grammar : Grammar) (reported : Message) → AreBytes (message.spelling_by grammar reported) → AreBytes (message.behind_of reported.body)
 unfolding message.spelling_by message.spelled
-behind_bytes grammar told bytes = bytes_behind (message.numbers_bytes (message.fields_of (message.kind_of told.body)) (message.numbers_of told.body)) (message.behind_of told.body) (bytes_behind _ _ bytes)
+behind_bytes grammar reported bytes = bytes_behind (message.numbers_bytes (message.fields_of (message.kind_of reported.body)) (message.numbers_of reported.body)) (message.behind_of reported.body) (bytes_behind _ _ bytes)
 
 -- a turn's packets as bytes
 loggers_have : (grammar : Grammar) (key : Key) (to_logger : List Message) → AllByRecursion (IsWritten grammar key) (map To_logger to_logger) → AllByRecursion AreBytes (map (message.spelling_by grammar) to_logger)
     → AllByRecursion (HasWireBy grammar) (map To_logger to_logger)
 loggers_have grammar key [] w b = tt
-loggers_have grammar key (told ∷ more) w b = ((w.0, behind_bytes grammar told b.0), loggers_have grammar key more w.1 b.1)
+loggers_have grammar key (reported ∷ more) w b = ((w.0, behind_bytes grammar reported b.0), loggers_have grammar key more w.1 b.1)
 
 have_wires : (grammar : Grammar) (key : Key) (to_client : List Segment) (to_logger : List Message) → AllByRecursion (IsWritten grammar key) (map To_client to_client ++ map To_logger to_logger)
     → AllByRecursion AreBytes (map packet.spelling to_client) → AllByRecursion AreBytes (map (message.spelling_by grammar) to_logger)
@@ -103,7 +103,7 @@ have_wires grammar key (segment ∷ more) to_logger w s m = ((w.0.1, payload_byt
 
 logger_wires : (grammar : Grammar) (to_logger : List Message) → map message_to_logger (map (message.spelling_by grammar) to_logger) ≡ map (wire_by grammar) (map To_logger to_logger)
 logger_wires grammar [] = refl
-logger_wires grammar (told ∷ more) = ap (λ ws. message_to_logger (message.spelling_by grammar told) ∷ ws) (logger_wires grammar more)
+logger_wires grammar (reported ∷ more) = ap (λ ws. message_to_logger (message.spelling_by grammar reported) ∷ ws) (logger_wires grammar more)
 
 all_wires : (grammar : Grammar) (key : Key) (to_client : List Segment) (to_logger : List Message) → AllByRecursion (IsWritten grammar key) (map To_client to_client ++ map To_logger to_logger)
     → wires_of key (map packet.spelling to_client) (map (message.spelling_by grammar) to_logger) ≡ map (wire_by grammar) (map To_client to_client ++ map To_logger to_logger)
@@ -116,7 +116,7 @@ all_wires grammar key (segment ∷ more) to_logger w =
 in_range : {S : Type 0} (service : Machine S) (c : ConnState S) (q : Point) → FitsKey q.key → q.mss ≤ 1460 → LeavesRoom q.mss q.timestamping → echoed q.timestamping < 2 ^ 32
     → sound.IsSound c → conn.Stands service c q → IsInRange q
 in_range service c q key size room echo s st =
-    let t = tells service q c s st in
+    let t = reports service q c s st in
     let parts = s.parts in record {
       key = key;
       sisn = subst (λ n. n < 2 ^ 32) (ap (λ x. x.sisn) st.keeps.south) s.sisn;
@@ -128,12 +128,12 @@ in_range service c q key size room echo s st =
       count = omega (arith, t.reads, parts.count, one_at_most c.north.ended, parts.read, parts.limit, parts.tcp.bounds.taken);
     }
 
-lengths_low : (reads : List ReadRecord) → AreTellable reads → AreLow (lengths_of reads)
+lengths_low : (reads : List ReadRecord) → AreWritable reads → AreLow (lengths_of reads)
 lengths_low [] all = tt
 lengths_low (read ∷ reads) all = (all.0.length, lengths_low reads all.1)
 
 unanswered_by : {S : Type 0} (service : Machine S) (c : ConnState S) (q : Point) (given : ℕ) → NorthStands service q given c.north → sound.IsSound c → AreLow (drop q.reads_answered q.lengths)
-unanswered_by service c q given north s = subst AreLow north.told (lengths_low c.north.reads s.parts.tellable)
+unanswered_by service c q given north s = subst AreLow north.reported (lengths_low c.north.reads s.parts.writable)
 
 unanswered_low : {S : Type 0} (service : Machine S) (c : ConnState S) (q : Point) (b : Bool) → MatchBool b (StandsReset service q c) (StandsLive service q c) → sound.IsSound c
     → AreLow (drop q.reads_answered q.lengths)
@@ -146,11 +146,11 @@ behind_low m n lengths low all =
     let at : m + (n - m) ≡ n = omega (arith, low) in
     subst (λ k. AreLow (drop k lengths)) at (subst AreLow (drop-drop (n - m) m lengths) (lengths_drop (n - m) (drop m lengths) all))
 
-told_low : (news : News) (p q : Point) → q.reads_answered ≤ length p.lengths → AreLow (drop q.reads_answered q.lengths) → AreLow (drop (first_told news p q) q.lengths)
-told_low Ticks p q few all = all
-told_low (Comes segment) p q few all = behind_low q.reads_answered (length p.lengths) q.lengths few all
-told_low (Logged kept) p q few all = behind_low q.reads_answered (length p.lengths) q.lengths few all
-told_low Begins p q few all = behind_low q.reads_answered (length p.lengths) q.lengths few all
+reported_low : (news : News) (p q : Point) → q.reads_answered ≤ length p.lengths → AreLow (drop q.reads_answered q.lengths) → AreLow (drop (first_reported news p q) q.lengths)
+reported_low Ticks p q few all = all
+reported_low (Comes segment) p q few all = behind_low q.reads_answered (length p.lengths) q.lengths few all
+reported_low (Logged kept) p q few all = behind_low q.reads_answered (length p.lengths) q.lengths few all
+reported_low Begins p q few all = behind_low q.reads_answered (length p.lengths) q.lengths few all
 
 -- either kind of turn
 Goes : {S : Type 0} → Machine S → Addr → (boot : ℕ) → News → Point → Point → List Packet → Bool → Type 0
@@ -195,7 +195,7 @@ unfolding Goes
 all_written service server boot news p q sent true a up short r few low t = reset_written (grammar_by q.batches) boot news p q sent up r.key t
 all_written service server boot news p q sent false a up short r few low t =
     let below : q.reads_answered ≤ length p.lengths = subst (λ n. n ≤ length p.lengths) (sym t.reads_answered) (counts_within news p few) in
-    live_written service server boot news p q sent a up short r (told_low news p q below low) t
+    live_written service server boot news p q sent a up short r (reported_low news p q below low) t
 
 -- a connection's segments fit a packet, with its timestamps
 abbrev pub Fits : Point → Type 0
@@ -228,7 +228,7 @@ acts service server boot news p now segments messages typed short size few s loc
       turn = l.goes;
       wires = (λ j. wires_of p.key (x.segments_are j) (x.messages_are j)) ∙ all_wires grammar p.key x.to_client x.to_logger written ∙ ap (map (wire_by grammar)) (sym x.order);
       spelled = subst (AllByRecursion (HasWireBy grammar)) (sym x.order)
-          (have_wires grammar p.key x.to_client x.to_logger written (subst (AllByRecursion AreBytes) x.segments_are typed.sent) (subst (AllByRecursion AreBytes) x.messages_are typed.told));
+          (have_wires grammar p.key x.to_client x.to_logger written (subst (AllByRecursion AreBytes) x.segments_are typed.sent) (subst (AllByRecursion AreBytes) x.messages_are typed.reported));
     }
 
 -- its packets after those of the others

@@ -35,13 +35,13 @@ use Rattle.wrapped_conn.specs.Arrival.{arrived, before_segment}
 use Rattle.wrapped_conn.specs.NewConnection.{first_conn_in}
 use Rattle.wrapped_conn.specs.ConnState.{ConnState}
 use Rattle.wrapped_conn.specs.Numbers.{una_units, resets}
-use Rattle.wrapped_conn.specs.LoggerMessages as told
-use Rattle.wrapped_conn.specs.Turn.{Starts, Receives, IsTold, Ticks as TicksOn, new_reads, with_logged, counted, ticked}
+use Rattle.wrapped_conn.specs.LoggerMessages as reported
+use Rattle.wrapped_conn.specs.Turn.{Starts, Receives, IsReported, Ticks as TicksOn, new_reads, with_logged, counted, ticked}
 use Rattle.wrapped_conn.proofs.Sendable.{FitsKey}
 use Rattle.node_serving.specs.declared.identity.Identity.{Identity}
 use Rattle.node_serving.specs.Conn.{IsSound, Belongs}
 use Rattle.node_serving.specs.SentBytes.{wires_of, segment_to, message_to_logger}
-use Rattle.node_serving.specs.Ownership.{tells_of, IsFor, IsOnlyFor}
+use Rattle.node_serving.specs.Ownership.{reports_of, IsFor, IsOnlyFor}
 use Rattle.node_serving.proofs.Acting.{IsSame, either, arrived_same, starts_same}
 
 -- what is read of bytes, if anything is, is what their kind has there
@@ -92,27 +92,27 @@ key_there grammar message check key more is fits =
     (port_there grammar message check key.ip key.port more is fits.port) ∙ key_is key
 
 -- a message that tells of a key is read as one of it
-told_there : (grammar : Grammar) (message : Message) (own key : Key) (kind : Kind) (more : List ℕ) → kind_of message.body ≡ kind
+reported_there : (grammar : Grammar) (message : Message) (own key : Key) (kind : Kind) (more : List ℕ) → kind_of message.body ≡ kind
     → numbers_bytes (fields_of (kind_of message.body)) (numbers_of message.body) ≡ number_bytes 4 own.ip ++ (number_bytes 2 own.port ++ more) → FitsKey key → key_eq own key ≡ true
     → ((bytes : List ℕ) → (let there : Key = record { ip = number_in 4 (drop 16 bytes); port = number_in 2 (drop 4 (drop 16 bytes)) } in key_eq there key) ≡ true
-    → tells_of (message_in kind bytes).body key ≡ true)
-    → IfOk (reading_by grammar (spelling_by grammar message)) (λ read. tells_of read.body key ≡ true)
+    → reports_of (message_in kind bytes).body key ≡ true)
+    → IfOk (reading_by grammar (spelling_by grammar message)) (λ read. reports_of read.body key ≡ true)
 unfolding spelling_by
-told_there grammar message own key kind more which is fits its says =
+reported_there grammar message own key kind more which is fits its says =
     let check : ℕ = checksum (spelled grammar message 0) in
     let same : own ≡ key = same_key own key its in
-    reads_so grammar (spelled grammar message check) kind (λ read. tells_of read.body key ≡ true) (kind_there grammar message check ∙ ap Some which)
+    reads_so grammar (spelled grammar message check) kind (λ read. reports_of read.body key ≡ true) (kind_there grammar message check ∙ ap Some which)
     (says (spelled grammar message check)
     (key_there grammar message check key more (is ∙ ap (λ (k : Key). number_bytes 4 k.ip ++ (number_bytes 2 k.port ++ more)) same) fits))
 
-pub reads_of : (grammar : Grammar) (boot : ℕ) (said : Body) (key : Key) → FitsKey key → tells_of said key ≡ true
-    → (let message : Message = record { boot = boot; body = said } in IfOk (reading_by grammar (spelling_by grammar message)) (λ read. tells_of read.body key ≡ true))
+pub reads_of : (grammar : Grammar) (boot : ℕ) (said : Body) (key : Key) → FitsKey key → reports_of said key ≡ true
+    → (let message : Message = record { boot = boot; body = said } in IfOk (reading_by grammar (spelling_by grammar message)) (λ read. reports_of read.body key ≡ true))
 unfolding message_in
-reads_of grammar boot (body.OpenMsg numbers) key fits its = told_there grammar (record { boot = boot; body = body.OpenMsg numbers }) numbers.key key kinds.Open _ refl refl fits its (λ bytes there. there)
-reads_of grammar boot (body.DataMsg part) key fits its = told_there grammar (record { boot = boot; body = body.DataMsg part }) part.key key kinds.Data _ refl refl fits its (λ bytes there. there)
+reads_of grammar boot (body.OpenMsg numbers) key fits its = reported_there grammar (record { boot = boot; body = body.OpenMsg numbers }) numbers.key key kinds.Open _ refl refl fits its (λ bytes there. there)
+reads_of grammar boot (body.DataMsg part) key fits its = reported_there grammar (record { boot = boot; body = body.DataMsg part }) part.key key kinds.Data _ refl refl fits its (λ bytes there. there)
 reads_of grammar boot (body.ReadMsg own index length) key fits its =
-    told_there grammar (record { boot = boot; body = body.ReadMsg own index length }) own key kinds.Read _ refl refl fits its (λ bytes there. there)
-reads_of grammar boot (body.DoneMsg own) key fits its = told_there grammar (record { boot = boot; body = body.DoneMsg own }) own key kinds.Done _ refl refl fits its (λ bytes there. there)
+    reported_there grammar (record { boot = boot; body = body.ReadMsg own index length }) own key kinds.Read _ refl refl fits its (λ bytes there. there)
+reads_of grammar boot (body.DoneMsg own) key fits its = reported_there grammar (record { boot = boot; body = body.DoneMsg own }) own key kinds.Done _ refl refl fits its (λ bytes there. there)
 reads_of grammar boot body.HelloMsg key fits its = absurd (true≢false (sym its))
 reads_of grammar boot (body.SummaryMsg n) key fits its = absurd (true≢false (sym its))
 reads_of grammar boot (body.ListMsg n) key fits its = absurd (true≢false (sym its))
@@ -129,26 +129,26 @@ reads_of grammar boot (body.StaleMsg n) key fits its = absurd (true≢false (sym
 reads_of grammar boot (body.FullMsg k) key fits its = absurd (true≢false (sym its))
 
 -- the segments and the messages that a connection gives out in a turn are its key's
-pub wires_for : (wide : Bool) (boot : ℕ) (key : Key) (segments : List (List ℕ)) (bodies : List Body) → FitsKey key → AllByRecursion (λ said. tells_of said key ≡ true) bodies
-    → AllByRecursion (IsFor (told.grammar_by wide) key) (wires_of key segments (told.spelled wide boot bodies))
-wires_for wide boot key segments bodies fits all = all_append (IsFor (told.grammar_by wide) key) (map (segment_to key) segments) (map message_to_logger (told.spelled wide boot bodies)) (sent segments) (tell bodies all)
+pub wires_for : (wide : Bool) (boot : ℕ) (key : Key) (segments : List (List ℕ)) (bodies : List Body) → FitsKey key → AllByRecursion (λ said. reports_of said key ≡ true) bodies
+    → AllByRecursion (IsFor (reported.grammar_by wide) key) (wires_of key segments (reported.spelled wide boot bodies))
+wires_for wide boot key segments bodies fits all = all_append (IsFor (reported.grammar_by wide) key) (map (segment_to key) segments) (map message_to_logger (reported.spelled wide boot bodies)) (sent segments) (shown bodies all)
   where
-    sent : (xs : List (List ℕ)) → AllByRecursion (IsFor (told.grammar_by wide) key) (map (segment_to key) xs)
+    sent : (xs : List (List ℕ)) → AllByRecursion (IsFor (reported.grammar_by wide) key) (map (segment_to key) xs)
     sent [] = tt
     sent (x ∷ xs) = (key_is key, sent xs)
 
-    tell : (more : List Body) → AllByRecursion (λ said. tells_of said key ≡ true) more → AllByRecursion (IsFor (told.grammar_by wide) key) (map message_to_logger (told.spelled wide boot more))
-    tell [] a = tt
-    tell (said ∷ more) a = (reads_of (told.grammar_by wide) boot said key fits a.0, tell more a.1)
+    shown : (more : List Body) → AllByRecursion (λ said. reports_of said key ≡ true) more → AllByRecursion (IsFor (reported.grammar_by wide) key) (map message_to_logger (reported.spelled wide boot more))
+    shown [] a = tt
+    shown (said ∷ more) a = (reads_of (reported.grammar_by wide) boot said key fits a.0, shown more a.1)
 
 -- what each turn tells is of the connection's own key
-datas_own : (key : Key) (k acked offset : ℕ) (bytes : List ℕ) (fin : Bool) → AllByRecursion (λ said. tells_of said key ≡ true) (datas k key acked offset bytes fin)
+datas_own : (key : Key) (k acked offset : ℕ) (bytes : List ℕ) (fin : Bool) → AllByRecursion (λ said. reports_of said key ≡ true) (datas k key acked offset bytes fin)
 unfolding datas
 datas_own key zero acked offset bytes fin = tt
 datas_own key (suc k) acked offset bytes fin = go (nat_lt 1460 (length bytes)) (nat_lt 0 (length bytes) || fin) (datas_own key k acked (offset + 1460) (drop 1460 bytes) fin)
   where
-    go : (long some : Bool) → AllByRecursion (λ said. tells_of said key ≡ true) (datas k key acked (offset + 1460) (drop 1460 bytes) fin)
-        → AllByRecursion (λ said. tells_of said key ≡ true)
+    go : (long some : Bool) → AllByRecursion (λ said. reports_of said key ≡ true) (datas k key acked (offset + 1460) (drop 1460 bytes) fin)
+        → AllByRecursion (λ said. reports_of said key ≡ true)
         (if long
         then body.DataMsg (record { key = key; offset = offset; acked = acked; fin = false; more = false; bytes = take 1460 bytes }) ∷ datas k key acked (offset + 1460) (drop 1460 bytes) fin
         else (if some then body.DataMsg (record { key = key; offset = offset; acked = acked; fin = fin; more = false; bytes = bytes }) ∷ [] else []))
@@ -157,99 +157,99 @@ datas_own key (suc k) acked offset bytes fin = go (nat_lt 1460 (length bytes)) (
     go false false rest = tt
 
 -- a Data that another follows tells of the same key
-more_told : (said : Body) (key : Key) → tells_of (with_more said) key ≡ tells_of said key
-more_told (body.DataMsg part) key = refl
-more_told _ key = refl
+more_reported : (said : Body) (key : Key) → reports_of (with_more said) key ≡ reports_of said key
+more_reported (body.DataMsg part) key = refl
+more_reported _ key = refl
 
-batch_own : (key : Key) (bodies : List Body) → AllByRecursion (λ said. tells_of said key ≡ true) bodies → AllByRecursion (λ said. tells_of said key ≡ true) (batch bodies)
+batch_own : (key : Key) (bodies : List Body) → AllByRecursion (λ said. reports_of said key ≡ true) bodies → AllByRecursion (λ said. reports_of said key ≡ true) (batch bodies)
 unfolding batch
 batch_own key [] a = tt
 batch_own key (last ∷ []) a = a
-batch_own key (first ∷ next ∷ others) a = (more_told first key ∙ a.0, batch_own key (next ∷ others) a.1)
+batch_own key (first ∷ next ∷ others) a = (more_reported first key ∙ a.0, batch_own key (next ∷ others) a.1)
 
-copied_own : {S : Type 0} (segment : Segment) (old c : ConnState S) → AllByRecursion (λ said. tells_of said c.key ≡ true) (told.copies (before_segment old segment) segment c)
-unfolding told.copies
-copied_own segment old c = batched c.batches (told.or_una (una_units old) c (told.own_data segment c ++ told.further_data (before_segment old segment) segment c))
-    (una (told.own_data segment c ++ told.further_data (before_segment old segment) segment c)
-    (all_append (λ said. tells_of said c.key ≡ true) (told.own_data segment c) (told.further_data (before_segment old segment) segment c)
+copied_own : {S : Type 0} (segment : Segment) (old c : ConnState S) → AllByRecursion (λ said. reports_of said c.key ≡ true) (reported.copies (before_segment old segment) segment c)
+unfolding reported.copies
+copied_own segment old c = batched c.batches (reported.or_una (una_units old) c (reported.own_data segment c ++ reported.further_data (before_segment old segment) segment c))
+    (una (reported.own_data segment c ++ reported.further_data (before_segment old segment) segment c)
+    (all_append (λ said. reports_of said c.key ≡ true) (reported.own_data segment c) (reported.further_data (before_segment old segment) segment c)
     (own (is_some_copied (copied c.south segment))) (datas_own c.key _ _ _ _ _)))
   where
-    batched : (b : Bool) (bodies : List Body) → AllByRecursion (λ said. tells_of said c.key ≡ true) bodies → AllByRecursion (λ said. tells_of said c.key ≡ true) (told.in_batch b bodies)
+    batched : (b : Bool) (bodies : List Body) → AllByRecursion (λ said. reports_of said c.key ≡ true) bodies → AllByRecursion (λ said. reports_of said c.key ≡ true) (reported.in_batch b bodies)
     batched false bodies a = a
     batched true bodies a = batch_own c.key bodies a
 
-    own : (b : Bool) → AllByRecursion (λ said. tells_of said c.key ≡ true) (if b then body.DataMsg (told.part_of c (copied c.south segment)) ∷ [] else [])
+    own : (b : Bool) → AllByRecursion (λ said. reports_of said c.key ≡ true) (if b then body.DataMsg (reported.part_of c (copied c.south segment)) ∷ [] else [])
     own true = (key_is c.key, tt)
     own false = tt
 
-    una : (bodies : List Body) → AllByRecursion (λ said. tells_of said c.key ≡ true) bodies → AllByRecursion (λ said. tells_of said c.key ≡ true) (told.or_una (una_units old) c bodies)
+    una : (bodies : List Body) → AllByRecursion (λ said. reports_of said c.key ≡ true) bodies → AllByRecursion (λ said. reports_of said c.key ≡ true) (reported.or_una (una_units old) c bodies)
     una [] a = lone (nat_lt (una_units old) (una_units c))
       where
-        lone : (b : Bool) → AllByRecursion (λ said. tells_of said c.key ≡ true) (if b then body.DataMsg (told.acked_part c) ∷ [] else [])
+        lone : (b : Bool) → AllByRecursion (λ said. reports_of said c.key ≡ true) (if b then body.DataMsg (reported.acked_part c) ∷ [] else [])
         lone true = (key_is c.key, tt)
         lone false = tt
     una (said ∷ more) a = a
 
-reads_own : (key : Key) (reads : List ReadRecord) → AllByRecursion (λ said. tells_of said key ≡ true) (messages_of key reads)
+reads_own : (key : Key) (reads : List ReadRecord) → AllByRecursion (λ said. reports_of said key ≡ true) (messages_of key reads)
 reads_own key [] = tt
 reads_own key (read ∷ reads) = (key_is key, reads_own key reads)
 
-done_own : {S : Type 0} (c : ConnState S) → AllByRecursion (λ said. tells_of said c.key ≡ true) (told.dones c)
-done_own c = go (told.is_done c.stage)
+done_own : {S : Type 0} (c : ConnState S) → AllByRecursion (λ said. reports_of said c.key ≡ true) (reported.dones c)
+done_own c = go (reported.is_done c.stage)
   where
-    go : (b : Bool) → AllByRecursion (λ said. tells_of said c.key ≡ true) (if b then [] else body.DoneMsg c.key ∷ [])
+    go : (b : Bool) → AllByRecursion (λ said. reports_of said c.key ≡ true) (if b then [] else body.DoneMsg c.key ∷ [])
     go true = tt
     go false = (key_is c.key, tt)
 
 -- all that leaves in a turn of a connection is of its key
-pub record TellsOwn {S : Type 0} (c : ConnState S) (messages : List (List ℕ)) : Type 0 where
+pub record ReportsOwn {S : Type 0} (c : ConnState S) (messages : List (List ℕ)) : Type 0 where
   pub bodies : List Body
-  pub are : messages ≡ told.spelled c.batches c.boot bodies
-  pub own : AllByRecursion (λ said. tells_of said c.key ≡ true) bodies
+  pub are : messages ≡ reported.spelled c.batches c.boot bodies
+  pub own : AllByRecursion (λ said. reports_of said c.key ≡ true) bodies
 
-goes_own : {S : Type 0} (bodies : List Body) (reads : List ReadRecord) (c : ConnState S) (messages : List (List ℕ)) → AllByRecursion (λ said. tells_of said c.key ≡ true) bodies
-    → messages ≡ told.spelled c.batches c.boot (bodies ++ messages_of c.key reads) → TellsOwn c messages
-goes_own bodies reads c messages own told_is = record {
+goes_own : {S : Type 0} (bodies : List Body) (reads : List ReadRecord) (c : ConnState S) (messages : List (List ℕ)) → AllByRecursion (λ said. reports_of said c.key ≡ true) bodies
+    → messages ≡ reported.spelled c.batches c.boot (bodies ++ messages_of c.key reads) → ReportsOwn c messages
+goes_own bodies reads c messages own reported_is = record {
   bodies = bodies ++ messages_of c.key reads;
-  are = told_is;
-  own = all_append (λ said. tells_of said c.key ≡ true) bodies (messages_of c.key reads) own (reads_own c.key reads);
+  are = reported_is;
+  own = all_append (λ said. reports_of said c.key ≡ true) bodies (messages_of c.key reads) own (reads_own c.key reads);
 }
 
-pub starts_own : {S : Type 0} (after : S → List ℕ → Served S) (c now : ConnState S) (segments messages : List (List ℕ)) → Starts after c now segments messages → TellsOwn c messages
-starts_own after c now segments messages r = goes_own [] (new_reads c now) c messages tt r.told
+pub starts_own : {S : Type 0} (after : S → List ℕ → Served S) (c now : ConnState S) (segments messages : List (List ℕ)) → Starts after c now segments messages → ReportsOwn c messages
+starts_own after c now segments messages r = goes_own [] (new_reads c now) c messages tt r.reported
 
 pub receives_own : {S : Type 0} (service : Machine S) (segment : Segment) (c now : ConnState S) (segments messages : List (List ℕ)) → Receives service.after segment c now segments messages
-    → TellsOwn c messages
+    → ReportsOwn c messages
 receives_own service segment c now segments messages r =
-    either c.reset r (λ k. record { bodies = []; are = k.told; own = tt })
-    (λ m. either (resets c segment) m (λ k. record { bodies = told.dones c; are = k.told; own = done_own c })
+    either c.reset r (λ k. record { bodies = []; are = k.reported; own = tt })
+    (λ m. either (resets c segment) m (λ k. record { bodies = reported.dones c; are = k.reported; own = done_own c })
     (λ k.
     let same = arrived_same segment c in
-    let g = goes_own (told.copies (before_segment c segment) segment (arrived segment c)) (new_reads (arrived segment c) now) (arrived segment c) messages (copied_own segment c (arrived segment c)) k.told in record {
+    let g = goes_own (reported.copies (before_segment c segment) segment (arrived segment c)) (new_reads (arrived segment c) now) (arrived segment c) messages (copied_own segment c (arrived segment c)) k.reported in record {
       bodies = g.bodies;
-      are = g.are ∙ ap₂ (λ w b. told.spelled w b g.bodies) same.batches same.boot;
-      own = subst (λ o. AllByRecursion (λ said. tells_of said o ≡ true) g.bodies) same.key g.own;
+      are = g.are ∙ ap₂ (λ w b. reported.spelled w b g.bodies) same.batches same.boot;
+      own = subst (λ o. AllByRecursion (λ said. reports_of said o ≡ true) g.bodies) same.key g.own;
     }))
 
-pub told_own : {S : Type 0} (after : S → List ℕ → Served S) (said : Said) (c now : ConnState S) (segments messages : List (List ℕ)) → IsTold after said c now segments messages → TellsOwn c messages
-told_own after (said.Stable kept) c now segments messages r =
-    either c.reset r (λ k. record { bodies = []; are = k.told; own = tt }) (λ k. goes_own [] (new_reads (with_logged kept.length kept.fin kept.reads c) now) c messages tt k.told)
-told_own after (said.Reads kept) c now segments messages r =
-    either c.reset r (λ k. record { bodies = []; are = k.told; own = tt }) (λ k. goes_own [] (new_reads (with_logged kept.length kept.fin kept.reads c) now) c messages tt k.told)
-told_own after (said.Ended key) c now segments messages r = record { bodies = []; are = r.told; own = tt }
-told_own after _ c now segments messages r = record { bodies = []; are = r.told; own = tt }
+pub reported_own : {S : Type 0} (after : S → List ℕ → Served S) (said : Said) (c now : ConnState S) (segments messages : List (List ℕ)) → IsReported after said c now segments messages → ReportsOwn c messages
+reported_own after (said.Stable kept) c now segments messages r =
+    either c.reset r (λ k. record { bodies = []; are = k.reported; own = tt }) (λ k. goes_own [] (new_reads (with_logged kept.length kept.fin kept.reads c) now) c messages tt k.reported)
+reported_own after (said.Reads kept) c now segments messages r =
+    either c.reset r (λ k. record { bodies = []; are = k.reported; own = tt }) (λ k. goes_own [] (new_reads (with_logged kept.length kept.fin kept.reads c) now) c messages tt k.reported)
+reported_own after (said.Ended key) c now segments messages r = record { bodies = []; are = r.reported; own = tt }
+reported_own after _ c now segments messages r = record { bodies = []; are = r.reported; own = tt }
 
-pub ticks_own : {S : Type 0} (c now : ConnState S) (segments messages : List (List ℕ)) → TicksOn c now segments messages → TellsOwn c messages
+pub ticks_own : {S : Type 0} (c now : ConnState S) (segments messages : List (List ℕ)) → TicksOn c now segments messages → ReportsOwn c messages
 ticks_own c now segments messages r =
-    either c.reset r (λ k. record { bodies = told.dones c; are = k.told; own = done_own c })
+    either c.reset r (λ k. record { bodies = reported.dones c; are = k.reported; own = done_own c })
     (λ k. record {
-      bodies = messages_of c.key c.north.reads ++ (if (counted (ticked c)).end_ticks == 4 then told.dones c else []);
-      are = k.told;
-      own = all_append (λ said. tells_of said c.key ≡ true) (messages_of c.key c.north.reads) (if (counted (ticked c)).end_ticks == 4 then told.dones c else [])
+      bodies = messages_of c.key c.north.reads ++ (if (counted (ticked c)).end_ticks == 4 then reported.dones c else []);
+      are = k.reported;
+      own = all_append (λ said. reports_of said c.key ≡ true) (messages_of c.key c.north.reads) (if (counted (ticked c)).end_ticks == 4 then reported.dones c else [])
           (reads_own c.key c.north.reads) (last ((counted (ticked c)).end_ticks == 4));
     })
   where
-    last : (b : Bool) → AllByRecursion (λ said. tells_of said c.key ≡ true) (if b then told.dones c else [])
+    last : (b : Bool) → AllByRecursion (λ said. reports_of said c.key ≡ true) (if b then reported.dones c else [])
     last true = done_own c
     last false = tt
 
@@ -258,14 +258,14 @@ pub belongs_on : {S : Type 0} (who : Identity) (key : Key) (c now : ConnState S)
 belongs_on who key c now b same s = record { sound = s; client = same.key ∙ b.client; incarnation = same.boot ∙ b.incarnation; batches = same.batches ∙ b.batches }
 
 -- a connection of the key, and what leaves after what was sent
-pub leaves_for : {S : Type 0} (grammar : Grammar) (key : Key) (c : ConnState S) (segments messages : List (List ℕ)) (old new : List Wire) → FitsKey key → c.key ≡ key → told.grammar_by c.batches ≡ grammar
-    → TellsOwn c messages → new ≡ old ++ wires_of key segments messages → IsOnlyFor grammar key old new
+pub leaves_for : {S : Type 0} (grammar : Grammar) (key : Key) (c : ConnState S) (segments messages : List (List ℕ)) (old new : List Wire) → FitsKey key → c.key ≡ key → reported.grammar_by c.batches ≡ grammar
+    → ReportsOwn c messages → new ≡ old ++ wires_of key segments messages → IsOnlyFor grammar key old new
 leaves_for grammar key c segments messages old new fits own its t put = record {
-  told = wires_of key segments messages;
+  reported = wires_of key segments messages;
   put = put;
   alone = subst (λ ms. AllByRecursion (IsFor grammar key) (wires_of key segments ms)) (sym t.are)
-      (subst (λ g. AllByRecursion (IsFor g key) (wires_of key segments (told.spelled c.batches c.boot t.bodies))) its
-      (wires_for c.batches c.boot key segments t.bodies fits (subst (λ k. AllByRecursion (λ said. tells_of said k ≡ true) t.bodies) own t.own)));
+      (subst (λ g. AllByRecursion (IsFor g key) (wires_of key segments (reported.spelled c.batches c.boot t.bodies))) its
+      (wires_for c.batches c.boot key segments t.bodies fits (subst (λ k. AllByRecursion (λ said. reports_of said k ≡ true) t.bodies) own t.own)));
 }
 
 -- what holds of the packet that a codec accepts
@@ -279,11 +279,11 @@ came_ok bytes P ok h = go (packets.reading bytes) ok h
 -- a new connection
 pub first_own : {S : Type 0} (after : S → List ℕ → Served S) (profile : Profile) (timestamping : Timestamping) (boot : ℕ) (server : Addr) (numbers : Numbers) (fresh : S) (greeting : List ℕ) (now : ConnState S) (segments messages : List (List ℕ)) (old new : List Wire)
     → FitsKey numbers.key → Starts after (first_conn_in profile timestamping boot numbers.key server numbers.cisn numbers.sisn numbers.mss fresh greeting) now segments messages
-    → new ≡ old ++ wires_of numbers.key segments messages → IsOnlyFor (told.grammar_by profile.batches) numbers.key old new
+    → new ≡ old ++ wires_of numbers.key segments messages → IsOnlyFor (reported.grammar_by profile.batches) numbers.key old new
 unfolding first_conn_in
 first_own after profile timestamping boot server numbers fresh greeting now segments messages old new fits r put =
     let c = first_conn_in profile timestamping boot numbers.key server numbers.cisn numbers.sisn numbers.mss fresh greeting in
-    leaves_for (told.grammar_by profile.batches) numbers.key c segments messages old new fits refl refl (starts_own after c now segments messages r) put
+    leaves_for (reported.grammar_by profile.batches) numbers.key c segments messages old new fits refl refl (starts_own after c now segments messages r) put
 
 pub first_belongs : {S : Type 0} (service : Machine S) (timestamping : Timestamping) (who : Identity) (server : Addr) (numbers : Numbers) (now : ConnState S) (segments messages : List (List ℕ))
     → Starts service.after (first_conn_in (profile_of who.profile) timestamping who.boot numbers.key server numbers.cisn numbers.sisn numbers.mss service.fresh service.greeting) now segments messages → IsSound now → Belongs who numbers.key now

@@ -85,14 +85,14 @@ pub record KeyMeets {S : Type 0} (service : Machine S) (node : Node) (input : In
   pub wires : of_key (grammar_of node.profile) key sent ≡ map (wire_by (grammar_of node.profile)) packets
   pub spelled : AllByRecursion (HasWireBy (grammar_of node.profile)) packets
 
--- the slots of all keys, each alone; `told` is what the turn has sent, after what was sent before
+-- the slots of all keys, each alone; `reported` is what the turn has sent, after what was sent before
 pub record SlotsAlone {S : Type 0} (service : Machine S) (node : Node) (input : Input) (was now : List (Key × Slot S)) (old new : List Wire) : Type 0 where
-  pub told : List Wire
-  pub put : new ≡ old ++ told
+  pub reported : List Wire
+  pub put : new ≡ old ++ reported
   pub slots : (key : Key) → concerns node input key ≡ false → lookup (key_eq key) now ≡ lookup (key_eq key) was
-  pub whose : AllByRecursion (IsForSubject node input) told
+  pub whose : AllByRecursion (IsForSubject node input) reported
   pub turn : (key : Key) (place : Option Place) → StandsFor service node key (lookup (key_eq key) was) place → IsNearFor node.server input place
-      → KeyMeets service node input key place (lookup (key_eq key) now) told
+      → KeyMeets service node input key place (lookup (key_eq key) now) reported
 
 -- a key's turn: its slot corresponds to the place after it, and the key's packets among those sent are those of the law
 pub record KeyGoes {S : Type 0} (service : Machine S) (node : Node) (input : Input) (key : Key) (place : Option Place) (was now : Serving S)
@@ -114,7 +114,7 @@ GoAlone service node input was now sent =
 
 -- a turn of a node that serves leaves others alone, and each key has its turn
 pub record ServesAlone {S : Type 0} (service : Machine S) (node : Node) (input : Input) (was now : Serving S) (old new : List Wire) : Type 0 where
-  pub told : List Wire
-  pub put : new ≡ old ++ told
-  pub others : LeavesOthers node input was now told
-  pub alone : GoAlone service node input was now told
+  pub reported : List Wire
+  pub put : new ≡ old ++ reported
+  pub others : LeavesOthers node input was now reported
+  pub alone : GoAlone service node input was now reported

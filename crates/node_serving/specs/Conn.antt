@@ -18,7 +18,7 @@ use Rattle.north_wrap.specs.declared.read_record.ReadRecord.{ReadRecord}
 use Rattle.wrapped_conn.specs.ConnState.{ConnState}
 use Rattle.wrapped_conn.specs.Sound.{IsSound as IsSoundConn, LeavesRoom, echoed}
 use Rattle.wrapped_conn.specs.Refinement.{StandsBefore, Stands as StandsConn}
-use Rattle.wrapped_conn.specs.LoggerMessages.{IsTellable, AreTellable}
+use Rattle.wrapped_conn.specs.LoggerMessages.{IsWritable, AreWritable}
 use Rattle.node_serving.specs.declared.identity.Identity.{Identity}
 use Rattle.node_serving.specs.SentBytes.{wires_of}
 
@@ -49,12 +49,12 @@ pub record Belongs {S : Type 0} (who : Identity) (key : Key) (c : ConnState S) :
   pub incarnation : c.boot ≡ who.boot
   pub batches : c.batches ≡ (profile_of who.profile).batches
 
-tellable-prop : (reads : List ReadRecord) → IsProp (AreTellable reads)
-tellable-prop reads = AllByRecursion-prop IsTellable (λ read. hlevel props) reads
+writable-prop : (reads : List ReadRecord) → IsProp (AreWritable reads)
+writable-prop reads = AllByRecursion-prop IsWritable (λ read. hlevel props) reads
 
 pub IsSound-prop : {S : Type 0} (c : ConnState S) → IsProp (IsSound c)
 unfolding IsSound
-IsSound-prop c = hlevel (props, tellable-prop)
+IsSound-prop c = hlevel (props, writable-prop)
 
 key-set : (a b : Key) → IsProp (a ≡ b)
 key-set a b = hlevel props

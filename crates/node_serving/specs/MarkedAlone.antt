@@ -56,13 +56,13 @@ abbrev pub plain_input : MarkedInput → Input
 plain_input (Plain_comes input) = input
 plain_input (Mark_comes message) = Noise_comes
 
--- a turn: but for its marks it is one of a node without marks, whose packets are `told`. The markings of keys that the input isn't about stay
+-- a turn: but for its marks it is one of a node without marks, whose packets are `reported`. The markings of keys that the input isn't about stay
 pub record GoesBesideMarks {S : Type 0} (service : Machine S) (node : Node) (i : MarkedInput) (was now : Serving S) (marks later : KeyMarks)
     (old new : List Wire) : Type 0 where
-  pub told : List Wire
-  pub others : LeavesOthers node (plain_input i) was now told
-  pub alone : GoAlone service node (plain_input i) was now told
-  pub among : AreAmong (IsMarkOfSubject node i) (old ++ told) new
+  pub reported : List Wire
+  pub others : LeavesOthers node (plain_input i) was now reported
+  pub alone : GoAlone service node (plain_input i) was now reported
+  pub among : AreAmong (IsMarkOfSubject node i) (old ++ reported) new
   pub markings : (key : Key) → concerns_marked node i key ≡ false → marking_in later key ≡ marking_in marks key
 
 -- a slot's tick: first its packets, and then its marks, among them
@@ -75,9 +75,9 @@ pub record SlotTicksBeside {S : Type 0} (service : Machine S) (who : Identity) (
 
 -- the tick of all slots
 pub record AllTickBeside {S : Type 0} (service : Machine S) (node : Node) (was now : List (Key × Slot S)) (old new : List Wire) : Type 0 where
-  pub told : List Wire
-  pub slots : SlotsAlone service node Tick_comes was now [] told
-  pub among : AreAmong (IsMarkOfSubject node (Plain_comes Tick_comes)) (old ++ told) new
+  pub reported : List Wire
+  pub slots : SlotsAlone service node Tick_comes was now [] reported
+  pub among : AreAmong (IsMarkOfSubject node (Plain_comes Tick_comes)) (old ++ reported) new
 
 -- for a service, given by its ghost members, and an incarnation
 module _ {S : Type 0} (s : Ghosts S) (who : Identity) where

@@ -9,7 +9,7 @@ use Rattle.ft_model.specs.Node.Input.{Tick_comes}
 use Rattle.ft_model.specs.ServingTurn.{PlaceTurn, newcomers}
 use Rattle.ft_model.specs.Wire.{Wire}
 use Rattle.mark_laws.specs.Marking.{Marking, Outgoing}
-use Rattle.mark_laws.specs.MarkedNode.{Marker, MarkedNode, GoesMarked, AllGoMarked, ServesMarked, HearsOfMark, marks_at}
+use Rattle.mark_laws.specs.MarkedNode.{Marker, MarkedNode, GoesMarked, AllGoMarked, ServesMarked, ReceivesOfMark, marks_at}
 use Rattle.conn_marks.specs.KeyMarks.{KeyMarks}
 use Rattle.node_serving.specs.declared.identity.Identity.{Identity}
 use Rattle.node_serving.specs.declared.serving.Serving.{Serving}
@@ -71,11 +71,11 @@ pub record ServingGoesMarked {S : Type 0} (by : Marker S) (node : MarkedNode) (i
   pub out : AreOut (grammar_of node.plain.profile) sent old new
 
 -- what an answer to a mark leads to
-pub record HeardOfMark {S : Type 0} (by : Marker S) (node : MarkedNode) (places : List Place) (message : MarkMessage) (marks : KeyMarks)
+pub record ReceivedOfMark {S : Type 0} (by : Marker S) (node : MarkedNode) (places : List Place) (message : MarkMessage) (marks : KeyMarks)
     (old new : List Wire) : Type 0 where
   pub marking : Key → Marking
   pub sent : List Outgoing
-  pub hears : HearsOfMark by node places message.body sent (record node { marking = marking })
+  pub on_receipt : ReceivesOfMark by node places message.body sent (record node { marking = marking })
   pub keeps : Keeps by marking marks
   pub settled : AllSettled by marking places
   pub out : AreOut (grammar_of node.plain.profile) sent old new
@@ -107,9 +107,9 @@ module _ {S : Type 0} (s : Ghosts S) (v : Saving S) (who : Identity) where
       → AllSettled (marker_of s v who every) marking places → ServingStands (service_of s who) (node_of who standing) opened places was
       → ServingGoesMarked (marker_of s v who every) (node_at who standing awaits marking) input opened places now later old.sent.items new.sent.items
 
-  abbrev pub ServingHears : MarkMessage → Serving S → (marks later : KeyMarks) → (old new : Turn) → Type 0
-  ServingHears message now marks later old new =
+  abbrev pub ServingReceives : MarkMessage → Serving S → (marks later : KeyMarks) → (old new : Turn) → Type 0
+  ServingReceives message now marks later old new =
       (every : ℕ) (standing : law_stage) (awaits : Bool) (marking : Key → Marking) (opened : ℕ) (places : List Place)
       → Keeps (marker_of s v who every) marking marks → AllSettled (marker_of s v who every) marking places
       → ServingStands (service_of s who) (node_of who standing) opened places now
-      → HeardOfMark (marker_of s v who every) (node_at who standing awaits marking) places message later old.sent.items new.sent.items
+      → ReceivedOfMark (marker_of s v who every) (node_at who standing awaits marking) places message later old.sent.items new.sent.items

@@ -8,7 +8,7 @@ use Rattle.tcp_rules.specs.Timestamping.{timestamps_sent}
 use Rattle.seq_arith.specs.Message.Body.{OpenMsg}
 use Rattle.server_trait.specs.Service.{Machine}
 use Rattle.tcp_rules.specs.Profile.{grammar_of}
-use Rattle.ft_model.specs.Connection.{told_by}
+use Rattle.ft_model.specs.Connection.{reported_by}
 use Rattle.ft_model.specs.Network.{Packet, source_of}
 use Rattle.ft_model.specs.Node.{Node, Place, Input}
 use Rattle.ft_model.specs.Node.Place.{Opens}
@@ -54,7 +54,7 @@ pub record Opened {S : Type 0} (node : Node) (segment : Segment) (key : Key) (nu
   pub timestamping : opening.timestamping ≡ timestamping_for node.profile segment
   pub counted : next ≡ (number + 65536) % 2 ^ 32
   pub slots : now ≡ was ++ (key, slot.Pending opening) ∷ []
-  pub asked : ArePut (grammar_of node.profile) (told_by node.boot (OpenMsg (numbers_of key opening)) ∷ []) old new
+  pub asked : ArePut (grammar_of node.profile) (reported_by node.boot (OpenMsg (numbers_of key opening)) ∷ []) old new
 
 pub record Waits {S : Type 0} (first next : ℕ) (was now : List (Key × Slot S)) (old new : List Wire) : Type 0 where
   pub number : next ≡ first

@@ -12,21 +12,21 @@ use Rattle.ft_model.specs.Wire.{Wire, Party}
 use Rattle.ft_model.specs.Wire.Party.{A_client, The_server, The_logger}
 
 -- whether a message of the server is about this key's connection
-abbrev pub tells_of : Body → Key → Bool
-tells_of (OpenMsg numbers) key = key_eq numbers.key key
-tells_of (DataMsg part) key = key_eq part.key key
-tells_of (ReadMsg named index length) key = key_eq named key
-tells_of (DoneMsg named) key = key_eq named key
-tells_of _ key = false
+abbrev pub reports_of : Body → Key → Bool
+reports_of (OpenMsg numbers) key = key_eq numbers.key key
+reports_of (DataMsg part) key = key_eq part.key key
+reports_of (ReadMsg named index length) key = key_eq named key
+reports_of (DoneMsg named) key = key_eq named key
+reports_of _ key = false
 
 -- whether the message that the logger reads in a datagram is about it
-abbrev pub is_told_of : Key → Result Message BadMsg → Bool
-is_told_of key (Ok message) = tells_of message.body key
-is_told_of key (Err bad) = false
+abbrev pub is_reported_of : Key → Result Message BadMsg → Bool
+is_reported_of key (Ok message) = reports_of message.body key
+is_reported_of key (Err bad) = false
 
 abbrev pub goes_to : Grammar → Key → Party → List ℕ → Bool
 goes_to grammar key (A_client client) bytes = key_eq client key
-goes_to grammar key The_logger bytes = is_told_of key (messages.reading_by grammar bytes)
+goes_to grammar key The_logger bytes = is_reported_of key (messages.reading_by grammar bytes)
 goes_to grammar key The_server bytes = false
 
 -- whether a packet is this key's: it is sent to this client, or it is a message to the logger about it
@@ -40,7 +40,7 @@ of_key grammar key sent = filter (is_of grammar key) sent
 -- a packet is this key's alone: only its client gets it, or the logger, and the message that the logger reads there, if it reads one, is about this key
 abbrev pub IsBetween : Grammar → Key → Party → List ℕ → Type 0
 IsBetween grammar key (A_client client) bytes = key_eq client key ≡ true
-IsBetween grammar key The_logger bytes = IfOk (messages.reading_by grammar bytes) (λ message. tells_of message.body key ≡ true)
+IsBetween grammar key The_logger bytes = IfOk (messages.reading_by grammar bytes) (λ message. reports_of message.body key ≡ true)
 IsBetween grammar key The_server bytes = ⊥
 
 abbrev pub IsFor : Grammar → Key → Wire → Type 0
@@ -48,6 +48,6 @@ IsFor grammar key wire = IsBetween grammar key wire.to wire.bytes
 
 -- only packets of this key alone are sent, after what was sent before
 pub record IsOnlyFor (grammar : Grammar) (key : Key) (old new : List Wire) : Type 0 where
-  pub told : List Wire
-  pub put : new ≡ old ++ told
-  pub alone : AllByRecursion (IsFor grammar key) told
+  pub reported : List Wire
+  pub put : new ≡ old ++ reported
+  pub alone : AllByRecursion (IsFor grammar key) reported

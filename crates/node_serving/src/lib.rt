@@ -21,7 +21,7 @@ pub use slots::{add_slot, conn_at, forget_slot, nth_key};
 pub use turn::Turn;
 
 mod excluded;
-mod hearing;
+mod arrivals;
 mod identity;
 mod live;
 mod marked_serving;

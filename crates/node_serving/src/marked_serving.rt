@@ -18,7 +18,7 @@ ghost use Rattle.mark_laws.specs.MarkedNode.MarkedInput.{Plain_comes, Mark_comes
 ghost use Rattle.node_serving.specs.Identity.{grammar_in};
 ghost use Rattle.node_serving.specs.Markers.{saving};
 ghost use Rattle.node_serving.specs.MarkedAlone.{MarksOnly, SlotTickBeside, SlotsTickBeside, ServingTurnsBeside};
-ghost use Rattle.node_serving.specs.MarkedServing.{SlotTicksMarked, AllTickMarked, KeyMarked, ServingTurnsMarked, ServingHears};
+ghost use Rattle.node_serving.specs.MarkedServing.{SlotTicksMarked, AllTickMarked, KeyMarked, ServingTurnsMarked, ServingReceives};
 ghost use Rattle.node_serving.specs.Openings.{IsCounted};
 ghost use Rattle.node_serving.specs.Slots.{AllSound, IsSoundSlot};
 
@@ -215,7 +215,7 @@ pub fn serve_mark<S: Saved>(
     requires counted { IsCounted who.isn serving.now.next.0 }
     requires empty { turn.old.sent.items ≡ [] }
     ensures turn { OnOk result (m.now.boot ≡ who.boot
-        → ServingHears S.Service (saving S.form S.state_of S.is_savable) who (mark_message_of m.now) serving.now marks.old marks.new turn.old turn.new) }
+        → ServingReceives S.Service (saving S.form S.state_of S.is_savable) who (mark_message_of m.now) serving.now marks.old marks.new turn.old turn.new) }
     ensures alone { OnOk result (m.now.boot ≡ who.boot
         → ServingTurnsBeside S.Service who (Mark_comes (mark_message_of m.now)) serving.now serving.now marks.old marks.new turn.old turn.new) }
 {
@@ -240,7 +240,7 @@ fn receive_marked<S: Saved>(
     requires sound { AllSound who serving.now.slots.entries }
     requires empty { turn.old.sent.items ≡ [] }
     ensures alone { OnOk result (MarksOnly who.boot key marks.old marks.new turn.old.sent.items turn.new.sent.items) }
-    ensures turn { OnOk result ((boot : ℕ) → ServingHears S.Service (saving S.form S.state_of S.is_savable) who (record {
+    ensures turn { OnOk result ((boot : ℕ) → ServingReceives S.Service (saving S.form S.state_of S.is_savable) who (record {
       boot = boot;
       body = MarkedMsg key reads;
     })

@@ -9,7 +9,7 @@ ghost use Rattle.seq_arith.specs.Packet.{Segment};
 ghost use Rattle.seq_arith.specs.Message.Body.{OpenMsg};
 ghost use Rattle.seq_arith.specs.Value.{said};
 ghost use Rattle.segment_codec.specs.Value.{segment_of};
-ghost use Rattle.ft_model.specs.Connection.{told_by};
+ghost use Rattle.ft_model.specs.Connection.{reported_by};
 ghost use Rattle.ft_model.specs.Network.{source_of};
 ghost use Rattle.ft_model.specs.Node.{Stage, is_for};
 ghost use Rattle.ft_model.specs.Node.Input.{Packet_comes, Tick_comes};
@@ -19,7 +19,7 @@ ghost use Rattle.node_serving.specs.Openings.{slot_opens, is_pending_slot, pendi
 ghost use Rattle.node_serving.specs.Slots.{numbers_of, AllSound, IsSoundSlot};
 ghost use Rattle.node_serving.specs.Turns.{Sends, SendsOpens, TurnAdmits, TurnAdmitsAlone};
 
-use crate::hearing::opening_at;
+use crate::arrivals::opening_at;
 use crate::identity::Identity;
 use crate::sent::send_message;
 use crate::slot::{Opening, Slot};
@@ -42,7 +42,7 @@ fn ask(who: Identity, key: Key, opening: Opening, turn: &mut Turn) -> Result<(),
     requires boot { 1 ≤ who.boot }
     requires least { 64 ≤ opening.mss }
     requires most { opening.mss ≤ largest_segment }
-    ensures { OnOk result (Sends (grammar_in who) (told_by who.boot (OpenMsg (numbers_of key opening)) ∷ []) turn.old turn.new) }
+    ensures { OnOk result (Sends (grammar_in who) (reported_by who.boot (OpenMsg (numbers_of key opening)) ∷ []) turn.old turn.new) }
 {
     let message = Msg {
         boot: who.boot,

@@ -15,7 +15,7 @@ ghost use Rattle.node_serving.specs.Openings.{IsCounted};
 ghost use Rattle.node_serving.specs.Slots.{AllSound};
 ghost use Rattle.node_serving.specs.Turns.{ServingTurns, ServingTurnsAlone};
 
-use crate::hearing::receive;
+use crate::arrivals::receive;
 use crate::identity::Identity;
 use crate::opening::{admit, ask_again, ask_all};
 use crate::refusal::refuse_unknown;

@@ -50,7 +50,7 @@ given_stands service w p given n s st may =
       };
       rest = st.rest;
       keeps = st.keeps;
-      told = st.told;
+      reported = st.reported;
       numbered = st.numbered;
       unanswered = st.unanswered;
       read = st.read;
@@ -82,7 +82,7 @@ shut_stands service p given n st =
       run = st.run;
       rest = st.rest;
       keeps = st.keeps;
-      told = st.told;
+      reported = st.reported;
       numbered = st.numbered;
       unanswered = st.unanswered;
       read = st.read;

@@ -4,13 +4,13 @@ use Rattle.std.proofs.lemmas.List.{take-append-le}
 use Rattle.server_trait.specs.Service.{Machine, reference}
 use Rattle.ft_model.specs.Point.{Point, made, released, whole_run, answered_run}
 use Rattle.ft_model.proofs.Lists.{take_first}
-use Rattle.ft_model.proofs.Services.{RunExtends, reads_go_on}
+use Rattle.ft_model.proofs.Services.{RunExtends, reads_proceed}
 use Rattle.ft_model.specs.Growth.{IsPrefix}
 use Rattle.north_wrap.specs.Refinement.{with_reads}
 
 -- the answered run is a front of the whole one
 pub answered_front : {S : Type 0} (service : Machine S) (p : Point) → RunExtends (answered_run service p) (whole_run service p)
-answered_front service p = reads_go_on service p.taken (take p.reads_answered p.lengths) p.lengths (take_first p.reads_answered p.lengths)
+answered_front service p = reads_proceed service p.taken (take p.reads_answered p.lengths) p.lengths (take_first p.reads_answered p.lengths)
 
 -- where the logged run has closed, all that is made is released
 pub all_released : {S : Type 0} (service : Machine S) (p : Point) → (answered_run service p).closed ≡ true → made service p ≡ released service p
@@ -36,4 +36,4 @@ front_of_front (suc a) (suc b) (x ∷ xs) h = let rest = front_of_front a b xs (
 -- a service that has closed in the logged run has closed when more reads are logged
 pub still_closed : {S : Type 0} (service : Machine S) (p : Point) (count : ℕ) → p.reads_answered ≤ count → (answered_run service p).closed ≡ true → (reference service p.taken (take count p.lengths)).closed ≡ true
 still_closed service p count h c =
-    ((reads_go_on service p.taken (take p.reads_answered p.lengths) (take count p.lengths) (front_of_front p.reads_answered count p.lengths h)).closed c).1
+    ((reads_proceed service p.taken (take p.reads_answered p.lengths) (take count p.lengths) (front_of_front p.reads_answered count p.lengths h)).closed c).1

@@ -52,7 +52,7 @@ begins_here service p given n h =
           let a : length p.lengths ≤ p.reads_answered + more = omega (arith, h.answered) in
           subst (λ l. RecordsRun (get_or (n.last ∷ n.reads) more n.last) (reference service p.taken l)) (sym (take_all (p.reads_answered + more) p.lengths a))
           (subst (λ m. RecordsRun (get_or (n.last ∷ n.reads) m n.last) (whole_run service p)) (sym e) (record { made = h.last.0 ∙ h.run.made; closed = h.last.1 ∙ h.run.closed }));
-      told = ap lengths_of h.reads ∙ sym (drop-length p.lengths) ∙ ap (λ k. drop k p.lengths) (sym h.answered);
+      reported = ap lengths_of h.reads ∙ sym (drop-length p.lengths) ∙ ap (λ k. drop k p.lengths) (sym h.answered);
       numbered = subst (IsNumbered p.reads_answered) (sym h.reads) tt;
       unanswered = omega (arith, none, h.answered);
       read = h.read;

@@ -40,7 +40,7 @@ answers_stand service p given n count st =
           subst (λ r. RecordsRun r (run_after service (with_answered count p) more)) (sym (get_later n.last n.reads d more n.last (get_or (n.last ∷ n.reads) d n.last) within))
           (subst (λ a. RecordsRun (get_or (n.last ∷ n.reads) (d + more) (get_or (n.last ∷ n.reads) d n.last)) (reference service p.taken (take a p.lengths))) same
           (subst (λ r. RecordsRun r (run_after service p (d + more))) (get_defaults n.last n.reads (d + more) n.last (get_or (n.last ∷ n.reads) d n.last) within) (st.keeps (d + more) within)));
-      told = lengths_drop d n.reads ∙ ap (drop d) st.told ∙ drop_drop d p.reads_answered p.lengths ∙ ap (λ a. drop a p.lengths) sum_is;
+      reported = lengths_drop d n.reads ∙ ap (drop d) st.reported ∙ drop_drop d p.reads_answered p.lengths ∙ ap (λ a. drop a p.lengths) sum_is;
       numbered = subst (λ k. IsNumbered k (drop d n.reads)) sum_is (numbered_drop d p.reads_answered n.reads st.numbered);
       unanswered = omega (arith, st.unanswered, sum_is, left, low);
       read = st.read;
@@ -68,7 +68,7 @@ taking_stands service p given n more st =
       rest = st.rest ∙ ap (drop (sum p.lengths)) (sym (take-append-le p.fetched p.taken more st.fetched));
       keeps = λ m h. subst (RecordsRun (get_or (n.last ∷ n.reads) m n.last))
           (sym (more_bytes service p.taken (p.taken ++ more) (take (p.reads_answered + m) p.lengths) (more, refl) (le_trans (sum_take (p.reads_answered + m) p.lengths) st.enough))) (st.keeps m h);
-      told = st.told;
+      reported = st.reported;
       numbered = st.numbered;
       unanswered = st.unanswered;
       read = st.read;

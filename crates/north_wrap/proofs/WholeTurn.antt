@@ -59,7 +59,7 @@ whole_turn {S} {K} service r w p given una old s news new t laws st so same may 
       socket = off.0 ∙ ap (λ x. read_off r.after_read x (off_socket (length old.rest) (lengths_of news))) wrote;
       there = subst (λ x. AreThere r x (off_socket (length old.rest) (lengths_of news))) wrote off.1;
       given_all = all_or_room service p (w.room s) given may;
-      told = turn.told;
+      reported = turn.reported;
       makes = leads.makes;
       stands = leads.stands;
       tcp = record {

@@ -84,7 +84,7 @@ lengths_of (read ∷ reads) = read.length ∷ lengths_of reads
 -- a turn's reads while they are made: what completes them from here completes them from the start
 pub record HasRead {S K : Type 0} (after : S → List ℕ
     → Served S) (r : Reader K) (una : ℕ) (start : NorthState S) (first : K) (news : List ReadRecord) (now : NorthState S) (socket : K) : Type 0 where
-  pub goes_on : (ks : List ℕ) (end : NorthState S) (last : K) → Reads after r una now socket ks end last
+  pub proceeds : (ks : List ℕ) (end : NorthState S) (last : K) → Reads after r una now socket ks end last
       → Reads after r una start first (lengths_of news ++ ks) end last
   pub reads : now.reads ≡ start.reads ++ news
 
@@ -115,7 +115,7 @@ pub record Turns {S K : Type 0} (after : S → List ℕ
     (last : K) : Type 0 where
   pub reads : Reads after r una (shut_north (given_north w old socket)) (shut_socket w (given_north w old socket) (given_socket w old socket))
       (lengths_of news) new last
-  pub told : new.reads ≡ old.reads ++ news
+  pub reported : new.reads ≡ old.reads ++ news
 
 -- how many reads are known to be logged
 abbrev pub answered : {S : Type 0} → NorthState S → ℕ

@@ -46,7 +46,7 @@ pub record NorthStands {S : Type 0} (service : Machine S) (p : Point) (given : �
   pub run : RunsTo (whole_run service p) given n.run
   pub rest : n.rest ≡ drop (sum p.lengths) (take p.fetched p.taken)
   pub keeps : (more : ℕ) → more ≤ length n.reads → RecordsRun (get_or (n.last ∷ n.reads) more n.last) (run_after service p more)
-  pub told : lengths_of n.reads ≡ drop p.reads_answered p.lengths
+  pub reported : lengths_of n.reads ≡ drop p.reads_answered p.lengths
   pub numbered : IsNumbered p.reads_answered n.reads
   pub unanswered : p.reads_answered + length n.reads ≡ length p.lengths
   pub read : n.read ≡ sum p.lengths
@@ -130,7 +130,7 @@ pub record NorthTurn {S K : Type 0} (service : Machine S) (r : Reader K) (w : Wr
   pub socket : t ≡ read_off r.after_read (written w s (given_text service p (w.room s) given) closes) (off_socket (length old.rest) (lengths_of news))
   pub there : AreThere r (written w s (given_text service p (w.room s) given) closes) (off_socket (length old.rest) (lengths_of news))
   pub given_all : (given + given_more service p (w.room s) given ≡ released service p) ⊎ (given_more service p (w.room s) given ≡ w.room s)
-  pub told : new.reads ≡ old.reads ++ news
+  pub reported : new.reads ≡ old.reads ++ news
   pub makes : Makes service p (lengths_of news)
   pub stands : NorthStands service (with_reads (lengths_of news) p) (given + given_more service p (w.room s) given) new
   pub tcp : SocketStands (with_reads (lengths_of news) p) new (r.unread t) (r.has_end t) (w.is_closed t)

@@ -18,7 +18,7 @@ pub fn it_begins_where_it_was_replayed<S: Service>()
 {}
 
 /// The records of a connection's reads, sent one after another, are the messages that the law of reads names.
-pub fn records_tell_the_reads()
+pub fn records_report_the_reads()
     ensures { (key : Key) (first : ℕ) (reads : List ReadRecord) → IsNumbered first reads → messages_of key reads ≡ read_messages key first (lengths_of reads) }
 {}
 

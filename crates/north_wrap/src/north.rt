@@ -263,7 +263,7 @@ impl<S: Service> North<S> {
     }
 
     /// Makes the reads of a turn.
-    #[tactic(auto, using(crate::proofs::ReadSequence::begins, crate::proofs::ReadSequence::goes_on, crate::proofs::ReadSequence::ends))]
+    #[tactic(auto, using(crate::proofs::ReadSequence::begins, crate::proofs::ReadSequence::proceeds, crate::proofs::ReadSequence::ends))]
     fn make_reads<K: Socket>(
         &mut self,
         sock: &mut K,

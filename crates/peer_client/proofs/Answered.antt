@@ -69,7 +69,7 @@ unchanged l c h =
           local = same.local;
           remote = same.remote;
         };
-        hears = w.agrees.hears;
+        on_receipt = w.agrees.on_receipt;
         sends = w.agrees.sends;
       };
       name = w.name;
@@ -83,7 +83,7 @@ unchanged l c h =
       probe = w.probe;
       reset_reply = subst (λ (a : Option Head). AnswersBy (record l { outcome = first_end l.outcome (end_of l.tcb) }) c a) (sym h.reset_reply) tt;
       edge = w.edge;
-      told = w.told;
+      reported = w.reported;
       outcome = (λ i. first_end (w.outcome i) (if w.unreset i then Some ends.Reset else (if is_time_wait (w.name i) || is_closed (w.name i) then Some ends.Closed else None)));
     }
 
@@ -110,7 +110,7 @@ refuses l c p h from fits wrong =
           local = same.local;
           remote = same.remote;
         };
-        hears = w.agrees.hears;
+        on_receipt = w.agrees.on_receipt;
         sends = w.agrees.sends;
       };
       name = w.name;
@@ -139,7 +139,7 @@ refuses l c p h from fits wrong =
         },
       );
       edge = w.edge;
-      told = w.told;
+      reported = w.reported;
       outcome = (λ i. first_end (w.outcome i) (if w.unreset i then Some ends.Reset else (if is_time_wait (w.name i) || is_closed (w.name i) then Some ends.Closed else None)));
     }
 
@@ -152,7 +152,7 @@ resets l c h = record {
   reset = refl;
   reset_reply = h.reset_reply;
   outcome = ap (λ o. first_end o (Some ends.Reset)) h.waits.outcome;
-  heard = record { count = h.waits.agrees.hears.count; rest = h.waits.agrees.hears.rest };
+  receipt = record { count = h.waits.agrees.on_receipt.count; rest = h.waits.agrees.on_receipt.rest };
 }
 
 -- a SYN that does so
@@ -171,7 +171,7 @@ opens l c p h =
     let w : Waits l c = h.waits in
     let same : IsSame l c = w.agrees.same in
     let s = w.agrees.sends in
-    let r = w.agrees.hears in
+    let r = w.agrees.on_receipt in
     let none : l.tcb.sending.una ≡ 0 = omega (arith, s.order, w.nothing_sent) in
     let fin : l.tcb.receiving.fin ≡ false = sym r.fin ∙ ap is_ended h.phase in
     let unsent : l.tcb.sending.fin_sent ≡ true → ⊥ = λ k. false≢true (sym w.closed ∙ (s.ended k).0) in
@@ -187,7 +187,7 @@ opens l c p h =
           local = same.local;
           remote = same.remote;
         };
-        hears = record {
+        on_receipt = record {
           sisn = refl;
           limit = r.limit;
           count = r.count;
@@ -220,7 +220,7 @@ opens l c p h =
       unreset = w.unreset;
       reset_reply = h.reset_reply;
       edge = w.edge;
-      told = inl refl;
+      reported = inl refl;
       outcome = (λ i. first_end (w.outcome i) (if w.unreset i then Some ends.Reset else None));
     }
 
@@ -289,7 +289,7 @@ tick_waits l c h =
           local = same.local;
           remote = same.remote;
         };
-        hears = w.agrees.hears;
+        on_receipt = w.agrees.on_receipt;
         sends = ticked_sends s l.written c w.agrees.sends;
       };
       name = ap (λ n. if is_time_wait n && nat_lt l.tcb.wait 2 then Closed else n) w.name;
@@ -303,6 +303,6 @@ tick_waits l c h =
       probe = (λ i. w.probe i || (expires s && not (not (w.syn_acked i) || nat_lt s.una s.sent))) ∙ off_by_syn_acked (expires s) (nat_lt s.una s.sent);
       reset_reply = subst (λ (a : Option Head). AnswersBy (ticked l) c a) (sym h.reset_reply) tt;
       edge = w.edge;
-      told = w.told;
+      reported = w.reported;
       outcome = w.outcome;
     }

@@ -21,8 +21,8 @@ use Rattle.ft_model.specs.Client as machine
 use Rattle.ft_model.specs.Client.{Client, is_live, is_open, is_ended, holds, next_of, room_of}
 use Rattle.ft_model.specs.Client.ClientKind.{Live}
 use Rattle.ft_model.specs.declared.phase.Phase.TheVariants.{Reset}
-use Rattle.peer_client.specs.Refinement.{Hears, Sends}
-use Rattle.peer_client.proofs.Comes.{both_if, Heard, segment_heard, ack_sends}
+use Rattle.peer_client.specs.Refinement.{OnReceipt, Sends}
+use Rattle.peer_client.proofs.Comes.{both_if, Receipt, segment_received, ack_sends}
 use Rattle.ft_io.proofs.Booleans.{left_true, right_true, and_true}
 use Rattle.ft_io.proofs.Choices.{holds_if}
 use Rattle.endpoint_laws.proofs.EndingLaw.{acceptable_at}
@@ -42,14 +42,14 @@ pub record AfterChecks (e : Tcb) (c : Client) (written : ℕ) (t : Tcb) (d : Cli
   pub limit : t.receiving.limit ≡ e.receiving.limit
   pub grows : taken e.receiving ≤ taken t.receiving
   pub fin : e.receiving.fin ≡ true → t.receiving.fin ≡ true
-  pub hears : Hears t.receiving d
+  pub on_receipt : OnReceipt t.receiving d
   pub sends : Sends t.sending written d
   pub same : d ≡ record c { phase = d.phase; acknowledged = d.acknowledged; accepted = d.accepted; early = d.early }
   pub phase : is_open d.phase ≡ true
 
 -- what may go on before a segment comes
 pub record Before (e : Tcb) (c : Client) (written : ℕ) : Type 0 where
-  pub hears : Hears e.receiving c
+  pub on_receipt : OnReceipt e.receiving c
   pub sends : Sends e.sending written c
   pub iss : e.sending.iss ≡ c.isn
   pub phase : is_open c.phase ≡ true
@@ -72,7 +72,7 @@ kept e c written name ack_pending wait b = record {
   limit = refl;
   grows = omega arith;
   fin = λ k. k;
-  hears = b.hears;
+  on_receipt = b.on_receipt;
   sends = b.sends;
   same = refl;
   phase = b.phase;
@@ -107,16 +107,16 @@ acknowledged_kept e c written name ack_pending retransmission_due wait seq room 
   limit = refl;
   grows = omega arith;
   fin = λ k. k;
-  hears = record {
-    sisn = b.hears.sisn;
-    limit = b.hears.limit;
-    count = b.hears.count;
-    rest = b.hears.rest;
-    fin = b.hears.fin;
-    early = b.hears.early;
-    behind = b.hears.behind;
-    within = b.hears.within;
-    queued = b.hears.queued;
+  on_receipt = record {
+    sisn = b.on_receipt.sisn;
+    limit = b.on_receipt.limit;
+    count = b.on_receipt.count;
+    rest = b.on_receipt.rest;
+    fin = b.on_receipt.fin;
+    early = b.on_receipt.early;
+    behind = b.on_receipt.behind;
+    within = b.on_receipt.within;
+    queued = b.on_receipt.queued;
   };
   sends = ack_sends e.sending seq ack room written c after time sent b.sends;
   same = refl;
@@ -133,8 +133,8 @@ ack_kept e c written name ack_pending retransmission_due bare wait seq room ack 
     (answered_by e.sending bare seq ack room).timing b sent)
 
 -- text and FIN
-sends_heard : (s : Sending) (written : ℕ) (d d' : Client) → d' ≡ record d { phase = d'.phase; accepted = d'.accepted; early = d'.early } → Sends s written d → Sends s written d'
-sends_heard s written d d' same h =
+sends_received : (s : Sending) (written : ℕ) (d d' : Client) → d' ≡ record d { phase = d'.phase; accepted = d'.accepted; early = d'.early } → Sends s written d → Sends s written d'
+sends_received s written d d' same h =
     subst (λ (x : Client). Sends s written x) (sym same) (record {
       sent = h.sent;
       acknowledged = h.acknowledged;
@@ -150,9 +150,9 @@ sends_heard s written d d' same h =
       most = h.most;
     })
 
-heard_kept : (e : Tcb) (c : Client) (written : ℕ) (x : Tcb) (d d' : Client) (r : Receiving) (name : StateName) (ack_pending : Bool) (wait : ℕ) → AfterChecks e c written x d
-    → Heard x.receiving d r d' → AfterChecks e c written (record x { receiving = r; name = name; ack_pending = ack_pending; wait = wait }) d'
-heard_kept e c written x d d' r name ack_pending wait k h = record {
+received_kept : (e : Tcb) (c : Client) (written : ℕ) (x : Tcb) (d d' : Client) (r : Receiving) (name : StateName) (ack_pending : Bool) (wait : ℕ) → AfterChecks e c written x d
+    → Receipt x.receiving d r d' → AfterChecks e c written (record x { receiving = r; name = name; ack_pending = ack_pending; wait = wait }) d'
+received_kept e c written x d d' r name ack_pending wait k h = record {
   local = k.local;
   remote = k.remote;
   iss = k.iss;
@@ -165,8 +165,8 @@ heard_kept e c written x d d' r name ack_pending wait k h = record {
   limit = h.limit ∙ k.limit;
   grows = omega (arith, k.grows, h.grows);
   fin = λ f. h.keeps (k.fin f);
-  hears = h.hears;
-  sends = sends_heard x.sending written d d' h.same k.sends;
+  on_receipt = h.on_receipt;
+  sends = sends_received x.sending written d d' h.same k.sends;
   same = h.same
       ∙ (λ i. record (k.same i) { phase = d'.phase; accepted = d'.accepted; early = d'.early })
       ∙ (λ i. record c { phase = d'.phase; acknowledged = ap (λ (y : Client). y.acknowledged) (sym h.same) i; accepted = d'.accepted; early = d'.early });
@@ -184,13 +184,13 @@ text_kept e c written x d p syn rst kind edge k =
     let fin : has_fin p ≡ fin_of p = sym (and_true (has_fin p)) ∙ (λ i. has_fin p && not (sym syn i || sym rst i)) in
     let d' : Client = machine.with_added d (machine.came d p) in
     let args : machine.with_added d (comes (length d.accepted) d.edge (is_ended d.phase) (holds d.kind d.early) z p.payload (has_fin p)) ≡ d' =
-    λ i. machine.with_added d (comes (length d.accepted) d.edge (is_ended d.phase) (holds d.kind d.early) (first_of (sym k.hears.sisn i) p) (text i) (fin i)) in
-    let h : Heard x.receiving d r d' =
-    subst (λ (y : Client). Heard x.receiving d r y) args (segment_heard x.receiving d z p.payload (has_fin p) k.hears kind k.phase edge) in
+    λ i. machine.with_added d (comes (length d.accepted) d.edge (is_ended d.phase) (holds d.kind d.early) (first_of (sym k.on_receipt.sisn i) p) (text i) (fin i)) in
+    let h : Receipt x.receiving d r d' =
+    subst (λ (y : Client). Receipt x.receiving d r y) args (segment_received x.receiving d z p.payload (has_fin p) k.on_receipt kind k.phase edge) in
     let taking : Tcb = record x { receiving = r } in
     holds_if (λ (t : Tcb). AfterChecks e c written t d') (r.fin && not x.receiving.fin) (entering (after_fin x.name) taking) taking
-    (λ _. heard_kept e c written x d d' r (after_fin x.name) x.ack_pending (entering (after_fin x.name) taking).wait k h)
-    (λ _. heard_kept e c written x d d' r x.name x.ack_pending x.wait k h)
+    (λ _. received_kept e c written x d d' r (after_fin x.name) x.ack_pending (entering (after_fin x.name) taking).wait k h)
+    (λ _. received_kept e c written x d d' r x.name x.ack_pending x.wait k h)
 
 -- fifth check
 pub few_sent : (s : Sending) (written : ℕ) (c : Client) (b : Bool) → s.fin_sent ≡ b → Sends s written c → s.sent ≤ 2 ^ 24 + 1
@@ -242,12 +242,12 @@ used_alike : (e : Tcb) (c : Client) (written : ℕ) (p : Segment) → Before e c
 used_alike e c written p b =
     let usable : Bool = is_usable (next_of c) (room_of c) (first_of c.sisn p) (length_of p) in
     let acceptable : Bool = is_acceptable (next_of c) (room_of c) (first_of c.sisn p) (length_of p) in
-    (λ i. is_usable (sym b.hears.count i + one_if (sym b.hears.fin i)) (sym b.edge i - sym b.hears.count i) (first_of (sym b.hears.sisn i) p) (length_of p))
+    (λ i. is_usable (sym b.on_receipt.count i + one_if (sym b.on_receipt.fin i)) (sym b.edge i - sym b.on_receipt.count i) (first_of (sym b.on_receipt.sisn i) p) (length_of p))
     ∙ (λ i. if is_live (sym b.kind i) then usable else acceptable)
 
 at_alike : (e : Tcb) (c : Client) (written : ℕ) (p : Segment) → Before e c written
     → int_eq (first e p) (pos (next e.receiving)) ≡ int_eq (first_of c.sisn p) (pos (next_of c))
-at_alike e c written p b = λ i. int_eq (first_of (sym b.hears.sisn i) p) (pos (sym b.hears.count i + one_if (sym b.hears.fin i)))
+at_alike e c written p b = λ i. int_eq (first_of (sym b.on_receipt.sisn i) p) (pos (sym b.on_receipt.count i + one_if (sym b.on_receipt.fin i)))
 
 pub others_kept : (e : Tcb) (c : Client) (written : ℕ) (p : Segment) → (has_rst p && int_eq (first e p) (pos (next e.receiving))) ≡ false
     → (has_ack p ≡ true → (pos 0 -ℤ pos (2 ^ 30)) ≤ℤ ack_of c.isn p) → Before e c written → AfterChecks e c written (in_others e p) (machine.arrived c p)

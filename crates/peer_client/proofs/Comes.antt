@@ -16,7 +16,7 @@ use Rattle.ft_model.specs.Client.{Client, is_ended, is_open, holds}
 use Rattle.ft_model.specs.Client.ClientKind.{Live}
 use Rattle.ft_model.specs.declared.phase.Phase.{Phase}
 use Rattle.ft_model.specs.declared.phase.Phase.TheVariants.{Ended}
-use Rattle.peer_client.specs.Refinement.{Hears, Sends}
+use Rattle.peer_client.specs.Refinement.{OnReceipt, Sends}
 use Rattle.ft_io.proofs.Booleans.{left_true, right_true, false_by}
 use Rattle.endpoint_laws.proofs.Bounding.{new_within}
 use Rattle.ft_io.proofs.Choices.{holds_if}
@@ -30,8 +30,8 @@ both_if P false true x y x' y' same on off = absurd (false≢true same)
 both_if P false false x y x' y' same on off = off refl
 
 -- what text and FIN make of the receiving half and of the machine
-pub record Heard (r : Receiving) (d : Client) (r' : Receiving) (d' : Client) : Type 0 where
-  pub hears : Hears r' d'
+pub record Receipt (r : Receiving) (d : Client) (r' : Receiving) (d' : Client) : Type 0 where
+  pub on_receipt : OnReceipt r' d'
   pub read : r'.read ≡ r.read
   pub limit : r'.limit ≡ r.limit
   pub grows : taken r ≤ taken r'
@@ -49,15 +49,15 @@ open_is true phase h = refl
 open_is false phase h = h
 
 -- what is added within the receive edge, on both sides, and what is held then
-added_heard : (r : Receiving) (d : Client) (c : Came) → Hears r d → d.kind ≡ Live → is_open d.phase ≡ true → taken r + length c.added ≤ receive_edge r
-    → StandsBehind (taken r + length c.added) (receive_edge r) c.fin c.early → (r.fin ≡ true → c.fin ≡ true) → Heard r d (with_came r c) (machine.with_added d c)
+added_received : (r : Receiving) (d : Client) (c : Came) → OnReceipt r d → d.kind ≡ Live → is_open d.phase ≡ true → taken r + length c.added ≤ receive_edge r
+    → StandsBehind (taken r + length c.added) (receive_edge r) c.fin c.early → (r.fin ≡ true → c.fin ≡ true) → Receipt r d (with_came r c) (machine.with_added d c)
 unfolding with_came
-added_heard r d c h kind phase few behind keeps =
+added_received r d c h kind phase few behind keeps =
     let both : length (r.unread ++ c.added) ≡ length r.unread + length c.added = length-append r.unread c.added in
     let longer : length (d.accepted ++ c.added) ≡ length d.accepted + length c.added = length-append d.accepted c.added in
     let all : taken r + length c.added ≡ r.read + length (r.unread ++ c.added) = omega (arith, both) in
     record {
-      hears = record {
+      on_receipt = record {
         sisn = h.sisn;
         limit = h.limit;
         count = omega (arith, both, longer, h.count);
@@ -77,16 +77,16 @@ added_heard r d c h kind phase few behind keeps =
     }
 
 -- the live machine holds what its TCP holds, so that the same comes of a segment
-pub segment_heard : (r : Receiving) (d : Client) (z : ℤ) (text : List ℕ) (fin : Bool) → Hears r d → d.kind ≡ Live → is_open d.phase ≡ true → d.edge ≡ receive_edge r
-    → Heard r d (with_segment r z text fin)
+pub segment_received : (r : Receiving) (d : Client) (z : ℤ) (text : List ℕ) (fin : Bool) → OnReceipt r d → d.kind ≡ Live → is_open d.phase ≡ true → d.edge ≡ receive_edge r
+    → Receipt r d (with_segment r z text fin)
     (machine.with_added d (comes (length d.accepted) d.edge (is_ended d.phase) (holds d.kind d.early) z text fin))
-segment_heard r d z text fin h kind phase edge =
+segment_received r d z text fin h kind phase edge =
     let n : ℕ = taken r in
     let e : ℕ = receive_edge r in
     let held : holds d.kind d.early ≡ r.early = ap (λ k. holds k d.early) kind ∙ h.early in
-    subst (λ (c : Came). Heard r d (with_segment r z text fin) (machine.with_added d c))
+    subst (λ (c : Came). Receipt r d (with_segment r z text fin) (machine.with_added d c))
     (λ i. comes (sym h.count i) (sym edge i) (sym h.fin i) (sym held i) z text fin)
-    (added_heard r d (came r z text fin) h kind phase (comes_within n e r.fin r.early z text fin h.behind)
+    (added_received r d (came r z text fin) h kind phase (comes_within n e r.fin r.early z text fin h.behind)
     (stays_behind n e r.fin r.early z text fin (omega (arith, h.behind.text)) h.behind) (fin_stays n e r.fin r.early z text fin))
 
 -- an acknowledgement of what was sent

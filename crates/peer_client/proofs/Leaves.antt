@@ -12,8 +12,8 @@ use Rattle.tcp_endpoint.specs.Tcb.{Tcb}
 use Rattle.tcp_endpoint.specs.Output.{segment_at, text_at, fin_at, texts, reset_reply_segments, reset_reply_out, retransmission_out, retransmitted_segment, opening_segment, probes, probes_text, probes_fin, probe_out, with_probe, new_length, text_out, with_text_sent, new_fin, fin_out, with_fin_out, full_out, with_timed, after_full, is_ack_pending, bare_segment, or_bare, leaving}
 use Rattle.segment_codec.specs.declared.Head.{Head}
 use Rattle.ft_model.specs.Client.{Client, IsMove}
-use Rattle.peer_client.specs.Refinement.{AreMoves, Told}
-use Rattle.peer_client.proofs.Spoken.{grown, Speaks, Goes, edge_after, text_move, fin_move, bare_move, texts_go, goes_none, goes_one, goes_on, edge_low}
+use Rattle.peer_client.specs.Refinement.{AreMoves, Reported}
+use Rattle.peer_client.proofs.Spoken.{grown, Speaks, Goes, edge_after, text_move, fin_move, bare_move, texts_go, goes_none, goes_one, proceeds, edge_low}
 use Rattle.ft_io.proofs.Booleans.{left_true, right_true, not_true, or_other}
 use Rattle.ft_io.proofs.Choices.{holds_if}
 use Rattle.ft_io.proofs.Numbers.{equal_of_test}
@@ -263,45 +263,45 @@ fin_steps u c written edge s x f h w low =
     (λ k. stays u c written edge s x f w)
 
 -- what was advertised last is the edge, where nothing is pending
-same_edge : (before now : ℕ) (f g : Bool) (told edge : ℕ) → before ≤ now → (f ≡ true → g ≡ true) → before + one_if f ≡ now + one_if g → told + one_if f ≡ edge + one_if g
-    → told ≡ edge
-same_edge before now true true told edge less stays_taken units edges = omega (arith, edges)
-same_edge before now true false told edge less stays_taken units edges = absurd (false≢true (stays_taken refl))
-same_edge before now false true told edge less stays_taken units edges = absurd (omega (arith, less, units))
-same_edge before now false false told edge less stays_taken units edges = omega (arith, edges)
+same_edge : (before now : ℕ) (f g : Bool) (reported edge : ℕ) → before ≤ now → (f ≡ true → g ≡ true) → before + one_if f ≡ now + one_if g → reported + one_if f ≡ edge + one_if g
+    → reported ≡ edge
+same_edge before now true true reported edge less stays_taken units edges = omega (arith, edges)
+same_edge before now true false reported edge less stays_taken units edges = absurd (false≢true (stays_taken refl))
+same_edge before now false true reported edge less stays_taken units edges = absurd (omega (arith, less, units))
+same_edge before now false false reported edge less stays_taken units edges = omega (arith, edges)
 
-no_ack_pending : (b ack_pending same_next same_told : Bool) → b ≡ true → (b && (ack_pending || not same_next || not same_told)) ≡ false
-    → (ack_pending ≡ false) × ((same_next ≡ true) × (same_told ≡ true))
+no_ack_pending : (b ack_pending same_next same_reported : Bool) → b ≡ true → (b && (ack_pending || not same_next || not same_reported)) ≡ false
+    → (ack_pending ≡ false) × ((same_next ≡ true) × (same_reported ≡ true))
 no_ack_pending true true n t begun h = absurd (false≢true (sym h))
 no_ack_pending true false true true begun h = (refl, (refl, refl))
 no_ack_pending true false true false begun h = absurd (false≢true (sym h))
 no_ack_pending true false false t begun h = absurd (false≢true (sym h))
 no_ack_pending false ack_pending n t begun h = absurd (false≢true begun)
 
-pub edge_told : (u : Tcb) (c : Client) → has_begun u.name ≡ true → (u.ack_pending ≡ true) ⊎ Told u c → is_ack_pending u ≡ false → c.edge ≡ receive_edge u.receiving
+pub edge_reported : (u : Tcb) (c : Client) → has_begun u.name ≡ true → (u.ack_pending ≡ true) ⊎ Reported u c → is_ack_pending u ≡ false → c.edge ≡ receive_edge u.receiving
 unfolding is_ack_pending
-edge_told u c begun (inl ack_pending) none =
+edge_reported u c begun (inl ack_pending) none =
     absurd (false≢true (sym (no_ack_pending (has_begun u.name) u.ack_pending (u.last_ack_sent == next u.receiving) (u.last_advertised_edge == advertised_edge u.receiving) begun none).0 ∙ ack_pending))
-edge_told u c begun (inr t) none =
+edge_reported u c begun (inr t) none =
     let k = no_ack_pending (has_begun u.name) u.ack_pending (u.last_ack_sent == next u.receiving) (u.last_advertised_edge == advertised_edge u.receiving) begun none in
     same_edge t.bytes (taken u.receiving) t.fin u.receiving.fin c.edge (receive_edge u.receiving) t.bytes_taken t.fin_taken
     (sym t.next_is ∙ equal_of_test u.last_ack_sent (next u.receiving) k.1.0)
     (sym t.edge_is ∙ equal_of_test u.last_advertised_edge (advertised_edge u.receiving) k.1.1)
 
-edge_told_at : (u : Tcb) (c : Client) (s : ℕ) (f : Bool) (time : Timing) → has_begun u.name ≡ true → (u.ack_pending ≡ true) ⊎ Told u c
+edge_reported_at : (u : Tcb) (c : Client) (s : ℕ) (f : Bool) (time : Timing) → has_begun u.name ≡ true → (u.ack_pending ≡ true) ⊎ Reported u c
     → is_ack_pending (at_end u s f time) ≡ false → c.edge ≡ receive_edge u.receiving
-edge_told_at u c s f time begun (inl ack_pending) none = edge_told (at_end u s f time) c begun (inl ack_pending) none
-edge_told_at u c s f time begun (inr t) none =
-    edge_told (at_end u s f time) c begun
+edge_reported_at u c s f time begun (inl ack_pending) none = edge_reported (at_end u s f time) c begun (inl ack_pending) none
+edge_reported_at u c s f time begun (inr t) none =
+    edge_reported (at_end u s f time) c begun
     (inr (record { bytes = t.bytes; fin = t.fin; next_is = t.next_is; edge_is = t.edge_is; bytes_taken = t.bytes_taken; fin_taken = t.fin_taken })) none
 
 -- a segment without data, where no other leaves
 finish : (c : Client) (edge s x after : ℕ) (ack_pending : Bool) (bare : Segment) (xs : List Segment) → Goes c edge s x xs after
     → IsMove (grown c after x) bare (grown c after edge) → (ack_pending ≡ false → x ≡ edge) → AreMoves (grown c s x) (or_bare ack_pending bare xs) (grown c after edge)
-finish c edge s x after true bare [] goes move tells =
+finish c edge s x after true bare [] goes move reports =
     subst (λ (q : Client). AreMoves q (bare ∷ []) (grown c after edge)) goes (grown c after edge, move, refl)
-finish c edge s x after false bare [] goes move tells = (λ i. grown c after (sym (tells refl) i)) ∙ goes
-finish c edge s x after ack_pending bare (a ∷ xs) goes move tells = goes
+finish c edge s x after false bare [] goes move reports = (λ i. grown c after (sym (reports refl) i)) ∙ goes
+finish c edge s x after ack_pending bare (a ∷ xs) goes move reports = goes
 
 -- the end of the turn
 pub record Left (u : Tcb) (c : Client) (written edge : ℕ) : Type 0 where
@@ -319,9 +319,9 @@ reset_reply_goes u c edge s x none = subst (λ (a : Option Head). Goes c edge s 
 
 pub leaves : (u : Tcb) (c : Client) (written edge : ℕ) → has_begun u.name ≡ true → Flushes u c written edge
     → IsWithin u c written u.sending.sent u.sending.fin_sent → c.sent ≡ u.sending.sent → c.edge ≤ edge → receive_edge u.receiving ≡ edge
-    → (u.ack_pending ≡ true) ⊎ Told u c → Left u c written edge
+    → (u.ack_pending ≡ true) ⊎ Reported u c → Left u c written edge
 unfolding leaving full_out after_full with_timed bare_segment
-leaves u c written edge begun h w sent low is_edge told =
+leaves u c written edge begun h w sent low is_edge reported =
     let s : ℕ = u.sending.sent in
     let x : ℕ = c.edge in
     let a : List Segment = reset_reply_out u in
@@ -331,20 +331,20 @@ leaves u c written edge begun h w sent low is_edge told =
     let xb : ℕ = edge_after (a ++ b) edge x in
     let xd : ℕ = edge_after (a ++ b ++ d) edge x in
     let to_again : Goes c edge s x (a ++ b) s =
-    goes_on c edge s x s s a b (reset_reply_goes u c edge s x h.reset_reply) (retransmission_goes u c written edge xa h w (edge_low a edge x low)) in
+    proceeds c edge s x s s a b (reset_reply_goes u c edge s x h.reset_reply) (retransmission_goes u c written edge xa h w (edge_low a edge x low)) in
     let p : Steps u c written edge s xb d (with_probe u) = probe_steps u c written edge xb h w (edge_low (a ++ b) edge x low) in
-    let to_probe : Goes c edge s x (a ++ b ++ d) p.sent = goes_on c edge s x s p.sent (a ++ b) d to_again p.goes in
+    let to_probe : Goes c edge s x (a ++ b ++ d) p.sent = proceeds c edge s x s p.sent (a ++ b) d to_again p.goes in
     let T : Tcb → Type 0 = λ v. Steps u c written edge p.sent xd (text_out v) (with_text_sent v) in
     let t : Steps u c written edge p.sent xd (text_out (with_probe u)) (with_text_sent (with_probe u)) =
     subst T (sym p.is) (text_steps u c written edge p.sent xd p.fin h p.within (edge_low (a ++ b ++ d) edge x low)) in
     let e : List Segment = text_out (with_probe u) in
     let xe : ℕ = edge_after (a ++ b ++ d ++ e) edge x in
-    let to_text : Goes c edge s x (a ++ b ++ d ++ e) t.sent = goes_on c edge s x p.sent t.sent (a ++ b ++ d) e to_probe t.goes in
+    let to_text : Goes c edge s x (a ++ b ++ d ++ e) t.sent = proceeds c edge s x p.sent t.sent (a ++ b ++ d) e to_probe t.goes in
     let F : Tcb → Type 0 = λ v. Steps u c written edge t.sent xe (fin_out v) (with_fin_out v) in
     let f : Steps u c written edge t.sent xe (fin_out (with_text_sent (with_probe u))) (with_fin_out (with_text_sent (with_probe u))) =
     subst F (sym t.is) (fin_steps u c written edge t.sent xe t.fin h t.within (edge_low (a ++ b ++ d ++ e) edge x low)) in
     let g : List Segment = fin_out (with_text_sent (with_probe u)) in
-    let to_fin : Goes c edge s x (a ++ b ++ d ++ e ++ g) f.sent = goes_on c edge s x t.sent f.sent (a ++ b ++ d ++ e) g to_text f.goes in
+    let to_fin : Goes c edge s x (a ++ b ++ d ++ e ++ g) f.sent = proceeds c edge s x t.sent f.sent (a ++ b ++ d ++ e) g to_text f.goes in
     let place : ℕ = in_flight (with_probe u).sending in
     let time : Timing = (with_unit_timed place (at u f.sent f.fin).sending).timing in
     let ended : Tcb = at_end u f.sent f.fin time in
@@ -353,7 +353,7 @@ leaves u c written edge begun h w sent low is_edge told =
     let whole : B (with_timed place last) = subst (λ (v : Tcb). B (with_timed place v)) (sym f.is)
     (finish c edge s x f.sent (is_ack_pending ended) (segment_at ended (f.sent - u.sending.una) 16 []) (a ++ b ++ d ++ e ++ g) to_fin
     (bare_move ended c written edge (speaks_end u c written edge f.sent f.fin time h.speaks) (f.sent - u.sending.una) f.sent x (omega (arith, f.within.order)) low)
-    (λ none. edge_told_at u c f.sent f.fin time begun told none ∙ is_edge)) in
+    (λ none. edge_reported_at u c f.sent f.fin time begun reported none ∙ is_edge)) in
     record {
       sent = f.sent;
       fin = f.fin;

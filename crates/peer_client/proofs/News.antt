@@ -22,7 +22,7 @@ use Rattle.endpoint_laws.proofs.TakenLaw.{begun_is}
 use Rattle.endpoint_laws.proofs.EndingLaw.{FollowsAt, named_at, received_follows, tick_follows}
 use Rattle.peer_client.specs.declared.live.ClientEnd.TheVariants as ends
 use Rattle.peer_client.specs.Live.{LiveState, end_of, first_end, met, ticked}
-use Rattle.peer_client.specs.Refinement.{IsSame, Hears, Sends, Told, IsConnected, IsStanding, HasHeard, IsReset, is_reset}
+use Rattle.peer_client.specs.Refinement.{IsSame, OnReceipt, Sends, Reported, IsConnected, IsStanding, HasReceived, IsReset, is_reset}
 use Rattle.peer_client.proofs.Named.{follows_of, over_at, ends_alike}
 use Rattle.peer_client.proofs.Arrives.{Before, AfterChecks, Resets, others_kept, others_reset}
 use Rattle.ft_io.proofs.Choices.{holds_if}
@@ -54,8 +54,8 @@ others_is e p begun = begun_is e.name e p begun
 edge_kept : (e : Tcb) (c : Client) (written : ℕ) (t : Tcb) (d : Client) → AfterChecks e c written t d → c.edge ≡ receive_edge e.receiving → d.edge ≡ receive_edge t.receiving
 edge_kept e c written t d k edge = ap (λ (x : Client). x.edge) k.same ∙ edge ∙ (λ i. min (sym k.read i + 65535) (sym k.limit i))
 
-told_kept : (e : Tcb) (c : Client) (written : ℕ) (t : Tcb) (d : Client) → AfterChecks e c written t d → Told e c → Told t d
-told_kept e c written t d k h = record {
+reported_kept : (e : Tcb) (c : Client) (written : ℕ) (t : Tcb) (d : Client) → AfterChecks e c written t d → Reported e c → Reported t d
+reported_kept e c written t d k h = record {
   bytes = h.bytes;
   fin = h.fin;
   next_is = k.last_ack_sent ∙ h.next_is;
@@ -66,7 +66,7 @@ told_kept e c written t d k h = record {
 
 before_of : (l : LiveState) (c : Client) → IsStanding l c → Before l.tcb c l.written
 before_of l c h = record {
-  hears = h.stands.agrees.hears;
+  on_receipt = h.stands.agrees.on_receipt;
   sends = h.stands.agrees.sends;
   iss = sym h.stands.agrees.same.isn;
   phase = h.stands.phase;
@@ -91,7 +91,7 @@ kept_stands l c t d h none k follows =
           local = k.local ∙ same.local;
           remote = k.remote ∙ same.remote;
         };
-        hears = k.hears;
+        on_receipt = k.on_receipt;
         sends = k.sends;
       };
       syn_acked = k.syn_acked ∙ h.stands.syn_acked;
@@ -101,18 +101,18 @@ kept_stands l c t d h none k follows =
       unreset = k.reset ∙ h.stands.unreset;
       reset_reply = k.reset_reply ∙ h.stands.reset_reply;
       edge = omega (arith, edge_kept l.tcb c l.written t d k h.edge);
-      told = inr (told_kept l.tcb c l.written t d k h.told);
+      reported = inr (reported_kept l.tcb c l.written t d k h.reported);
       outcome = ap (λ o. first_end o (end_of t)) none
-          ∙ ends_alike t l.written d follows (k.reset ∙ h.stands.unreset) (not_reset d.phase k.phase) k.hears.fin k.sends;
+          ∙ ends_alike t l.written d follows (k.reset ∙ h.stands.unreset) (not_reset d.phase k.phase) k.on_receipt.fin k.sends;
     }
 
-heard_still : (r r' : Receiving) (c d : Client) → r' ≡ r → d.accepted ≡ c.accepted → Hears r c → HasHeard r' d
-heard_still r r' c d same accepted h = subst (λ (q : Receiving). HasHeard q d) (sym same) (record {
+received_still : (r r' : Receiving) (c d : Client) → r' ≡ r → d.accepted ≡ c.accepted → OnReceipt r c → HasReceived r' d
+received_still r r' c d same accepted h = subst (λ (q : Receiving). HasReceived q d) (sym same) (record {
   count = ap length accepted ∙ h.count;
   rest = ap (drop r.read) accepted ∙ h.rest;
 })
 
-reset_due : (l : LiveState) (e t : Tcb) (c d : Client) → l.outcome ≡ None → e.reset_reply ≡ None → Hears e.receiving c → Resets e c t d
+reset_due : (l : LiveState) (e t : Tcb) (c d : Client) → l.outcome ≡ None → e.reset_reply ≡ None → OnReceipt e.receiving c → Resets e c t d
     → IsReset (record l { tcb = t; outcome = first_end l.outcome (end_of t) }) d
 reset_due l e t c d none reset_reply h r = record {
   phase = r.phase;
@@ -120,7 +120,7 @@ reset_due l e t c d none reset_reply h r = record {
   reset = r.reset;
   reset_reply = r.reset_reply ∙ reset_reply;
   outcome = ap (λ o. first_end o (end_of t)) none ∙ ap (λ b. if b then Some ends.Reset else (if is_time_wait t.name || is_closed t.name then Some ends.Closed else None)) r.reset;
-  heard = heard_still e.receiving t.receiving c d r.receiving r.accepted h;
+  receipt = received_still e.receiving t.receiving c d r.receiving r.accepted h;
 }
 
 -- a segment comes
@@ -137,7 +137,7 @@ segment_comes l c p h none near =
     by_rst : (resets : Bool) → (has_rst p && int_eq (first l.tcb p) (pos (next l.tcb.receiving))) ≡ resets
         → IsConnected (record l { tcb = in_others l.tcb p; outcome = first_end l.outcome (end_of (in_others l.tcb p)) }) (machine.arrived c p)
         ⊎ IsReset (record l { tcb = in_others l.tcb p; outcome = first_end l.outcome (end_of (in_others l.tcb p)) }) (machine.arrived c p)
-    by_rst true is = inr (reset_due l l.tcb (in_others l.tcb p) c (machine.arrived c p) none h.stands.reset_reply h.stands.agrees.hears (others_reset l.tcb c l.written p is (before_of l c h)))
+    by_rst true is = inr (reset_due l l.tcb (in_others l.tcb p) c (machine.arrived c p) none h.stands.reset_reply h.stands.agrees.on_receipt (others_reset l.tcb c l.written p is (before_of l c h)))
     by_rst false is =
         inl (kept_stands l c (in_others l.tcb p) (machine.arrived c p) h none (others_kept l.tcb c l.written p is near (before_of l c h))
         (subst (λ (t : Tcb). FollowsAt t) (others_is l.tcb p h.begun) (received_follows l.tcb p h.begun is (follows_of l c h.stands))))
@@ -197,7 +197,7 @@ tick_passes l c h =
           local = same.local;
           remote = same.remote;
         };
-        hears = h.stands.agrees.hears;
+        on_receipt = h.stands.agrees.on_receipt;
         sends = ticked_sends l.tcb.sending l.written c h.stands.agrees.sends;
       };
       syn_acked = ticked_same (λ (s : Sending). s.syn_acked) (λ k t a b s. refl) l.tcb.sending ∙ h.stands.syn_acked;
@@ -207,13 +207,13 @@ tick_passes l c h =
       unreset = h.stands.unreset;
       reset_reply = h.stands.reset_reply;
       edge = h.stands.edge;
-      told = inr (record {
-        bytes = h.told.bytes;
-        fin = h.told.fin;
-        next_is = h.told.next_is;
-        edge_is = h.told.edge_is;
-        bytes_taken = h.told.bytes_taken;
-        fin_taken = h.told.fin_taken;
+      reported = inr (record {
+        bytes = h.reported.bytes;
+        fin = h.reported.fin;
+        next_is = h.reported.next_is;
+        edge_is = h.reported.edge_is;
+        bytes_taken = h.reported.bytes_taken;
+        fin_taken = h.reported.fin_taken;
       });
       outcome = h.stands.outcome;
     }

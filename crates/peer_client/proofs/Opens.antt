@@ -24,7 +24,7 @@ use Rattle.ft_model.specs.declared.phase.Phase.TheVariants as phases
 use Rattle.peer_client.specs.Live.{LiveState, new_live_in, given_up, supplied, closes, before_flush, sent_by, turned}
 use Rattle.peer_client.specs.Refinement.{AreMoves, IsSame, Sends, Refuses, AnswersBy, Waits, IsWaiting}
 use Rattle.peer_client.proofs.Spoken.{moves_on}
-use Rattle.peer_client.proofs.TurnEnds.{read_hears, write_sends, room_none, timed_sends, timed_same}
+use Rattle.peer_client.proofs.TurnEnds.{read_receives, write_sends, room_none, timed_sends, timed_same}
 
 -- at the start
 pub starts : (profile : Profile) (local server : Addr) (isn : ℕ) (script : List ℕ) → length script ≤ 2 ^ 24
@@ -33,7 +33,7 @@ unfolding connecting_measuring listening listening_measuring
 starts profile local server isn script short = record {
   agrees = record {
     same = record { kind = refl; ip = refl; port = refl; server = refl; script = refl; isn = refl; local = refl; remote = refl };
-    hears = record {
+    on_receipt = record {
       sisn = refl;
       limit = omega arith;
       count = refl;
@@ -70,7 +70,7 @@ starts profile local server isn script short = record {
   probe = refl;
   reset_reply = tt;
   edge = omega arith;
-  told = λ k. absurd (false≢true (ap is_opening k));
+  reported = λ k. absurd (false≢true (ap is_opening k));
   outcome = refl;
 }
 
@@ -99,7 +99,7 @@ supplied_waits l c h =
           local = same.local;
           remote = same.remote;
         };
-        hears = read_hears l.tcb.receiving c n few h.agrees.hears;
+        on_receipt = read_receives l.tcb.receiving c n few h.agrees.on_receipt;
         sends = subst S same.script (write_sends u.sending l.written room c full h.agrees.sends);
       };
       name = h.name;
@@ -113,7 +113,7 @@ supplied_waits l c h =
       probe = h.probe;
       reset_reply = answers_still l (supplied (given_up l)) c l.tcb.reset_reply refl refl h.reset_reply;
       edge = omega (arith, h.edge, edge);
-      told = λ k. h.told k ∙ sym edge;
+      reported = λ k. h.reported k ∙ sym edge;
       outcome = h.outcome;
     }
   where
@@ -167,7 +167,7 @@ refused c edge = record c { edge = edge }
 refuse_move : (l : LiveState) (c : Client) (head : Head) → Waits l c → is_opening c.phase ≡ true → Refuses l c head
     → IsMove c (record { head = said head; payload = [] }) c
 refuse_move l c head h opening r =
-    let none : max c.edge (length c.accepted + 0) ≡ c.edge = omega (arith, h.agrees.hears.count, h.nothing_taken) in
+    let none : max c.edge (length c.accepted + 0) ≡ c.edge = omega (arith, h.agrees.on_receipt.count, h.nothing_taken) in
     record {
       move = Refuse head.seq.0;
       window = 0;
@@ -209,7 +209,7 @@ unfolding opening_segment head_at
 syn_move l c h =
     let r : Receiving = l.tcb.receiving in
     let most : max c.edge (length c.accepted + window r) ≡ receive_edge r =
-    omega (arith, h.agrees.hears.count, h.agrees.hears.within, h.agrees.hears.queued, h.edge) in
+    omega (arith, h.agrees.on_receipt.count, h.agrees.on_receipt.within, h.agrees.on_receipt.queued, h.edge) in
     record {
       move = Syn (Some 1460);
       window = window r;
@@ -252,7 +252,7 @@ syn_moves : (l : LiveState) (c : Client) (retransmission_due : Bool) → l.tcb.r
 syn_moves l c true is h = (opened_at c (receive_edge l.tcb.receiving), syn_move l c h, refl)
 syn_moves l c false is h =
     let phase : c.phase ≡ phases.Opening = opening_is c.phase h.phase (λ k. false≢true (sym is ∙ h.due k)) in
-    λ i. record c { phase = sym phase i; edge = sym (h.told phase) i }
+    λ i. record c { phase = sym phase i; edge = sym (h.reported phase) i }
 
 -- what leaves
 waits_leave : (m : LiveState) (c : Client) → Waits m c → AreMoves c (leaving m.tcb) (opened_at c (receive_edge m.tcb.receiving))
@@ -310,16 +310,16 @@ turn_ended_waits m c h =
             local = h.agrees.same.local;
             remote = h.agrees.same.remote;
           };
-          hears = record {
-            sisn = h.agrees.hears.sisn;
-            limit = h.agrees.hears.limit;
-            count = h.agrees.hears.count;
-            rest = h.agrees.hears.rest;
-            fin = unended c.phase h.phase ∙ h.agrees.hears.fin;
-            early = h.agrees.hears.early;
-            behind = h.agrees.hears.behind;
-            within = h.agrees.hears.within;
-            queued = h.agrees.hears.queued;
+          on_receipt = record {
+            sisn = h.agrees.on_receipt.sisn;
+            limit = h.agrees.on_receipt.limit;
+            count = h.agrees.on_receipt.count;
+            rest = h.agrees.on_receipt.rest;
+            fin = unended c.phase h.phase ∙ h.agrees.on_receipt.fin;
+            early = h.agrees.on_receipt.early;
+            behind = h.agrees.on_receipt.behind;
+            within = h.agrees.on_receipt.within;
+            queued = h.agrees.on_receipt.queued;
           };
           sends = timed_sends runs q m.written d sends;
         };
@@ -334,7 +334,7 @@ turn_ended_waits m c h =
         probe = refl;
         reset_reply = tt;
         edge = omega arith;
-        told = λ k. refl;
+        reported = λ k. refl;
         outcome = h.outcome;
       };
       phase = refl;

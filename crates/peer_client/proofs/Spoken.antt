@@ -179,9 +179,9 @@ pub edge_low : (xs : List Segment) (edge x : ℕ) → x ≤ edge → edge_after 
 edge_low [] edge x low = low
 edge_low (a ∷ xs) edge x low = omega arith
 
-pub goes_on : (c : Client) (edge s x mid after : ℕ) (xs ys : List Segment) → Goes c edge s x xs mid → Goes c edge mid (edge_after xs edge x) ys after
+pub proceeds : (c : Client) (edge s x mid after : ℕ) (xs ys : List Segment) → Goes c edge s x xs mid → Goes c edge mid (edge_after xs edge x) ys after
     → Goes c edge s x (xs ++ ys) after
-goes_on c edge s x mid after xs ys first later =
+proceeds c edge s x mid after xs ys first later =
     subst (λ (e : ℕ). AreMoves (grown c s x) (xs ++ ys) (grown c after e)) (edge_on xs ys edge x)
     (moves_on (grown c s x) (grown c mid (edge_after xs edge x)) (grown c after (edge_after ys edge (edge_after xs edge x))) xs ys first later)
 
@@ -202,7 +202,7 @@ texts_go (suc k) u c written edge h least most place left s x enough at fits low
     text_move u c written edge h place n s x (s + n) (omega (arith, at)) (omega (arith, some_left, least)) (omega (arith, most)) (omega (arith, at, fits))
     (omega (arith, at)) low in
     let all : s + n + (left - n) ≡ s + left = omega arith in
-    goes_on c edge s x (s + n) (s + left) (text_at u place n ∷ []) (texts k u (place + n) (left - n))
+    proceeds c edge s x (s + n) (s + left) (text_at u place n ∷ []) (texts k u (place + n) (left - n))
     (goes_one c edge s x (s + n) (text_at u place n) moved)
     (subst (λ (m : ℕ). Goes c edge (s + n) edge (texts k u (place + n) (left - n)) m) all
     (texts_go k u c written edge h least most (place + n) (left - n) (s + n) edge (omega (arith, enough, some_left, least)) (omega (arith, at)) (omega (arith, fits))

@@ -19,7 +19,7 @@ use Rattle.endpoint_laws.specs.Turn.Call.{Reads, Writes, Closes}
 use Rattle.endpoint_laws.proofs.EndingLaw.{FollowsAt, used_follows, flush_follows, named_at}
 use Rattle.endpoint_laws.proofs.AnswersAlone.{closed_sends}
 use Rattle.peer_client.specs.Live.{LiveState, given_up, next_part, supplied, closes, shut, before_flush, sent_by, turned}
-use Rattle.peer_client.specs.Refinement.{AreMoves, IsSame, Hears, Sends, Told, IsConnected, IsStanding}
+use Rattle.peer_client.specs.Refinement.{AreMoves, IsSame, OnReceipt, Sends, Reported, IsConnected, IsStanding}
 use Rattle.peer_client.proofs.Spoken.{grown, Speaks}
 use Rattle.peer_client.proofs.Leaves.{at_end, IsWithin, Flushes, Left, leaves}
 use Rattle.peer_client.proofs.Named.{follows_of, over_at}
@@ -40,8 +40,8 @@ read_behind r n few h =
     behind_up (taken (read_out r n)) (receive_edge r) (receive_edge (read_out r n)) r.fin r.early (read_edge r n)
     (subst (λ (k : ℕ). StandsBehind k (receive_edge r) r.fin r.early) (sym (read_taken r n few)) h)
 
-pub read_hears : (r : Receiving) (c : Client) (n : ℕ) → n ≤ length r.unread → Hears r c → Hears (read_out r n) c
-read_hears r c n few h =
+pub read_receives : (r : Receiving) (c : Client) (n : ℕ) → n ≤ length r.unread → OnReceipt r c → OnReceipt (read_out r n) c
+read_receives r c n few h =
     let left : length (drop n r.unread) ≡ length r.unread - n = length-drop n r.unread in
     record {
       sisn = h.sisn;
@@ -141,17 +141,17 @@ pub record Ready (l : LiveState) (c : Client) (u : Tcb) (written : ℕ) : Type 0
   pub remote : u.remote ≡ l.server
   pub iss : u.sending.iss ≡ c.isn
   pub syn_acked : u.sending.syn_acked ≡ true
-  pub hears : Hears u.receiving c
+  pub on_receipt : OnReceipt u.receiving c
   pub sends : Sends u.sending written c
   pub reset_reply : u.reset_reply ≡ None
   pub unreset : u.reset ≡ false
   pub edge : c.edge ≤ receive_edge u.receiving
-  pub told : (u.ack_pending ≡ true) ⊎ Told u c
+  pub reported : (u.ack_pending ≡ true) ⊎ Reported u c
 
-told_read : (u : Tcb) (c : Client) (n : ℕ) → n ≤ length u.receiving.unread → (u.ack_pending ≡ true) ⊎ Told u c
-    → (u.ack_pending ≡ true) ⊎ Told (record u { receiving = read_out u.receiving n }) c
-told_read u c n few (inl ack_pending) = inl ack_pending
-told_read u c n few (inr t) = inr (record {
+reported_read : (u : Tcb) (c : Client) (n : ℕ) → n ≤ length u.receiving.unread → (u.ack_pending ≡ true) ⊎ Reported u c
+    → (u.ack_pending ≡ true) ⊎ Reported (record u { receiving = read_out u.receiving n }) c
+reported_read u c n few (inl ack_pending) = inl ack_pending
+reported_read u c n few (inr t) = inr (record {
   bytes = t.bytes;
   fin = t.fin;
   next_is = t.next_is;
@@ -160,10 +160,10 @@ told_read u c n few (inr t) = inr (record {
   fin_taken = t.fin_taken;
 })
 
-told_as : (u v : Tcb) (c : Client) → v.ack_pending ≡ u.ack_pending → v.last_ack_sent ≡ u.last_ack_sent → v.last_advertised_edge ≡ u.last_advertised_edge → v.receiving ≡ u.receiving
-    → (u.ack_pending ≡ true) ⊎ Told u c → (v.ack_pending ≡ true) ⊎ Told v c
-told_as u v c ack_pending next edge receiving (inl h) = inl (ack_pending ∙ h)
-told_as u v c ack_pending next edge receiving (inr t) = inr (record {
+reported_as : (u v : Tcb) (c : Client) → v.ack_pending ≡ u.ack_pending → v.last_ack_sent ≡ u.last_ack_sent → v.last_advertised_edge ≡ u.last_advertised_edge → v.receiving ≡ u.receiving
+    → (u.ack_pending ≡ true) ⊎ Reported u c → (v.ack_pending ≡ true) ⊎ Reported v c
+reported_as u v c ack_pending next edge receiving (inl h) = inl (ack_pending ∙ h)
+reported_as u v c ack_pending next edge receiving (inr t) = inr (record {
   bytes = t.bytes;
   fin = t.fin;
   next_is = next ∙ t.next_is;
@@ -186,12 +186,12 @@ ready_supplied l c h =
       remote = h.agrees.same.remote;
       iss = sym h.agrees.same.isn;
       syn_acked = h.syn_acked;
-      hears = read_hears l.tcb.receiving c n few h.agrees.hears;
+      on_receipt = read_receives l.tcb.receiving c n few h.agrees.on_receipt;
       sends = subst S h.agrees.same.script (write_sends u.sending l.written room c full h.agrees.sends);
       reset_reply = h.reset_reply;
       unreset = h.unreset;
       edge = omega (arith, h.edge, read_edge l.tcb.receiving n);
-      told = told_as u (supplied (given_up l)).tcb c refl refl refl refl (told_read l.tcb c n few h.told);
+      reported = reported_as u (supplied (given_up l)).tcb c refl refl refl refl (reported_read l.tcb c n few h.reported);
     }
 
 ready_shut : (l : LiveState) (c : Client) (m : LiveState) → m.script ≡ c.script → Ready l c m.tcb m.written → Ready l c (shut m).tcb m.written
@@ -202,13 +202,13 @@ ready_shut l c m script h =
       remote = h.remote;
       iss = h.iss;
       syn_acked = h.syn_acked;
-      hears = h.hears;
+      on_receipt = h.on_receipt;
       sends = close_sends m.tcb.sending m.written c
           (omega (arith, h.sends.within, at_most_of_test (length m.script) m.written (right_true (has_begun m.tcb.name) (nat_le (length m.script) m.written) k), ap length script)) h.sends;
       reset_reply = h.reset_reply;
       unreset = h.unreset;
       edge = h.edge;
-      told = told_as m.tcb (closing m.tcb) c refl refl refl refl h.told;
+      reported = reported_as m.tcb (closing m.tcb) c refl refl refl refl h.reported;
     })
     (λ k. h)
 
@@ -262,8 +262,8 @@ sent_more u c written sent fin time edge w more h = record {
   most = h.most;
 }
 
-same_hears : (r : Receiving) (c : Client) (sent edge : ℕ) → Hears r c → Hears r (grown c sent edge)
-same_hears r c sent edge h =
+same_receives : (r : Receiving) (c : Client) (sent edge : ℕ) → OnReceipt r c → OnReceipt r (grown c sent edge)
+same_receives r c sent edge h =
     record {
       sisn = h.sisn;
       limit = h.limit;
@@ -283,10 +283,10 @@ speaks_of l c u written same phase r = record {
   port = ap (λ a. a.port) r.local ∙ sym same.port;
   server = r.remote ∙ sym same.server;
   isn = r.iss;
-  sisn = sym r.hears.sisn;
-  units = λ i. sym r.hears.count i + one_if (sym r.hears.fin i);
+  sisn = sym r.on_receipt.sisn;
+  units = λ i. sym r.on_receipt.count i + one_if (sym r.on_receipt.fin i);
   stands = phase;
-  edge_is = omega (arith, r.hears.count, r.hears.within, r.hears.queued);
+  edge_is = omega (arith, r.on_receipt.count, r.on_receipt.within, r.on_receipt.queued);
   small = omega arith;
   una = r.sends.acknowledged;
   held = r.sends.held;
@@ -302,10 +302,10 @@ pub record Turned (l : LiveState) (c : Client) : Type 0 where
 pub follows_before : (l : LiveState) (c : Client) → IsConnected l c → FollowsAt (before_flush l).tcb
 follows_before l c h = subst FollowsAt (calls_are l) (used_follows (calls_of l) l.tcb (follows_of l c h))
 
-begun_told : (u : Tcb) (sent : ℕ) (fin : Bool) (time : Timing) (c : Client) → has_begun u.name ≡ true
-    → Told (with_turn_ended (at_end u sent fin time)) (grown c sent (receive_edge u.receiving))
+begun_reported : (u : Tcb) (sent : ℕ) (fin : Bool) (time : Timing) (c : Client) → has_begun u.name ≡ true
+    → Reported (with_turn_ended (at_end u sent fin time)) (grown c sent (receive_edge u.receiving))
 unfolding with_turn_ended with_advertised
-begun_told u sent fin time c begun = record {
+begun_reported u sent fin time c begun = record {
   bytes = taken u.receiving;
   fin = u.receiving.fin;
   next_is = ap (λ b. if b then next u.receiving else u.last_ack_sent) begun;
@@ -339,7 +339,7 @@ turn_ended_stands l c sent fin time h begun w more follows =
             local = r.local;
             remote = r.remote;
           };
-          hears = same_hears u.receiving c sent edge r.hears;
+          on_receipt = same_receives u.receiving c sent edge r.on_receipt;
           sends = timed_sends runs q (before_flush l).written (grown c sent edge) (sent_more u c (before_flush l).written sent fin time edge w more r.sends);
         };
         syn_acked = timed_same (λ (s : Sending). s.syn_acked) (λ a b s. refl) runs q ∙ r.syn_acked;
@@ -349,12 +349,12 @@ turn_ended_stands l c sent fin time h begun w more follows =
         unreset = r.unreset;
         reset_reply = refl;
         edge = omega arith;
-        told = inr (begun_told u sent fin time c begun);
+        reported = inr (begun_reported u sent fin time c begun);
         outcome = h.outcome;
       };
       begun = begun;
       edge = refl;
-      told = begun_told u sent fin time c begun;
+      reported = begun_reported u sent fin time c begun;
     }
 
 pub turn_ends : (l : LiveState) (c : Client) → IsConnected l c → has_begun (before_flush l).tcb.name ≡ true → Turned l c
@@ -373,7 +373,7 @@ turn_ends l c h begun =
       reset_reply = r.reset_reply;
     } in
     let within : IsWithin u c w u.sending.sent u.sending.fin_sent = record { order = r.sends.order; text = r.sends.text; ended = r.sends.ended } in
-    let left : Left u c w edge = leaves u c w edge begun f within r.sends.sent r.edge refl r.told in
+    let left : Left u c w edge = leaves u c w edge begun f within r.sends.sent r.edge refl r.reported in
     let P : Tcb → Type 0 = λ v. IsStanding (record (before_flush l) { tcb = with_turn_ended v }) (grown c left.sent edge) in
     record {
       later = grown c left.sent edge;

@@ -18,8 +18,8 @@ use Rattle.endpoint_laws.proofs.AnswersAlone.{closed_sends}
 use Rattle.ft_model.specs.declared.phase.Phase.TheVariants as phases
 use Rattle.peer_client.specs.declared.live.ClientEnd.{ClientEnd}
 use Rattle.peer_client.specs.declared.live.ClientEnd.TheVariants as ends
-use Rattle.peer_client.specs.Live.{LiveState, is_of, met, hearing, ticked, unread, handed, given_up, supplied, closes, before_flush, sent_by, turned}
-use Rattle.peer_client.specs.Refinement.{AreMoves, IsSame, AnswersBy, Waits, IsConnected, Hears, HasHeard, IsReset, IsBetween, IsDue, is_for_client, AcksNear, AckFits, Moves, outcome_of, is_reset, receiving, handed_out}
+use Rattle.peer_client.specs.Live.{LiveState, is_of, met, arrivals, ticked, unread, handed, given_up, supplied, closes, before_flush, sent_by, turned}
+use Rattle.peer_client.specs.Refinement.{AreMoves, IsSame, AnswersBy, Waits, IsConnected, OnReceipt, HasReceived, IsReset, IsBetween, IsDue, is_for_client, AcksNear, AckFits, Moves, outcome_of, is_reset, receiving, handed_out}
 use Rattle.peer_client.proofs.Named.{over_at, acked_at}
 use Rattle.peer_client.proofs.Arrives.{few_sent}
 use Rattle.peer_client.proofs.TurnEnds.{ready, turn_ends, closed_leaves, follows_before}
@@ -30,9 +30,9 @@ use Rattle.ft_io.proofs.Choices.{holds_if}
 use Rattle.peer_client.proofs.Leaves.{pair_if}
 
 -- between two turns nothing is due
-told_due : (l : LiveState) (c : Client) → IsBetween l c → IsDue l c
-told_due l c (inl h) = inl h.waits
-told_due l c (inr h) = inr (inl h.stands)
+reported_due : (l : LiveState) (c : Client) → IsBetween l c → IsDue l c
+reported_due l c (inl h) = inl h.waits
+reported_due l c (inr h) = inr (inl h.stands)
 
 -- bytes come. A packet of the client's own connection is near
 is_for : (l : LiveState) (c : Client) (p : Segment) → IsSame l c → is_of l.local l.server p ≡ true → is_for_client c p ≡ true
@@ -43,12 +43,12 @@ of_connection : (l : LiveState) (c : Client) (p : Segment) → IsBetween l c →
 of_connection l c p (inl h) none near fits from = answer_comes l c p h from fits
 of_connection l c p (inr h) none near fits from = inr (segment_comes l c p h none (near (is_for l c p h.stands.agrees.same from)))
 
-pub heard_due : (l : LiveState) (c : Client) (r : Result Segment BadPacket) → IsBetween l c → l.outcome ≡ None → AcksNear c r → AckFits r
-    → IsDue (hearing l r) (receiving l c r)
-heard_due l c (Err bad) h none near fits = told_due l c h
-heard_due l c (Ok p) h none near fits =
+pub received_due : (l : LiveState) (c : Client) (r : Result Segment BadPacket) → IsBetween l c → l.outcome ≡ None → AcksNear c r → AckFits r
+    → IsDue (arrivals l r) (receiving l c r)
+received_due l c (Err bad) h none near fits = reported_due l c h
+received_due l c (Ok p) h none near fits =
     pair_if (λ (m : LiveState) (d : Client). IsDue m d) (is_of l.local l.server p) (met l p) l (machine.received c p) c
-    (λ from. of_connection l c p h none near fits from) (λ other. told_due l c h)
+    (λ from. of_connection l c p h none near fits from) (λ other. reported_due l c h)
 
 -- numbers tell the order of offsets
 pub short_between : (l : LiveState) (c : Client) → IsBetween l c → IsShort l.tcb.sending
@@ -76,22 +76,22 @@ ended_outcome c unreset through =
     ∙ ap (λ b. if b then Some ends.Closed else None) through
 
 -- what is left stays where the turn ends
-read_heard : (r : Receiving) (c : Client) (n : ℕ) → n ≤ length r.unread → HasHeard r c → HasHeard (read_out r n) c
-read_heard r c n few h = record {
+read_received : (r : Receiving) (c : Client) (n : ℕ) → n ≤ length r.unread → HasReceived r c → HasReceived (read_out r n) c
+read_received r c n few h = record {
   count = omega (arith, h.count, length-drop n r.unread, few);
   rest = sym (drop-drop n r.read c.accepted) ∙ ap (drop n) h.rest;
 }
 
-turned_heard : (l : LiveState) (c : Client) → HasHeard l.tcb.receiving c → HasHeard (turned l).tcb.receiving c
+turned_received : (l : LiveState) (c : Client) → HasReceived l.tcb.receiving c → HasReceived (turned l).tcb.receiving c
 unfolding flushed with_turn_ended with_advertised after_full with_timed with_fin_out with_text_sent with_probe
-turned_heard l c h =
+turned_received l c h =
     let m : LiveState = supplied (given_up l) in
-    holds_if (λ (t : Tcb). HasHeard t.receiving c) (closes m) (closing m.tcb) m.tcb
-    (λ k. read_heard l.tcb.receiving c (min l.seen (length l.tcb.receiving.unread)) (omega arith) h)
-    (λ k. read_heard l.tcb.receiving c (min l.seen (length l.tcb.receiving.unread)) (omega arith) h)
+    holds_if (λ (t : Tcb). HasReceived t.receiving c) (closes m) (closing m.tcb) m.tcb
+    (λ k. read_received l.tcb.receiving c (min l.seen (length l.tcb.receiving.unread)) (omega arith) h)
+    (λ k. read_received l.tcb.receiving c (min l.seen (length l.tcb.receiving.unread)) (omega arith) h)
 
-heard_from : (r : Receiving) (c : Client) → Hears r c → HasHeard r c
-heard_from r c h = record { count = h.count; rest = h.rest }
+received_from : (r : Receiving) (c : Client) → OnReceipt r c → HasReceived r c
+received_from r c h = record { count = h.count; rest = h.rest }
 
 stands_ends : (l : LiveState) (c : Client) → IsConnected l c → (begun : Bool) → has_begun (before_flush l).tcb.name ≡ begun → Moves (turned l) (sent_by l) c
 stands_ends l c h true begun =
@@ -99,21 +99,21 @@ stands_ends l c h true begun =
     record {
       later = t.later;
       moves = t.moves;
-      heard = heard_from (turned l).tcb.receiving t.later t.standing.stands.agrees.hears;
-      goes_on = λ none. inr t.standing;
+      receipt = received_from (turned l).tcb.receiving t.later t.standing.stands.agrees.on_receipt;
+      proceeds = λ none. inr t.standing;
     }
 stands_ends l c h false begun =
     let u : Tcb = (before_flush l).tcb in
     let r = ready l c h in
     let over = over_at u (follows_before l c h) begun in
     let through : (is_ended c.phase && c.acknowledged == length c.script + 1) ≡ true =
-    (λ i. r.hears.fin i && sym (acked_at u.sending (before_flush l).written c r.sends) i) ∙ over.2 in
+    (λ i. r.on_receipt.fin i && sym (acked_at u.sending (before_flush l).written c r.sends) i) ∙ over.2 in
     let outcome : l.outcome ≡ Some ends.Closed = h.outcome ∙ ended_outcome c (not_reset c.phase h.phase) through in
     record {
       later = c;
       moves = subst (λ (xs : List Segment). AreMoves c xs c) (sym (closed_leaves l c h begun)) refl;
-      heard = turned_heard l c (heard_from l.tcb.receiving c h.agrees.hears);
-      goes_on = λ none. absurd (false≢true (ap is_none (sym outcome ∙ none)));
+      receipt = turned_received l c (received_from l.tcb.receiving c h.agrees.on_receipt);
+      proceeds = λ none. absurd (false≢true (ap is_none (sym outcome ∙ none)));
     }
 
 reset_ends : (l : LiveState) (c : Client) → IsReset l c → Moves (turned l) (sent_by l) c
@@ -127,8 +127,8 @@ reset_ends l c h =
     record {
       later = c;
       moves = subst (λ (xs : List Segment). AreMoves c xs c) (sym nothing) refl;
-      heard = turned_heard l c h.heard;
-      goes_on = λ none. absurd (false≢true (ap is_none (sym h.outcome ∙ none)));
+      receipt = turned_received l c h.receipt;
+      proceeds = λ none. absurd (false≢true (ap is_none (sym h.outcome ∙ none)));
     }
 
 pub flush_moves : (l : LiveState) (c : Client) → IsDue l c → Moves (turned l) (sent_by l) c
@@ -137,23 +137,23 @@ flush_moves l c (inl h) =
     record {
       later = o.later;
       moves = o.moves;
-      heard = heard_from (turned l).tcb.receiving o.later o.waiting.waits.agrees.hears;
-      goes_on = λ none. inl o.waiting;
+      receipt = received_from (turned l).tcb.receiving o.later o.waiting.waits.agrees.on_receipt;
+      proceeds = λ none. inl o.waiting;
     }
 flush_moves l c (inr (inl h)) = stands_ends l c h (has_begun (before_flush l).tcb.name) refl
 flush_moves l c (inr (inr h)) = reset_ends l c h
 
 -- what is handed out
-pub heard_of : (l : LiveState) (c : Client) → IsDue l c → HasHeard l.tcb.receiving c
-heard_of l c (inl h) = record { count = h.agrees.hears.count; rest = h.agrees.hears.rest }
-heard_of l c (inr (inl h)) = record { count = h.agrees.hears.count; rest = h.agrees.hears.rest }
-heard_of l c (inr (inr h)) = h.heard
+pub received_of : (l : LiveState) (c : Client) → IsDue l c → HasReceived l.tcb.receiving c
+received_of l c (inl h) = record { count = h.agrees.on_receipt.count; rest = h.agrees.on_receipt.rest }
+received_of l c (inr (inl h)) = record { count = h.agrees.on_receipt.count; rest = h.agrees.on_receipt.rest }
+received_of l c (inr (inr h)) = h.receipt
 
-pub unread_heard : (l : LiveState) (c : Client) → HasHeard l.tcb.receiving c → unread l ≡ drop (handed_out l) c.accepted
-unread_heard l c h = ap (drop l.seen) (sym h.rest) ∙ drop-drop l.seen l.tcb.receiving.read c.accepted
+pub unread_received : (l : LiveState) (c : Client) → HasReceived l.tcb.receiving c → unread l ≡ drop (handed_out l) c.accepted
+unread_received l c h = ap (drop l.seen) (sym h.rest) ∙ drop-drop l.seen l.tcb.receiving.read c.accepted
 
 pub unread_is : (l : LiveState) (c : Client) → IsDue l c → unread l ≡ drop (handed_out l) c.accepted
-unread_is l c h = unread_heard l c (heard_of l c h)
+unread_is l c h = unread_received l c (received_of l c h)
 
 same_seen : (l : LiveState) (c : Client) (n : ℕ) → IsSame l c → IsSame (record l { seen = n }) c
 same_seen l c n h = record { kind = h.kind; ip = h.ip; port = h.port; server = h.server; script = h.script; isn = h.isn; local = h.local; remote = h.remote }
@@ -179,7 +179,7 @@ answers_seen l c n (Some head) h = (
 
 waits_seen : (l : LiveState) (c : Client) (n : ℕ) → Waits l c → Waits (record l { seen = n }) c
 waits_seen l c n h = record {
-  agrees = record { same = same_seen l c n h.agrees.same; hears = h.agrees.hears; sends = h.agrees.sends };
+  agrees = record { same = same_seen l c n h.agrees.same; on_receipt = h.agrees.on_receipt; sends = h.agrees.sends };
   name = h.name;
   phase = h.phase;
   due = h.due;
@@ -191,13 +191,13 @@ waits_seen l c n h = record {
   probe = h.probe;
   reset_reply = answers_seen l c n l.tcb.reset_reply h.reset_reply;
   edge = h.edge;
-  told = h.told;
+  reported = h.reported;
   outcome = h.outcome;
 }
 
 stands_seen : (l : LiveState) (c : Client) (n : ℕ) → IsConnected l c → IsConnected (record l { seen = n }) c
 stands_seen l c n h = record {
-  agrees = record { same = same_seen l c n h.agrees.same; hears = h.agrees.hears; sends = h.agrees.sends };
+  agrees = record { same = same_seen l c n h.agrees.same; on_receipt = h.agrees.on_receipt; sends = h.agrees.sends };
   syn_acked = h.syn_acked;
   phase = h.phase;
   named = h.named;
@@ -205,7 +205,7 @@ stands_seen l c n h = record {
   unreset = h.unreset;
   reset_reply = h.reset_reply;
   edge = h.edge;
-  told = h.told;
+  reported = h.reported;
   outcome = h.outcome;
 }
 
@@ -213,11 +213,11 @@ pub due_handed : (l : LiveState) (c : Client) (n : ℕ) → IsDue l c → IsDue 
 due_handed l c n (inl h) = inl (waits_seen l c (l.seen + n) h)
 due_handed l c n (inr (inl h)) = inr (inl (stands_seen l c (l.seen + n) h))
 due_handed l c n (inr (inr h)) =
-    inr (inr (record { phase = h.phase; name = h.name; reset = h.reset; reset_reply = h.reset_reply; outcome = h.outcome; heard = h.heard }))
+    inr (inr (record { phase = h.phase; name = h.name; reset = h.reset; reset_reply = h.reset_reply; outcome = h.outcome; receipt = h.receipt }))
 
 pub between_handed : (l : LiveState) (c : Client) (n : ℕ) → IsBetween l c → IsBetween (handed l n) c
 between_handed l c n (inl h) = inl (record { waits = waits_seen l c (l.seen + n) h.waits; phase = h.phase; retransmission_due = h.retransmission_due; reset_reply = h.reset_reply })
-between_handed l c n (inr h) = inr (record { stands = stands_seen l c (l.seen + n) h.stands; begun = h.begun; edge = h.edge; told = h.told })
+between_handed l c n (inr h) = inr (record { stands = stands_seen l c (l.seen + n) h.stands; begun = h.begun; edge = h.edge; reported = h.reported })
 
 -- the outcome is the machine's
 waiting_outcome : (c : Client) → (c.phase ≡ phases.New) ⊎ (c.phase ≡ phases.Opening) → None ≡ outcome_of c

@@ -59,12 +59,12 @@ abbrev pub met : LiveState → Segment → LiveState
 met l segment = record l { tcb = received l.tcb segment; outcome = first_end l.outcome (end_of (received l.tcb segment)) }
 
 -- bytes arrive: those that are no packet of the connection are dropped
-abbrev pub hearing : LiveState → Result Segment BadPacket → LiveState
-hearing l (Ok segment) = if is_of l.local l.server segment then met l segment else l
-hearing l (Err bad) = l
+abbrev pub arrivals : LiveState → Result Segment BadPacket → LiveState
+arrivals l (Ok segment) = if is_of l.local l.server segment then met l segment else l
+arrivals l (Err bad) = l
 
 abbrev pub after_packet : LiveState → List ℕ → LiveState
-after_packet l bytes = hearing l (reading bytes)
+after_packet l bytes = arrivals l (reading bytes)
 
 abbrev pub ticked : LiveState → LiveState
 ticked l = record l { tcb = after_tick l.tcb }

@@ -50,7 +50,7 @@ pub record IsSame (l : LiveState) (c : Client) : Type 0 where
   pub remote : l.tcb.remote ≡ l.server
 
 -- the machine has accepted what TCP has taken, and holds what TCP holds
-pub record Hears (r : Receiving) (c : Client) : Type 0 where
+pub record OnReceipt (r : Receiving) (c : Client) : Type 0 where
   pub sisn : c.sisn ≡ r.irs
   pub limit : r.limit ≡ longest_stream
   pub count : length c.accepted ≡ taken r
@@ -79,7 +79,7 @@ pub record Sends (s : Sending) (written : ℕ) (c : Client) : Type 0 where
 
 pub record Agrees (l : LiveState) (c : Client) : Type 0 where
   pub same : IsSame l c
-  pub hears : Hears l.tcb.receiving c
+  pub on_receipt : OnReceipt l.tcb.receiving c
   pub sends : Sends l.tcb.sending l.written c
 
 -- the RST sent in reply is the refusal of a wrong acknowledgement of the SYN, and has that number
@@ -114,11 +114,11 @@ pub record Waits (l : LiveState) (c : Client) : Type 0 where
   pub probe : l.tcb.probe ≡ false
   pub reset_reply : AnswersBy l c l.tcb.reset_reply
   pub edge : c.edge ≤ receive_edge l.tcb.receiving
-  pub told : c.phase ≡ phases.Opening → c.edge ≡ receive_edge l.tcb.receiving
+  pub reported : c.phase ≡ phases.Opening → c.edge ≡ receive_edge l.tcb.receiving
   pub outcome : l.outcome ≡ None
 
 -- what was advertised last: an acknowledgement of this many bytes, with a FIN or without, and the right edge
-pub record Told (e : Tcb) (c : Client) : Type 0 where
+pub record Reported (e : Tcb) (c : Client) : Type 0 where
   pub bytes : ℕ
   pub fin : Bool
   pub next_is : e.last_ack_sent ≡ bytes + one_if fin
@@ -136,11 +136,11 @@ pub record IsConnected (l : LiveState) (c : Client) : Type 0 where
   pub unreset : l.tcb.reset ≡ false
   pub reset_reply : l.tcb.reset_reply ≡ None
   pub edge : c.edge ≤ receive_edge l.tcb.receiving
-  pub told : (l.tcb.ack_pending ≡ true) ⊎ Told l.tcb c
+  pub reported : (l.tcb.ack_pending ≡ true) ⊎ Reported l.tcb c
   pub outcome : l.outcome ≡ outcome_of c
 
 -- the machine has accepted as much as TCP has taken, and TCP's unread bytes are the last of the accepted ones
-pub record HasHeard (r : Receiving) (c : Client) : Type 0 where
+pub record HasReceived (r : Receiving) (c : Client) : Type 0 where
   pub count : length c.accepted ≡ taken r
   pub rest : drop r.read c.accepted ≡ r.unread
 
@@ -151,7 +151,7 @@ pub record IsReset (l : LiveState) (c : Client) : Type 0 where
   pub reset : l.tcb.reset ≡ true
   pub reset_reply : l.tcb.reset_reply ≡ None
   pub outcome : l.outcome ≡ Some ends.Reset
-  pub heard : HasHeard l.tcb.receiving c
+  pub receipt : HasReceived l.tcb.receiving c
 
 -- between two turns nothing is due, and all is advertised
 pub record IsWaiting (l : LiveState) (c : Client) : Type 0 where
@@ -164,7 +164,7 @@ pub record IsStanding (l : LiveState) (c : Client) : Type 0 where
   pub stands : IsConnected l c
   pub begun : has_begun l.tcb.name ≡ true
   pub edge : c.edge ≡ receive_edge l.tcb.receiving
-  pub told : Told l.tcb c
+  pub reported : Reported l.tcb c
 
 abbrev pub IsBetween : LiveState → Client → Type 0
 IsBetween l c = IsWaiting l c ⊎ IsStanding l c
@@ -197,8 +197,8 @@ receiving l c (Err bad) = c
 pub record Moves (after : LiveState) (segments : List Segment) (c : Client) : Type 0 where
   pub later : Client
   pub moves : AreMoves c segments later
-  pub heard : HasHeard after.tcb.receiving later
-  pub goes_on : after.outcome ≡ None → IsBetween after later
+  pub receipt : HasReceived after.tcb.receiving later
+  pub proceeds : after.outcome ≡ None → IsBetween after later
 
 -- how many bytes were handed out
 abbrev pub handed_out : LiveState → ℕ

@@ -41,9 +41,9 @@ unfoldable pub is_fin_at : (n edge : ℕ) → ℤ → Bool
 is_fin_at n edge place = int_eq place (pos n) && nat_lt n edge
 
 -- the client with bytes that arrive: it receives the segment that they spell, and drops bytes that spell none
-abbrev pub hearing : Client → Result Segment BadPacket → Client
-hearing client (Ok segment) = received client segment
-hearing client (Err bad) = client
+abbrev pub arrivals : Client → Result Segment BadPacket → Client
+arrivals client (Ok segment) = received client segment
+arrivals client (Err bad) = client
 
 abbrev pub delivered : Client → List ℕ → Client
-delivered client bytes = hearing client (reading bytes)
+delivered client bytes = arrivals client (reading bytes)

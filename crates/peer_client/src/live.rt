@@ -11,7 +11,7 @@ ghost use Rattle.tcp_endpoint.specs.UserCalls.{after_read};
 ghost use Rattle.peer_client.specs.Live.{new_live, new_live_in, is_of, end_of, first_end, met, after_packet, ticked, unread, handed, given_up};
 ghost use Rattle.peer_client.specs.Live.{supplied, closes as closes_lem};
 ghost use Rattle.peer_client.specs.Live.{shut as shut_lem, before_flush, sent_by, turned};
-ghost use Rattle.peer_client.specs.Refinement.{IsBetween, IsDue, AcksNear, AckFits, receiving, Moves, HasHeard, handed_out, outcome_of};
+ghost use Rattle.peer_client.specs.Refinement.{IsBetween, IsDue, AcksNear, AckFits, receiving, Moves, HasReceived, handed_out, outcome_of};
 ghost use Rattle.seq_arith.specs.PacketGrammar.{reading};
 ghost use Rattle.tcp_rules.specs.Profiles.{profile_of};
 ghost use Rattle.ft_model.specs.Client.{Client, new_client};
@@ -216,7 +216,7 @@ impl LiveClient {
         ensures state { self.new ≡ handed self.old result }
         // These are the bytes that the client machine has accepted, in order, after those that were handed out before.
         ensures accepted { (c : Client) → IsDue self.old c → unread self.old ≡ drop (handed_out self.old) c.accepted }
-        ensures rest { (c : Client) → HasHeard self.old.tcb.receiving c → unread self.old ≡ drop (handed_out self.old) c.accepted }
+        ensures rest { (c : Client) → HasReceived self.old.tcb.receiving c → unread self.old ≡ drop (handed_out self.old) c.accepted }
         ensures due { (c : Client) → IsDue self.old c → IsDue self.new c }
         ensures between { (c : Client) → IsBetween self.old c → IsBetween self.new c }
     {

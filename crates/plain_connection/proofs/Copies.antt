@@ -9,18 +9,18 @@ use Rattle.ft_io.proofs.Booleans.{left_false}
 use Rattle.seq_arith.specs.Message.{Body, Part}
 use Rattle.seq_arith.specs.Message.Body.{DataMsg, ReadMsg}
 use Rattle.seq_arith.specs.Packet.{Segment}
-use Rattle.ft_model.specs.Connection.{told_by}
+use Rattle.ft_model.specs.Connection.{reported_by}
 use Rattle.ft_model.specs.Copy.{datas, own_data, further_data, una_part, or_una, batch, copies}
 use Rattle.ft_model.specs.News.{News}
 use Rattle.ft_model.specs.News.News.{Comes}
 use Rattle.ft_model.specs.Point.{Point}
-use Rattle.ft_model.specs.Reads.{read_messages, first_told, reads_told}
+use Rattle.ft_model.specs.Reads.{read_messages, first_reported, reads_reported}
 use Rattle.ft_model.specs.Wire.{Wire}
 use Rattle.plain_packets.specs.Sent.{Appends}
 use Rattle.plain_packets.proofs.Sent.{appends_none, appends_same}
 use Rattle.plain_point.specs.Copying.{further_part}
 use Rattle.plain_connection.specs.Copying.{datas_of, followed, batched}
-use Rattle.plain_connection.proofs.Telling.{IsTelling, one_told, told_both}
+use Rattle.plain_connection.proofs.Reporting.{IsReporting, one_reported, reported_both}
 
 -- one part of 1,460 bytes, and the part after all such
 abbrev full_part : Key → (acked offset : ℕ) → List ℕ → Part
@@ -90,17 +90,17 @@ not_followed : (part : Part) → part.more ≡ false → followed false part ≡
 not_followed part single = ap (λ more. record part { more = more }) (sym single)
 
 pub last_sent : (boot : ℕ) (old new : List Wire) (batches : Bool) (part : Part) → part.more ≡ false → length part.bytes ≤ 1460
-    → (nat_lt 0 (length part.bytes) || part.fin) ≡ true → Appends old new (told_by boot (DataMsg (followed false part)) ∷ [])
-    → Appends old new (map (told_by boot) (batched batches (datas_of part)))
+    → (nat_lt 0 (length part.bytes) || part.fin) ≡ true → Appends old new (reported_by boot (DataMsg (followed false part)) ∷ [])
+    → Appends old new (map (reported_by boot) (batched batches (datas_of part)))
 last_sent boot old new batches part single short some sent =
     let all : batched batches (datas_of part) ≡ DataMsg (last_part part.key part.acked part.offset part.bytes part.fin) ∷ [] =
     ap (batched batches) (datas_last part.key part.acked part.offset part.bytes part.fin short some) ∙ one_batched batches _ in
-    subst (λ l. Appends old new (map (told_by boot) l)) (sym all) sent
+    subst (λ l. Appends old new (map (reported_by boot) l)) (sym all) sent
 
 pub none_sent : (boot : ℕ) (wires : List Wire) (batches : Bool) (part : Part) → (nat_lt 0 (length part.bytes) || part.fin) ≡ false
-    → Appends wires wires (map (told_by boot) (batched batches (datas_of part)))
+    → Appends wires wires (map (reported_by boot) (batched batches (datas_of part)))
 none_sent boot wires batches part none =
-    subst (λ l. Appends wires wires (map (told_by boot) l))
+    subst (λ l. Appends wires wires (map (reported_by boot) l))
     (sym (ap (batched batches) (datas_none part.key part.acked part.offset part.bytes part.fin none) ∙ none_batched batches)) (appends_none wires)
 
 -- a part with text or the FIN takes a message
@@ -135,21 +135,21 @@ own_batched batches more own further single follows =
 
 -- one more full part is sent
 pub full_sent : (boot : ℕ) (before now later : List Wire) (all : List Body) (batches : Bool) (rest : Part) (front back : List ℕ)
-    → IsTelling boot before now all (batched batches (datas_of rest)) → 1460 < length rest.bytes
+    → IsReporting boot before now all (batched batches (datas_of rest)) → 1460 < length rest.bytes
     → front ≡ take 1460 rest.bytes → back ≡ drop 1460 rest.bytes
-    → Appends now later (told_by boot (DataMsg (followed batches (record rest { fin = false; bytes = front }))) ∷ [])
-    → IsTelling boot before later all (batched batches (datas_of (record rest { offset = rest.offset + 1460; bytes = back })))
-full_sent boot before now later all batches rest front back telling long f b sent =
+    → Appends now later (reported_by boot (DataMsg (followed batches (record rest { fin = false; bytes = front }))) ∷ [])
+    → IsReporting boot before later all (batched batches (datas_of (record rest { offset = rest.offset + 1460; bytes = back })))
+full_sent boot before now later all batches rest front back reporting long f b sent =
     let behind : Part = record rest { offset = rest.offset + 1460; bytes = drop 1460 rest.bytes } in
     let left = length-drop 1460 rest.bytes in
     let some : nat_lt 0 (length (drop 1460 rest.bytes)) ≡ true = lt-ltb 0 (length (drop 1460 rest.bytes)) (omega (arith, long, left)) in
     let cut : batched batches (datas_of rest) ≡ DataMsg (followed batches (full_part rest.key rest.acked rest.offset rest.bytes)) ∷ batched batches (datas_of behind) =
     ap (batched batches) (datas_more rest.key rest.acked rest.offset rest.bytes rest.fin long)
     ∙ first_batched batches (full_part rest.key rest.acked rest.offset rest.bytes) (datas_of behind) refl (datas_some behind (ap (λ x. x || rest.fin) some)) in
-    subst (λ x. IsTelling boot before later all (batched batches (datas_of (record rest { offset = rest.offset + 1460; bytes = x })))) (sym b)
-    (one_told boot before now later all (batched batches (datas_of rest)) (batched batches (datas_of behind))
-    (DataMsg (followed batches (full_part rest.key rest.acked rest.offset rest.bytes))) telling cut
-    (subst (λ x. Appends now later (told_by boot (DataMsg (followed batches (record rest { fin = false; bytes = x }))) ∷ [])) f sent))
+    subst (λ x. IsReporting boot before later all (batched batches (datas_of (record rest { offset = rest.offset + 1460; bytes = x })))) (sym b)
+    (one_reported boot before now later all (batched batches (datas_of rest)) (batched batches (datas_of behind))
+    (DataMsg (followed batches (full_part rest.key rest.acked rest.offset rest.bytes))) reporting cut
+    (subst (λ x. Appends now later (reported_by boot (DataMsg (followed batches (record rest { fin = false; bytes = x }))) ∷ [])) f sent))
 
 -- the message of the next read
 pub next_message : (key : Key) (index : ℕ) (lengths : List ℕ) → index < length lengths
@@ -157,13 +157,13 @@ pub next_message : (key : Key) (index : ℕ) (lengths : List ℕ) → index < le
 next_message key index lengths h = rw (add-one) (ap (read_messages key index) (drop-cons lengths index 0 h) ∙ rw add-one refl)
 
 -- the reads that a turn tells
-pub reads_told_are : (boot : ℕ) (old new : List Wire) (news : News) (p q : Point) (key : Key) (first : ℕ) (lengths : List ℕ) → key ≡ q.key → first ≡ first_told news p q
-    → lengths ≡ q.lengths → Appends old new (map (told_by boot) (read_messages key first (drop first lengths))) → Appends old new (map (told_by boot) (reads_told news p q))
-unfolding reads_told
-reads_told_are boot old new news p q key first lengths k f l sent =
-    subst (λ x. Appends old new (map (told_by boot) (read_messages x (first_told news p q) (drop (first_told news p q) q.lengths)))) k
-    (subst (λ x. Appends old new (map (told_by boot) (read_messages key x (drop x q.lengths)))) f
-    (subst (λ x. Appends old new (map (told_by boot) (read_messages key first (drop first x)))) l sent))
+pub reads_reported_are : (boot : ℕ) (old new : List Wire) (news : News) (p q : Point) (key : Key) (first : ℕ) (lengths : List ℕ) → key ≡ q.key → first ≡ first_reported news p q
+    → lengths ≡ q.lengths → Appends old new (map (reported_by boot) (read_messages key first (drop first lengths))) → Appends old new (map (reported_by boot) (reads_reported news p q))
+unfolding reads_reported
+reads_reported_are boot old new news p q key first lengths k f l sent =
+    subst (λ x. Appends old new (map (reported_by boot) (read_messages x (first_reported news p q) (drop (first_reported news p q) q.lengths)))) k
+    (subst (λ x. Appends old new (map (reported_by boot) (read_messages key x (drop x q.lengths)))) f
+    (subst (λ x. Appends old new (map (reported_by boot) (read_messages key first (drop first x)))) l sent))
 
 -- what a segment has copied, where the point after the turn has this own part of it, and this further part
 module _ (boot : ℕ) (old new : List Wire) (p q : Point) (segment : Segment) (further : Part) (further_is : further ≡ further_part p q segment) where
@@ -171,45 +171,45 @@ module _ (boot : ℕ) (old new : List Wire) (p q : Point) (segment : Segment) (f
   unfolding further_data
   further_datas = ap datas_of further_is
 
-  copied_as : (own : List Body) → own_data q segment ≡ own → Appends old new (map (told_by boot) (batched q.batches (or_una p q (own ++ datas_of further))))
-      → Appends old new (map (told_by boot) (copies (Comes segment) p q))
+  copied_as : (own : List Body) → own_data q segment ≡ own → Appends old new (map (reported_by boot) (batched q.batches (or_una p q (own ++ datas_of further))))
+      → Appends old new (map (reported_by boot) (copies (Comes segment) p q))
   unfolding copies
   copied_as own is sent =
-      subst (λ l. Appends old new (map (told_by boot) (batched q.batches (or_una p q (l ++ further_data p q segment))))) (sym is)
-      (subst (λ l. Appends old new (map (told_by boot) (batched q.batches (or_una p q (own ++ l))))) further_datas sent)
+      subst (λ l. Appends old new (map (reported_by boot) (batched q.batches (or_una p q (l ++ further_data p q segment))))) (sym is)
+      (subst (λ l. Appends old new (map (reported_by boot) (batched q.batches (or_una p q (own ++ l))))) further_datas sent)
 
   pub with_own : (middle : List Wire) (own : Part) (more : Bool) → own_data q segment ≡ DataMsg own ∷ [] → own.more ≡ false
-      → more ≡ ((nat_lt 0 (length further.bytes) || further.fin) && q.batches) → Appends old middle (told_by boot (DataMsg (followed more own)) ∷ [])
-      → Appends middle new (map (told_by boot) (batched q.batches (datas_of further))) → Appends old new (map (told_by boot) (copies (Comes segment) p q))
+      → more ≡ ((nat_lt 0 (length further.bytes) || further.fin) && q.batches) → Appends old middle (reported_by boot (DataMsg (followed more own)) ∷ [])
+      → Appends middle new (map (reported_by boot) (batched q.batches (datas_of further))) → Appends old new (map (reported_by boot) (copies (Comes segment) p q))
   with_own middle own more is single follows first others =
       copied_as (DataMsg own ∷ []) is
-      (subst (λ l. Appends old new (map (told_by boot) l)) (sym (own_batched q.batches more own further single follows))
-      (told_both boot old middle new (DataMsg (followed more own) ∷ []) (batched q.batches (datas_of further)) first others))
+      (subst (λ l. Appends old new (map (reported_by boot) l)) (sym (own_batched q.batches more own further single follows))
+      (reported_both boot old middle new (DataMsg (followed more own) ∷ []) (batched q.batches (datas_of further)) first others))
 
   pub without_own : own_data q segment ≡ [] → (nat_lt 0 (length further.bytes) || further.fin) ≡ true
-      → Appends old new (map (told_by boot) (batched q.batches (datas_of further))) → Appends old new (map (told_by boot) (copies (Comes segment) p q))
+      → Appends old new (map (reported_by boot) (batched q.batches (datas_of further))) → Appends old new (map (reported_by boot) (copies (Comes segment) p q))
   without_own is some sent =
       let has = datas_some further some in
       copied_as [] is
-      (subst (λ l. Appends old new (map (told_by boot) (batched q.batches (or_una p q l)))) (sym has.2)
-      (subst (λ l. Appends old new (map (told_by boot) (batched q.batches l))) has.2 sent))
+      (subst (λ l. Appends old new (map (reported_by boot) (batched q.batches (or_una p q l)))) (sym has.2)
+      (subst (λ l. Appends old new (map (reported_by boot) (batched q.batches l))) has.2 sent))
 
   nothing_copied : own_data q segment ≡ [] → (nat_lt 0 (length further.bytes) || further.fin) ≡ false
-      → Appends old new (map (told_by boot) (batched q.batches (or_una p q []))) → Appends old new (map (told_by boot) (copies (Comes segment) p q))
+      → Appends old new (map (reported_by boot) (batched q.batches (or_una p q []))) → Appends old new (map (reported_by boot) (copies (Comes segment) p q))
   nothing_copied is none sent =
-      copied_as [] is (subst (λ l. Appends old new (map (told_by boot) (batched q.batches (or_una p q l))))
+      copied_as [] is (subst (λ l. Appends old new (map (reported_by boot) (batched q.batches (or_una p q l))))
       (sym (datas_none further.key further.acked further.offset further.bytes further.fin none)) sent)
 
   pub only_una : own_data q segment ≡ [] → (nat_lt 0 (length further.bytes) || further.fin) ≡ false → p.una < q.una
-      → Appends old new (told_by boot (DataMsg (una_part q)) ∷ []) → Appends old new (map (told_by boot) (copies (Comes segment) p q))
+      → Appends old new (reported_by boot (DataMsg (una_part q)) ∷ []) → Appends old new (map (reported_by boot) (copies (Comes segment) p q))
   only_una is none rose sent =
       let all : batched q.batches (or_una p q []) ≡ DataMsg (una_part q) ∷ [] =
       ap (batched q.batches) (if_true (nat_lt p.una q.una) (DataMsg (una_part q) ∷ []) [] (grind (arith, rose))) ∙ one_batched q.batches (DataMsg (una_part q)) in
-      nothing_copied is none (subst (λ l. Appends old new (map (told_by boot) l)) (sym all) sent)
+      nothing_copied is none (subst (λ l. Appends old new (map (reported_by boot) l)) (sym all) sent)
 
   pub no_copy : own_data q segment ≡ [] → (nat_lt 0 (length further.bytes) || further.fin) ≡ false → q.una ≤ p.una → new ≡ old
-      → Appends old new (map (told_by boot) (copies (Comes segment) p q))
+      → Appends old new (map (reported_by boot) (copies (Comes segment) p q))
   no_copy is none same unsent =
       let all : batched q.batches (or_una p q []) ≡ [] =
       ap (batched q.batches) (if_false (nat_lt p.una q.una) (DataMsg (una_part q) ∷ []) [] (grind (arith, same))) ∙ none_batched q.batches in
-      nothing_copied is none (subst (λ l. Appends old new (map (told_by boot) l)) (sym all) (appends_same old new unsent))
+      nothing_copied is none (subst (λ l. Appends old new (map (reported_by boot) l)) (sym all) (appends_same old new unsent))

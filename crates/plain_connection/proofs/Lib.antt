@@ -6,6 +6,6 @@ pub mod Opened
 pub mod Sends
 pub mod Served
 pub mod Spelled
-pub mod Telling
+pub mod Reporting
 pub mod Texts
 pub mod Turns

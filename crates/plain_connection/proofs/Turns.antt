@@ -5,13 +5,13 @@ use Rattle.std.specs.Int.{from_bool}
 use Rattle.ft_io.specs.declared.Addr.{Addr}
 use Rattle.server_trait.specs.Service.{Machine}
 use Rattle.tcp_rules.specs.Timing.{Timing}
-use Rattle.ft_model.specs.Connection.{LiveTurn, ResetTurn, sent_by, told_by}
+use Rattle.ft_model.specs.Connection.{LiveTurn, ResetTurn, sent_by, reported_by}
 use Rattle.ft_model.specs.Copy.{copies}
 use Rattle.ft_model.specs.Network.Packet.{To_client}
 use Rattle.ft_model.specs.News.{News}
 use Rattle.ft_model.specs.Offset.{one_if}
 use Rattle.ft_model.specs.Point.{Point, target}
-use Rattle.ft_model.specs.Reads.{Makes, next_length, may_read, reads_told}
+use Rattle.ft_model.specs.Reads.{Makes, next_length, may_read, reads_reported}
 use Rattle.ft_model.specs.ResetAndEnd.{reset_after, is_end_tick, end_ticks_after, dones}
 use Rattle.ft_model.specs.Segments.{segments_of}
 use Rattle.ft_model.specs.Sending.{sent_at_once, sent_after, timing_after}
@@ -24,7 +24,7 @@ use Rattle.plain_point.specs.Turn.{noted, timer_of, timing_since, interval_since
 use Rattle.plain_connection.specs.declared.before.Before.{Before}
 use Rattle.plain_connection.specs.Before.{IsBefore}
 use Rattle.plain_connection.specs.Turn.{TakesTurn, reset_noted, timed_since, settled_since}
-use Rattle.plain_connection.proofs.Telling.{told_both}
+use Rattle.plain_connection.proofs.Reporting.{reported_both}
 
 -- the point after a turn: the news noted, these reads made, and the rest settled
 abbrev pub point_after : {State : Type 0} → Machine State → News → Point → List ℕ → Point
@@ -117,11 +117,11 @@ sent_is service news p q at_once sent probes e f g = g ∙ ap₂ (λ a b. a + b)
 
 -- what is sent, in its order
 pub sent_in_order : {State : Type 0} (service : Machine State) (server : Addr) (boot : ℕ) (news : News) (p q : Point) (w0 w1 w2 w3 w4 : List Wire)
-    → Appends w0 w1 (map To_client (segments_of service server news p q)) → Appends w1 w2 (map (told_by boot) (copies news p q))
-    → Appends w2 w3 (map (told_by boot) (reads_told news p q)) → Appends w3 w4 (map (told_by boot) (dones news p q))
+    → Appends w0 w1 (map To_client (segments_of service server news p q)) → Appends w1 w2 (map (reported_by boot) (copies news p q))
+    → Appends w2 w3 (map (reported_by boot) (reads_reported news p q)) → Appends w3 w4 (map (reported_by boot) (dones news p q))
     → Appends w0 w4 (sent_by service server boot news p q)
 sent_in_order service server boot news p q w0 w1 w2 w3 w4 segments copied read done =
-    appends_both segments (told_both boot w1 w2 w4 (copies news p q) (reads_told news p q ++ dones news p q) copied (told_both boot w2 w3 w4 (reads_told news p q) (dones news p q) read done))
+    appends_both segments (reported_both boot w1 w2 w4 (copies news p q) (reads_reported news p q ++ dones news p q) copied (reported_both boot w2 w3 w4 (reads_reported news p q) (dones news p q) read done))
 
 pub live_taken : {State : Type 0} (service : Machine State) (server : Addr) (boot : ℕ) (news : News) (p q : Point) (old new : List Wire) → reset_after news p ≡ false
     → LiveTurn service server boot news p q (sent_by service server boot news p q) → Appends old new (sent_by service server boot news p q)
@@ -133,10 +133,10 @@ live_taken service server boot news p q old new live turn packets = record {
 }
 
 pub reset_taken : {State : Type 0} (service : Machine State) (server : Addr) (boot : ℕ) (news : News) (p q : Point) (old new : List Wire) → reset_after news p ≡ true
-    → q ≡ reset_noted news p → Appends old new (map (told_by boot) (dones news p q)) → TakesTurn service server boot news p q old new
+    → q ≡ reset_noted news p → Appends old new (map (reported_by boot) (dones news p q)) → TakesTurn service server boot news p q old new
 reset_taken service server boot news p q old new resets noted packets = record {
-  sent = map (told_by boot) (dones news p q);
-  lawful = subst (λ b. MatchBool b (ResetTurn boot news p q (map (told_by boot) (dones news p q))) (LiveTurn service server boot news p q (map (told_by boot) (dones news p q)))) (sym resets)
+  sent = map (reported_by boot) (dones news p q);
+  lawful = subst (λ b. MatchBool b (ResetTurn boot news p q (map (reported_by boot) (dones news p q))) (LiveTurn service server boot news p q (map (reported_by boot) (dones news p q)))) (sym resets)
       (record { point = noted; packets = refl });
   packets = packets;
 }

@@ -85,11 +85,11 @@ fn sends_past_the_edge<S: Service>(connection: &PlainConnection<S>, before: &Bef
     connection.sent_at_once(before)
 }
 
-/// At a tick all reads that aren't known to be logged are told again, from the first one on: the contract of `PlainConnection::first_told`.
+/// At a tick all reads that aren't known to be logged are told again, from the first one on: the contract of `PlainConnection::first_reported`.
 fn reports_reads_only_once<S: Service>(connection: &PlainConnection<S>) -> usize
     requires { IsServed (machine (S.started connection.now.kind) S.after S.greeting) connection.now }
     ensures { result ≡ connection.now.point.reads_answered }
 {
     let before = connection.before(&News::Tick);
-    connection.first_told(&News::Tick, &before)
+    connection.first_reported(&News::Tick, &before)
 }

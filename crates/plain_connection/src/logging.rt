@@ -5,7 +5,7 @@ ghost use Rattle.limits.specs.Limits.{largest_segment};
 ghost use Rattle.std.specs.Prelude.{◌≡◌, ◌≤◌, ◌+◌, ◌^◌, ◌&&◌, ◌||◌, nat_lt, Bool, [], ◌∷◌, length, map, drop, OnOk};
 ghost use Rattle.server_trait.specs.Service.{machine};
 ghost use Rattle.seq_arith.specs.Message.Body.{DataMsg, ReadMsg, DoneMsg};
-ghost use Rattle.ft_model.specs.Connection.{told_by};
+ghost use Rattle.ft_model.specs.Connection.{reported_by};
 ghost use Rattle.ft_model.specs.Point.{Point};
 ghost use Rattle.ft_model.specs.Reads.{read_messages};
 ghost use Rattle.segment_codec.specs.Value.{segment_of};
@@ -37,7 +37,7 @@ fn send_data(
     more: bool,
     sent: &mut PlainPackets,
 ) -> Result<(), NoMemory>
-    ensures { OnOk result (Appends sent.old sent.new (told_by boot (DataMsg (followed more (data_in part.now))) ∷ [])) }
+    ensures { OnOk result (Appends sent.old sent.new (reported_by boot (DataMsg (followed more (data_in part.now))) ∷ [])) }
 {
     if part.offset > u64::from(STREAM) || part.acked > u64::from(UNITS) {
         return Ok(());
@@ -76,7 +76,7 @@ fn send_last(
     sent: &mut PlainPackets,
 ) -> Result<(), NoMemory>
     requires { length part.now.bytes.now ≤ largest_segment }
-    ensures { (batches : Bool) → OnOk result (Appends sent.old sent.new (map (told_by boot) (batched batches (datas_of (data_in part.now))))) }
+    ensures { (batches : Bool) → OnOk result (Appends sent.old sent.new (map (reported_by boot) (batched batches (datas_of (data_in part.now))))) }
 {
     if has_any(part) {
         send_data(alloc, boot, part, false, sent)
@@ -87,7 +87,7 @@ fn send_last(
 
 /// Sends a part of the client's stream, in messages of 1,460 bytes each except the last, which has the FIN. In a batch only the last is answered. After
 /// `NoMemory` the packets may only be dropped.
-#[tactic(auto, using(crate::proofs::Telling::telling_begins))]
+#[tactic(auto, using(crate::proofs::Reporting::reporting_begins))]
 fn send_datas(
     alloc: Global,
     boot: u64,
@@ -96,7 +96,7 @@ fn send_datas(
     sent: &mut PlainPackets,
 ) -> Result<(), NoMemory>
     requires { part.now.offset + length part.now.bytes.now ≤ 2 ^ 63 }
-    ensures { OnOk result (Appends sent.old sent.new (map (told_by boot) (batched batches (datas_of (data_in part.now))))) }
+    ensures { OnOk result (Appends sent.old sent.new (map (reported_by boot) (batched batches (datas_of (data_in part.now))))) }
 {
     let mut rest = *part;
     while rest.bytes.len() > TEXT {
@@ -126,7 +126,7 @@ fn send_read(
     length: u16,
     sent: &mut PlainPackets,
 ) -> Result<(), NoMemory>
-    ensures { OnOk result (Appends sent.old sent.new (told_by boot (ReadMsg key index length) ∷ [])) }
+    ensures { OnOk result (Appends sent.old sent.new (reported_by boot (ReadMsg key index length) ∷ [])) }
 {
     if index as u64 > u64::from(UNITS) {
         return Ok(());
@@ -140,7 +140,7 @@ fn send_read(
 }
 
 /// Sends the lengths of the reads from this one on. After `NoMemory` the packets may only be dropped.
-#[tactic(auto, using(crate::proofs::Telling::telling_begins))]
+#[tactic(auto, using(crate::proofs::Reporting::reporting_begins))]
 fn send_reads(
     alloc: Global,
     boot: u64,
@@ -149,7 +149,7 @@ fn send_reads(
     lengths: &[u16],
     sent: &mut PlainPackets,
 ) -> Result<(), NoMemory>
-    ensures { OnOk result (Appends sent.old sent.new (map (told_by boot) (read_messages key first (drop first lengths.now)))) }
+    ensures { OnOk result (Appends sent.old sent.new (map (reported_by boot) (read_messages key first (drop first lengths.now)))) }
 {
     for index in first..lengths.len() {
         send_read(alloc, boot, key, index, lengths[index], sent)?;
@@ -160,8 +160,8 @@ fn send_reads(
 impl<S: Service> PlainConnection<S> {
     ghost use Rattle.ft_model.specs.Copy.{copies};
     ghost use Rattle.ft_model.specs.News.News.{Comes};
-    ghost use Rattle.ft_model.specs.Reads.{first_told, reads_told};
-    ghost use Rattle.ft_model.specs.ResetAndEnd.{dones, tells_done};
+    ghost use Rattle.ft_model.specs.Reads.{first_reported, reads_reported};
+    ghost use Rattle.ft_model.specs.ResetAndEnd.{dones, reports_done};
 
     /// Sends what is copied because of a segment, given the connection after the turn: the segment's own part, then what was held, as a batch if the log
     /// answers only the last Data of a turn. Each message reports SND.UNA. If there is no part, and SND.UNA rose, one message reports it alone. After
@@ -176,7 +176,7 @@ impl<S: Service> PlainConnection<S> {
     ) -> Result<(), NoMemory>
         requires { before.now.taken ≤ 2 ^ 63 }
         ensures { (p : Point) → before.now.taken ≡ length p.taken → before.now.fin ≡ p.fin → before.now.una ≡ p.una
-            → OnOk result (Appends sent.old sent.new (map (told_by boot) (copies (Comes (segment_of segment.now)) p self.now.point))) }
+            → OnOk result (Appends sent.old sent.new (map (reported_by boot) (copies (Comes (segment_of segment.now)) p self.now.point))) }
     {
         let batches = self.point.batches();
         let further = self.point.further_data(before.taken, before.fin, segment);
@@ -210,7 +210,7 @@ impl<S: Service> PlainConnection<S> {
     ) -> Result<(), NoMemory>
         requires { before.now.taken ≤ 2 ^ 63 }
         ensures { (p : Point) → IsBefore (machine (S.started self.now.kind) S.after S.greeting) (news_in news.now) p before.now
-            → OnOk result (Appends sent.old sent.new (map (told_by boot) (copies (news_in news.now) p self.now.point))) }
+            → OnOk result (Appends sent.old sent.new (map (reported_by boot) (copies (news_in news.now) p self.now.point))) }
     {
         match news {
             News::Segment(segment) => self.send_copied(alloc, boot, segment, before, sent),
@@ -219,9 +219,9 @@ impl<S: Service> PlainConnection<S> {
     }
 
     /// Returns the first read whose length is sent: a new one, or at a tick the first unanswered one.
-    pub(crate) fn first_told(&self, news: &News<'_>, before: &Before) -> usize
+    pub(crate) fn first_reported(&self, news: &News<'_>, before: &Before) -> usize
         ensures { (p : Point) → IsBefore (machine (S.started self.now.kind) S.after S.greeting) (news_in news.now) p before.now
-            → result ≡ first_told (news_in news.now) p self.now.point }
+            → result ≡ first_reported (news_in news.now) p self.now.point }
     {
         match news {
             News::Tick => self.point.reads_answered(),
@@ -231,7 +231,7 @@ impl<S: Service> PlainConnection<S> {
 
     /// Sends the lengths of the reads of this turn, and at a tick those of all unanswered reads, given the connection after the turn. After `NoMemory` the
     /// packets may only be dropped.
-    pub(crate) fn send_reads_told(
+    pub(crate) fn send_reads_reported(
         &self,
         alloc: Global,
         boot: u64,
@@ -240,17 +240,17 @@ impl<S: Service> PlainConnection<S> {
         sent: &mut PlainPackets,
     ) -> Result<(), NoMemory>
         ensures { (p : Point) → IsBefore (machine (S.started self.now.kind) S.after S.greeting) (news_in news.now) p before.now
-            → OnOk result (Appends sent.old sent.new (map (told_by boot) (reads_told (news_in news.now) p self.now.point))) }
+            → OnOk result (Appends sent.old sent.new (map (reported_by boot) (reads_reported (news_in news.now) p self.now.point))) }
     {
-        let first = self.first_told(news, before);
+        let first = self.first_reported(news, before);
         let (key, lengths) = (self.point.key(), self.point.lengths());
         send_reads(alloc, boot, key, first, lengths, sent)
     }
 
     /// Returns whether the turn reports that the connection is done: in the turn of the reset, at the fourth end tick, and at each tick from then on.
     /// `was_reset` says whether it was reset before the turn.
-    fn tells_done(&self, news: &News<'_>, was_reset: bool) -> bool
-        ensures { (p : Point) → was_reset ≡ p.reset → result ≡ tells_done (news_in news.now) p self.now.point }
+    fn reports_done(&self, news: &News<'_>, was_reset: bool) -> bool
+        ensures { (p : Point) → was_reset ≡ p.reset → result ≡ reports_done (news_in news.now) p self.now.point }
     {
         let is_reset = self.point.is_reset();
         (is_reset && !was_reset) || (news.is_tick() && (is_reset || self.point.end_ticks() == 4))
@@ -266,9 +266,9 @@ impl<S: Service> PlainConnection<S> {
         was_reset: bool,
         sent: &mut PlainPackets,
     ) -> Result<(), NoMemory>
-        ensures { (p : Point) → was_reset ≡ p.reset → OnOk result (Appends sent.old sent.new (map (told_by boot) (dones (news_in news.now) p self.now.point))) }
+        ensures { (p : Point) → was_reset ≡ p.reset → OnOk result (Appends sent.old sent.new (map (reported_by boot) (dones (news_in news.now) p self.now.point))) }
     {
-        if !self.tells_done(news, was_reset) {
+        if !self.reports_done(news, was_reset) {
             return Ok(());
         }
         let body = Body::Done {

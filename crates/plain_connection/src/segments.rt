@@ -304,9 +304,9 @@ impl<S: Service> PlainConnection<S> {
     {
         let opens = self.send_syn_ack(alloc, server, before, sent)?;
         let resends = self.resend(alloc, server, before, sent)?;
-        let goes_on = self.send_new_texts(alloc, server, before, sent)?;
+        let proceeds = self.send_new_texts(alloc, server, before, sent)?;
         let ends = self.send_new_fin(alloc, server, before, sent)?;
-        Ok(opens | resends | goes_on | ends)
+        Ok(opens | resends | proceeds | ends)
     }
 
     /// Sends the segments of a turn, given the connection after it: a pure ACK exactly if an ACK is pending and no other segment is sent.

@@ -135,7 +135,7 @@ impl<S: Service> PlainConnection<S> {
         let Incarnation { server, boot } = who;
         self.send_segments(alloc, server, before, sent)?;
         self.send_copies(alloc, boot, news, before, sent)?;
-        self.send_reads_told(alloc, boot, news, before, sent)?;
+        self.send_reads_reported(alloc, boot, news, before, sent)?;
         self.send_dones(alloc, boot, news, false, sent)
     }
 

@@ -246,7 +246,7 @@ impl PlainEntry {
     }
 
     /// Returns how much is logged, as the answer to a read.
-    pub(crate) fn reads_told<'a>(&self) -> Body<'a>
+    pub(crate) fn reads_reported<'a>(&self) -> Body<'a>
         ensures { body_of result ≡ ReadsMsg (kept_of self.now) }
     {
         Body::Reads(self.kept())

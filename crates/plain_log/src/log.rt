@@ -212,7 +212,7 @@ impl PlainLog {
             Body::Open(numbers) => Some(self.opened(numbers.key)),
             Body::Data(part) if part.more => None,
             Body::Data(part) => Some(self.find(part.key)?.stable()),
-            Body::Read { key, .. } => Some(self.find(key)?.reads_told()),
+            Body::Read { key, .. } => Some(self.find(key)?.reads_reported()),
             Body::Done { key } => {
                 self.find(key)?;
                 Some(Body::Ended { key })

@@ -88,13 +88,13 @@ unfolding runs_at runs_behind
 runs_past within k text past = ap (λ rest. runs_behind (follows within k text) rest) (drop_all k text past)
 
 -- behind bytes that are laid, the run that they are in goes on
-run_goes_on : (k : ℕ) (text : List (Option ℕ)) (within : Bool) → runs_behind true (drop k text) ≡ runs_at within (suc k) text
+run_proceeds : (k : ℕ) (text : List (Option ℕ)) (within : Bool) → runs_behind true (drop k text) ≡ runs_at within (suc k) text
 unfolding runs_at follows runs_behind holds_some
-run_goes_on zero [] within = refl
-run_goes_on zero (None ∷ text) within = refl
-run_goes_on zero (Some x ∷ text) within = refl
-run_goes_on (suc k) [] within = refl
-run_goes_on (suc k) (place ∷ text) within = run_goes_on k text within
+run_proceeds zero [] within = refl
+run_proceeds zero (None ∷ text) within = refl
+run_proceeds zero (Some x ∷ text) within = refl
+run_proceeds (suc k) [] within = refl
+run_proceeds (suc k) (place ∷ text) within = run_proceeds k text within
 
 laid_on_none : (bytes : List ℕ) → runs_behind true (laid zero bytes []) ≡ 0
 unfolding runs_behind laid
@@ -136,7 +136,7 @@ unfolding runs_at follows runs_behind holds_some laid
 joined within zero end x bytes text is =
     let same : end ≡ length (x ∷ bytes) = omega (arith, is) in
     let behind : runs_behind true (drop (length (x ∷ bytes)) text) ≡ runs_at within (suc end) text =
-    subst (λ n. runs_behind true (drop n text) ≡ runs_at within (suc end) text) same (run_goes_on end text within) in
+    subst (λ n. runs_behind true (drop n text) ≡ runs_at within (suc end) text) same (run_proceeds end text within) in
     omega (arith, laid_first within x bytes text, behind)
 joined within (suc k) end x bytes [] is = joined_none within k end x bytes
 joined within (suc k) zero x bytes (place ∷ text) is = absurd (omega (arith, is))

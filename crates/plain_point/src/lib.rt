@@ -21,5 +21,5 @@ mod resumed;
 mod segments;
 mod sending;
 mod settings;
-mod telling;
+mod reporting;
 mod timing;

@@ -43,11 +43,11 @@ same_rest : {A : Type 0} (front other xs ys : List A) → length front ≡ lengt
 same_rest front other xs ys n e = sym (drop-append_seam front xs) ∙ (ap₂ drop n e ∙ drop-append_seam other ys)
 
 -- one place more
-pub go_on : (Goes : Place → List Place → List Packet → Type 0) (done went now : List Place) (packets more : List Packet) (place : Place) → AllGo Goes done went packets
+pub proceed : (Goes : Place → List Place → List Packet → Type 0) (done went now : List Place) (packets more : List Packet) (place : Place) → AllGo Goes done went packets
     → Goes place now more → AllGo Goes (done ++ place ∷ []) (went ++ now) (packets ++ more)
-go_on Goes [] went now packets more place go g =
+proceed Goes [] went now packets more place go g =
     (now, [], more, [], ap (λ xs. xs ++ now) go.0 ∙ sym (append-nil now), ap (λ xs. xs ++ more) go.1 ∙ sym (append-nil more), g, (refl, refl))
-go_on Goes (d ∷ done) went now packets more place (first, later, sent, others, w, p, g, rest) h = (
+proceed Goes (d ∷ done) went now packets more place (first, later, sent, others, w, p, g, rest) h = (
   first,
   later ++ now,
   sent,
@@ -55,14 +55,14 @@ go_on Goes (d ∷ done) went now packets more place (first, later, sent, others,
   ap (λ xs. xs ++ now) w ∙ append_assoc first later now,
   ap (λ xs. xs ++ more) p ∙ append_assoc sent others more,
   g,
-  go_on Goes done later now others more place rest h,
+  proceed Goes done later now others more place rest h,
 )
 
 pub sends_on : (Goes : Place → List Place → List Packet → Type 0) (done went now : List Place) (place : Place) (old mid new : List Wire)
     → SendsBy (AllGo Goes done went) old mid → SendsBy (Goes place now) mid new → SendsBy (AllGo Goes (done ++ place ∷ []) (went ++ now)) old new
 sends_on Goes done went now place old mid new go g = record {
   sent = go.sent ++ g.sent;
-  lawful = go_on Goes done went now go.sent g.sent place go.lawful g.lawful;
+  lawful = proceed Goes done went now go.sent g.sent place go.lawful g.lawful;
   packets = appends_both go.packets g.packets;
 }
 

@@ -10,7 +10,7 @@ use Rattle.ft_model.specs.Keys.{AreDistinct, has_key}
 use Rattle.ft_model.proofs.Acknowledged.{start_is}
 use Rattle.ft_model.proofs.FaithfulKept.{received_same}
 use Rattle.ft_model.proofs.Happened.{Happened, holds_after}
-use Rattle.ft_model.proofs.Happened.Happened.{log_heard, client_heard, client_moved, server_turned, server_booted, server_down}
+use Rattle.ft_model.proofs.Happened.Happened.{log_received, client_received, client_moved, server_turned, server_booted, server_down}
 use Rattle.ft_model.proofs.Keys.{key_eq_turns, not_there}
 use Rattle.ft_model.proofs.Lists.{none_is_some, some_is, key_is, same_key}
 use Rattle.ft_model.proofs.ClientKeys.{keys_in, apart_distinct, no_one, keys_stay}
@@ -29,8 +29,8 @@ alone (x ∷ cs) (suc i) c later d e =
 
 step_keeps : {State : Type 0} (service : Machine State) (start before : World) (sent : List Packet) (after : World) → keys_in before.clients ≡ keys_in start.clients → Happened service before sent after
     → keys_in after.clients ≡ keys_in start.clients
-step_keeps service start before sent after k (log_heard message under t e) = ap (λ w. keys_in w.clients) e ∙ k
-step_keeps service start before sent after k (client_heard segment under t e) =
+step_keeps service start before sent after k (log_received message under t e) = ap (λ w. keys_in w.clients) e ∙ k
+step_keeps service start before sent after k (client_received segment under t e) =
     ap (λ w. keys_in w.clients) e ∙ keys_stay (destination_of segment) (λ c. received c segment) before.clients (λ c h. (received_same c segment).key) ∙ k
 step_keeps service start before sent after k (client_moved number m) =
     let name : m.later.key ≡ m.client.key = ap (λ c. c.key) m.move.after_is in

@@ -4,7 +4,7 @@ use Rattle.std.specs.Prelude.{Result, Ok, Err, IfOk, MatchOption}
 use Rattle.std.proofs.lemmas.Bool.{eq-eqb}
 use Rattle.seq_arith.specs.Message.{Message}
 use Rattle.server_trait.specs.Service.{Machine}
-use Rattle.ft_model.specs.Lawful.{Continues, Fetches, Rests, StageTurn, count_told, fetched_then}
+use Rattle.ft_model.specs.Lawful.{Continues, Fetches, Rests, StageTurn, count_reported, fetched_then}
 use Rattle.ft_model.specs.Node.{Node, Stage}
 use Rattle.ft_model.specs.Node.Input.{Message_comes}
 use Rattle.ft_model.specs.Node.Stage.{Asking, Fetching, Serving}
@@ -60,15 +60,15 @@ fetched_turns service who message count fetched more now (Ok serving) old new e 
 fetched_turns service who message count fetched more now (Err end) old new e some h = tt
 
 -- a Summary of this boot
-pub count_is_told : {S : Type 0} (service : Machine S) (node : Node) (message : Message) (count : ℕ) (after : Stage) (old new : List Wire) → Some count ≡ count_told node message
+pub count_is_reported : {S : Type 0} (service : Machine S) (node : Node) (message : Message) (count : ℕ) (after : Stage) (old new : List Wire) → Some count ≡ count_reported node message
     → SendsBy (Fetches service node count [] after) old new → SendsBy (StageTurn service node Asking (Message_comes message) after) old new
-count_is_told service node message count after old new told h =
+count_is_reported service node message count after old new reported h =
     sends_as (Fetches service node count [] after) (StageTurn service node Asking (Message_comes message) after) old new
-    (λ sent l. subst (λ o. MatchOption o (Rests Asking after sent) (λ n. Fetches service node n [] after sent)) told l) h
+    (λ sent l. subst (λ o. MatchOption o (Rests Asking after sent) (λ n. Fetches service node n [] after sent)) reported l) h
 
 -- any other message
-pub no_count_is_told : {S : Type 0} (service : Machine S) (node : Node) (message : Message) (wires : List Wire) → None ≡ count_told node message
+pub no_count_is_reported : {S : Type 0} (service : Machine S) (node : Node) (message : Message) (wires : List Wire) → None ≡ count_reported node message
     → SendsBy (StageTurn service node Asking (Message_comes message) Asking) wires wires
-no_count_is_told service node message wires told =
+no_count_is_reported service node message wires reported =
     sends_nothing (StageTurn service node Asking (Message_comes message) Asking) wires
-    (subst (λ o. MatchOption o (Rests Asking Asking []) (λ n. Fetches service node n [] Asking [])) told (refl, refl))
+    (subst (λ o. MatchOption o (Rests Asking Asking []) (λ n. Fetches service node n [] Asking [])) reported (refl, refl))

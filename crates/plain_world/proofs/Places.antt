@@ -13,7 +13,7 @@ use Rattle.ft_model.specs.Node.{Node, Place, Stage, Input, key_of}
 use Rattle.ft_model.specs.News.News.{Begins}
 use Rattle.ft_model.specs.Node.Place.{Opens}
 use Rattle.ft_model.specs.Opening.{point_opened}
-use Rattle.ft_model.specs.ServingTurn.{LivesOn, Hears, Meets, PlaceTurn, Stays, concerns}
+use Rattle.ft_model.specs.ServingTurn.{LivesOn, OnReceipt, Meets, PlaceTurn, Stays, concerns}
 use Rattle.ft_model.specs.Wire.{Wire}
 use Rattle.plain_packets.specs.Sent.{Appends}
 use Rattle.plain_packets.proofs.Sent.{appends_none}
@@ -41,9 +41,9 @@ concerned service node input place now old new e h =
 
 -- Opened with the client's number
 pub opened_same : {S : Type 0} (service : Machine S) (node : Node) (kept asked : Numbers) (timestamping : Timestamping) (now : List Place) (old new : List Wire) → kept.cisn ≡ asked.cisn
-    → SendsBy (LivesOn service node Begins (point_opened node.profile timestamping kept) now) old new → SendsBy (Hears service node (OpenedMsg kept) (Opens asked timestamping) now) old new
+    → SendsBy (LivesOn service node Begins (point_opened node.profile timestamping kept) now) old new → SendsBy (OnReceipt service node (OpenedMsg kept) (Opens asked timestamping) now) old new
 opened_same service node kept asked timestamping now old new e h =
-    sends_as (LivesOn service node Begins (point_opened node.profile timestamping kept) now) (Hears service node (OpenedMsg kept) (Opens asked timestamping) now) old new
+    sends_as (LivesOn service node Begins (point_opened node.profile timestamping kept) now) (OnReceipt service node (OpenedMsg kept) (Opens asked timestamping) now) old new
     (λ sent l. subst (λ b. MatchBool b (LivesOn service node Begins (point_opened node.profile timestamping kept) now sent) ((now ≡ []) × (sent ≡ []))) (sym (eq-eqb kept.cisn asked.cisn e)) l) h
 
 -- a place that an input concerns

@@ -23,7 +23,7 @@ use Rattle.ft_model.specs.Network.{Packet, source_of, destination_of}
 use Rattle.ft_model.specs.Network.Packet.{To_server, To_client, To_logger, From_logger}
 use Rattle.ft_model.specs.Node.{Input}
 use Rattle.ft_model.specs.Node.Input.{Packet_comes, Message_comes, Noise_comes}
-use Rattle.ft_model.specs.Wire.{Wire, wire_by, HasWireBy, CanBeSent, CanBeToldBy}
+use Rattle.ft_model.specs.Wire.{Wire, wire_by, HasWireBy, CanBeSent, CanBeWrittenBy}
 use Rattle.ft_model.specs.Wire.Party.{A_client, The_server, The_logger}
 use Rattle.ft_model.specs.World.{World, ServerTurn, ServerMoves, ClientReads, LogReads, Delivered, DeliveredAs, Flipped, segment_or_noise, message_or_noise, with_client}
 use Rattle.plain_packets.specs.Sent.{Appends, kept_wire, CanBeKept}
@@ -74,7 +74,7 @@ ok_message x y e = cc
 segment_read : (wire : Wire) (segment s : Segment) → segments.reading wire.bytes ≡ Ok segment → wire.bytes ≡ segments.spelling s → CanBeSent s → segment ≡ s
 segment_read wire segment s read is can = ok_segment segment s (sym read ∙ ap segments.reading is ∙ spelling_is_read s can.0)
 
-message_read : (wire : Wire) (message m : Message) → messages.reading_by Wide wire.bytes ≡ Ok message → wire.bytes ≡ messages.spelling_by Wide m → CanBeToldBy Wide m → message ≡ m
+message_read : (wire : Wire) (message m : Message) → messages.reading_by Wide wire.bytes ≡ Ok message → wire.bytes ≡ messages.spelling_by Wide m → CanBeWrittenBy Wide m → message ≡ m
 message_read wire message m read is can = ok_message message m (sym read ∙ ap (messages.reading_by Wide) is ∙ message_is_read m can.0)
 
 -- the world in which only these are other
@@ -227,7 +227,7 @@ module _ {State : Type 0} (service : ℕ → Machine State) (wire : Wire) (befor
   segment_lost : (s : Segment) (bit : ℕ) → CanBeSent s → bit < 8 * length (segments.spelling s) → IsErr (segments.reading (flipped bit (segments.spelling s)))
   segment_lost s bit can within = flipped_packet_is_refused bit (segments.spelling s) s (spelling_is_read s can.0) within
 
-  message_lost : (grammar : Grammar) (m : Message) (bit : ℕ) → CanBeToldBy grammar m → bit < 8 * length (messages.spelling_by grammar m)
+  message_lost : (grammar : Grammar) (m : Message) (bit : ℕ) → CanBeWrittenBy grammar m → bit < 8 * length (messages.spelling_by grammar m)
       → IsErr (messages.reading_by grammar (flipped bit (messages.spelling_by grammar m)))
   message_lost grammar m bit can within = flipped_is_refused_by grammar bit (messages.spelling_by grammar m) m (message_is_read m can.0) within
 

@@ -2,7 +2,7 @@
 
 ghost use Rattle.std.specs.Prelude.{◌≡◌, ◌∷◌, [], Some, OnOk};
 ghost use Rattle.seq_arith.specs.Message.Body.{HelloMsg};
-ghost use Rattle.ft_model.specs.Connection.{told_by};
+ghost use Rattle.ft_model.specs.Connection.{reported_by};
 ghost use Rattle.ft_model.specs.Lawful.{summary_count as count_lem};
 ghost use Rattle.ft_model.specs.Restart.{question as question_lem};
 ghost use Rattle.logger_wire.specs.Value.{body_of};
@@ -17,7 +17,7 @@ use std::alloc::Global;
 
 /// Sends Hello to the log. After `NoMemory` the packets may only be dropped.
 pub(crate) fn send_hello(alloc: Global, boot: u64, sent: &mut PlainPackets) -> Result<(), NoMemory>
-    ensures { OnOk result (Appends sent.old sent.new (told_by boot HelloMsg ∷ [])) }
+    ensures { OnOk result (Appends sent.old sent.new (reported_by boot HelloMsg ∷ [])) }
 {
     sent.send_to_logger(
         alloc,
@@ -35,7 +35,7 @@ pub(crate) fn ask(
     wanted: Wanted,
     sent: &mut PlainPackets,
 ) -> Result<(), NoMemory>
-    ensures { OnOk result (Appends sent.old sent.new (told_by boot (question_lem (wanted_in wanted)) ∷ [])) }
+    ensures { OnOk result (Appends sent.old sent.new (reported_by boot (question_lem (wanted_in wanted)) ∷ [])) }
 {
     let body = question(wanted);
     sent.send_to_logger(alloc, &Msg { boot, body })

@@ -12,7 +12,7 @@ mod client;
 mod clients;
 mod excluded;
 mod fetching;
-mod hearing;
+mod arrivals;
 mod incarnation;
 mod input;
 mod log;

@@ -10,7 +10,7 @@ ghost use Rattle.ft_model.specs.Node.Place.{Opens};
 ghost use Rattle.ft_model.specs.Opening.{is_syn as syn_lem, initial_number as initial_lem, numbers_for as numbers_lem, timestamping_for as timestamping_lem};
 ghost use Rattle.ft_model.specs.ServingTurn.{is_asked as asked_lem, opens_at, is_strange as strange_lem, newcomers, refusals};
 ghost use Rattle.ft_model.specs.Network.Packet.{To_client};
-ghost use Rattle.ft_model.specs.Connection.{told_by};
+ghost use Rattle.ft_model.specs.Connection.{reported_by};
 ghost use Rattle.seq_arith.specs.Message.Body.{OpenMsg};
 ghost use Rattle.seq_arith.specs.Value.{said};
 ghost use Rattle.plain_packets.specs.Sent.{Appends};
@@ -90,7 +90,7 @@ fn send_open(
     numbers: &Numbers,
     sent: &mut PlainPackets,
 ) -> Result<(), NoMemory>
-    ensures { OnOk result (Appends sent.old sent.new (told_by who.boot (OpenMsg (numbers_said numbers.now)) ∷ [])) }
+    ensures { OnOk result (Appends sent.old sent.new (reported_by who.boot (OpenMsg (numbers_said numbers.now)) ∷ [])) }
 {
     let boot = who.boot;
     let body = Body::Open(*numbers);

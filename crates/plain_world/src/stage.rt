@@ -3,7 +3,7 @@
 ghost use Rattle.std.specs.Prelude.{◌≡◌, ◌≤◌, ◌+◌, ◌^◌, max, [], IfOk, OnOk};
 ghost use Rattle.server_trait.specs.Service.{machine};
 ghost use Rattle.logger_wire.specs.Value.{message_of};
-ghost use Rattle.ft_model.specs.Lawful.{Fetches, StageTurn, count_told as told_lem};
+ghost use Rattle.ft_model.specs.Lawful.{Fetches, StageTurn, count_reported as reported_lem};
 ghost use Rattle.ft_model.specs.Node as law;
 ghost use Rattle.plain_world.specs.Restored.{stage_after, IsServedAfter};
 ghost use Rattle.plain_world.specs.Served.{IsServedStage};
@@ -34,8 +34,8 @@ pub(crate) enum PlainStage<S: Service> {
 }
 
 /// Returns the count that a message reports, if it is a Summary of this boot.
-fn count_told(who: Incarnation, msg: &Msg<'_>) -> Option<u16>
-    ensures { (stage : law.Stage) → result ≡ told_lem (node_of who stage) (message_of msg.now) }
+fn count_reported(who: Incarnation, msg: &Msg<'_>) -> Option<u16>
+    ensures { (stage : law.Stage) → result ≡ reported_lem (node_of who stage) (message_of msg.now) }
 {
     if msg.boot == who.boot {
         summary_count(&msg.body)
@@ -79,7 +79,7 @@ fn turn_asking<S: Service>(
             send_hello(alloc, who.boot, sent)?;
             Ok(None)
         }
-        Input::Message(msg) => match count_told(who, msg) {
+        Input::Message(msg) => match count_reported(who, msg) {
             Some(count) => {
                 let after = begin_fetching(alloc, who, count, sent)?;
                 Ok(Some(after))

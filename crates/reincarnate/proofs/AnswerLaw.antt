@@ -261,10 +261,10 @@ by_newest started after greeting boot kind count marks (Some e) before (f ∷ ea
     subst (λ w. Leads service (fetched_after w body (f ∷ earlier)) (answered started after greeting s body)) (sym (wanted_is count f earlier))
     (by_lack started after greeting boot kind count marks e before f earlier st.entries.0 st.entries.1 st.whole (lack_of f) same refl body)
 
-by_boot : {S : Type 0} (service : Machine S) (c : Bool) (told : Option (List Fetched)) (now : Option (FetchingState S)) → Leads service told now
-    → Leads service (if c then told else None) (if c then now else None)
-by_boot service true told now l = l
-by_boot service false told now l = tt
+by_boot : {S : Type 0} (service : Machine S) (c : Bool) (reported : Option (List Fetched)) (now : Option (FetchingState S)) → Leads service reported now
+    → Leads service (if c then reported else None) (if c then now else None)
+by_boot service true reported now l = l
+by_boot service false reported now l = tt
 
 -- the law of an answer, where no mark is awaited
 pub log_leads : {S : Type 0} (started : ℕ → S) (after : S → List ℕ → Served S) (greeting : S → List ℕ) (s : FetchingState S) (fetched : List Fetched) (message : Message)

@@ -12,11 +12,11 @@ use Rattle.ft_model.specs.Restart.{point_of, output_units, resumed_at, run_of, I
 use Rattle.tcp_rules.specs.Timestamping.{resumed_with}
 use Rattle.south_wrap.specs.SouthPoint.{south_at}
 use Rattle.north_wrap.specs.Refinement.{HasReplayed}
-use Rattle.connection_laws.specs.Splice.{GoesOnFrom, delta_from, spliced_measuring}
+use Rattle.connection_laws.specs.Splice.{ProceedsFrom, delta_from, spliced_measuring}
 use Rattle.connection_laws.specs.Parts.{PartsStand}
 use Rattle.connection_laws.proofs.Spliced.{splices_parts}
-use Rattle.connection_laws.specs.PointNumbers.{PartsTell}
-use Rattle.connection_laws.proofs.PointNumbers.{parts_tell}
+use Rattle.connection_laws.specs.PointNumbers.{PartsShow}
+use Rattle.connection_laws.proofs.PointNumbers.{parts_show}
 use Rattle.wrapped_conn.specs.NewConnection.{joined_conn_in}
 use Rattle.wrapped_conn.specs.Numbers.{has_fin}
 use Rattle.wrapped_conn.specs.Refinement.{StandsBefore}
@@ -24,11 +24,11 @@ use Rattle.wrapped_conn.proofs.NumbersAt.{has_fin_is, logged_at}
 use Rattle.reincarnate.specs.Progress.{ReplayedState}
 use Rattle.log_replay.specs.LoggedHead.{IsSegmentSize, has_end}
 use Rattle.reincarnate.specs.Refinement.{IsReplayed}
-use Rattle.reincarnate.specs.Splice.{SplicedState, goes_on_at, made_units, south_from, north_from, spliced_from_in, EntryNumbersFit, IsSplicedIn}
+use Rattle.reincarnate.specs.Splice.{SplicedState, proceeds_at, made_units, south_from, north_from, spliced_from_in, EntryNumbersFit, IsSplicedIn}
 use Rattle.wrapped_conn.proofs.Joining.{spliced_local}
 
-goes_on : {S : Type 0} (service : Machine S) (e : Entry) (r : ReplayedState S) (i : ℕ) → EntryNumbersFit r i → IsReplayed service e r → IsSoundEntry service e → GoesOnFrom service e i
-goes_on service e r i f re sound =
+proceeds : {S : Type 0} (service : Machine S) (e : Entry) (r : ReplayedState S) (i : ℕ) → EntryNumbersFit r i → IsReplayed service e r → IsSoundEntry service e → ProceedsFrom service e i
+proceeds service e r i f re sound =
     let mss : r.head.mss ≡ e.mss = ap (λ h. h.mss) re.head in
     let bytes : r.head.length ≡ length e.bytes = ap (λ h. h.length) re.head in
     let sisn : r.head.sisn ≡ e.sisn = ap (λ h. h.sisn) re.head in
@@ -43,8 +43,8 @@ goes_on service e r i f re sound =
       i_fits = f.i_fits;
     }
 
-goes_on_is : {S : Type 0} (service : Machine S) (e : Entry) (r : ReplayedState S) → IsReplayed service e r → IsSoundEntry service e → goes_on_at r ≡ resumed_at service e
-goes_on_is service e r re sound = let run = re.run sound.output in λ j. min (re.head j).acked (run.made j)
+proceeds_is : {S : Type 0} (service : Machine S) (e : Entry) (r : ReplayedState S) → IsReplayed service e r → IsSoundEntry service e → proceeds_at r ≡ resumed_at service e
+proceeds_is service e r re sound = let run = re.run sound.output in λ j. min (re.head j).acked (run.made j)
 
 units_are : {S : Type 0} (service : Machine S) (e : Entry) (r : ReplayedState S) → IsReplayed service e r → IsSoundEntry service e → made_units r ≡ output_units service e
 units_are service e r re sound = let run = re.run sound.output in λ j. run.made j + one_if (run.closed j)
@@ -84,7 +84,7 @@ replayed service profile e r re sound =
 south_is : {S : Type 0} (service : Machine S) (profile : Profile) (e : Entry) (r : ReplayedState S) (i : ℕ) → IsReplayed service e r → IsSoundEntry service e
     → record (south_from i r) { timestamping = resumed_with profile.timestamps r.head.mss } ≡ south_at (delta_from service e i) (point_of service profile e)
 south_is service profile e r i re sound =
-    let u = goes_on_is service e r re sound in
+    let u = proceeds_is service e r re sound in
     let ends = has_end_is service e r re sound in
     let units = units_are service e r re sound in λ j. record {
       cisn = (re.head j).cisn;
@@ -104,7 +104,7 @@ south_is service profile e r i re sound =
 pub splice_stands : {S : Type 0} (service : Machine S) (profile : Profile) (local : Addr) (boot : ℕ) (e : Entry) (r : ReplayedState S) (i : ℕ) → EntryNumbersFit r i → IsReplayed service e r → IsSoundEntry service e
     → IsSplicedIn profile service e i (spliced_from_in profile boot local i r)
 splice_stands service profile local boot e r i f re sound =
-    let g = goes_on service e r i f re sound in
+    let g = proceeds service e r i f re sound in
     let n = north_from r in
     record {
       profile_is = refl;
@@ -136,8 +136,8 @@ hands_on service profile e i s is =
     let u : ℕ = resumed_at service e in
     let d : ℕ = delta_from service e i in
     let delta : s.south.delta ≡ d = ap (λ x. x.delta) is.south in
-    let tell : PartsTell service d p s.north s.endpoint = parts_tell service u i d u p s.north s.endpoint is.parts in
-    let fin : has_fin s.endpoint.name ≡ e.fin = has_fin_is s.endpoint.name ∙ sym tell.fin in
+    let shown : PartsShow service d p s.north s.endpoint = parts_show service u i d u p s.north s.endpoint is.parts in
+    let fin : has_fin s.endpoint.name ≡ e.fin = has_fin_is s.endpoint.name ∙ sym shown.fin in
     record {
       keeps = record {
         key = is.key;

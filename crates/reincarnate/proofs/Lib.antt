@@ -11,4 +11,4 @@ pub mod Joined
 pub mod Startable
 pub mod Questions
 pub mod MarkLaw
-pub mod Hearing
+pub mod Arrivals

@@ -21,7 +21,7 @@ use Rattle.reincarnate.specs.declared.marks.Marks.{Marks}
 use Rattle.reincarnate.specs.declared.marks.Marks.TheVariants as marks
 use Rattle.reincarnate.specs.Progress.{EntryState, begun_entry}
 use Rattle.reincarnate.specs.Marking.{uses, awaits, marks_after, begun_at, begun_from, marked_on}
-use Rattle.reincarnate.specs.Questions.{FetchingState, asked, after_answer, any_asked, mark_asked, noted, log_heard, with_marked, held_heard, mark_heard, any_heard}
+use Rattle.reincarnate.specs.Questions.{FetchingState, asked, after_answer, any_asked, mark_asked, noted, log_received, with_marked, held_received, mark_received, any_received}
 use Rattle.reincarnate.specs.Refinement.{StandsFor, StandsFetching, StandsSoFar, AnyLeads, fetched_then}
 use Rattle.reincarnate.proofs.EntryLaw.{head_stands}
 use Rattle.reincarnate.proofs.Sized.{within_is}
@@ -130,27 +130,27 @@ held_leads service writing boot kind count code newest before so_far key m st = 
 
 body_leads : {S : Type 0} (started : ℕ → S) (after : S → List ℕ → Served S) (greeting : S → List ℕ) (form : S → List ℕ) (state_of : ℕ → List ℕ → Option S) (s : FetchingState S) (so_far : FetchedSoFar) (body : MarkBody)
     → StandsFetching (machine (started s.kind) after greeting) so_far.entries s
-    → MarkLeads (machine (started s.kind) after greeting) (writing form (state_of s.kind)) so_far (mark_of_newest (writing form (state_of s.kind)) body so_far.entries) (held_heard started greeting state_of body s)
+    → MarkLeads (machine (started s.kind) after greeting) (writing form (state_of s.kind)) so_far (mark_of_newest (writing form (state_of s.kind)) body so_far.entries) (held_received started greeting state_of body s)
 body_leads started after greeting form state_of s so_far (HeldMsg key m) st =
     held_leads (machine (started s.kind) after greeting) (writing form (state_of s.kind)) s.boot s.kind s.count s.marks s.newest s.earlier so_far key m st
 body_leads started after greeting form state_of s so_far (MarkMsg key m) st = tt
 body_leads started after greeting form state_of s so_far (MarkedMsg key reads) st = tt
 body_leads started after greeting form state_of s so_far (AskMsg key) st = tt
 
-by_choice : {S : Type 0} (service : Machine S) (writing : Writing S) (so_far : FetchedSoFar) (b : Bool) (told : Option Mark) (now : Option (FetchingState S))
-    → MarkLeads service writing so_far told now → MarkLeads service writing so_far (if b then told else None) (if b then now else None)
-by_choice service writing so_far true told now l = l
-by_choice service writing so_far false told now l = tt
+by_choice : {S : Type 0} (service : Machine S) (writing : Writing S) (so_far : FetchedSoFar) (b : Bool) (reported : Option Mark) (now : Option (FetchingState S))
+    → MarkLeads service writing so_far reported now → MarkLeads service writing so_far (if b then reported else None) (if b then now else None)
+by_choice service writing so_far true reported now l = l
+by_choice service writing so_far false reported now l = tt
 
 mark_leads : {S : Type 0} (started : ℕ → S) (after : S → List ℕ → Served S) (greeting : S → List ℕ) (form : S → List ℕ) (state_of : ℕ → List ℕ → Option S) (s : FetchingState S) (so_far : FetchedSoFar) (message : MarkMessage)
     → StandsSoFar (machine (started s.kind) after greeting) so_far s
-    → MarkLeads (machine (started s.kind) after greeting) (writing form (state_of s.kind)) so_far (mark_reported (writing form (state_of s.kind)) s.boot message so_far) (mark_heard started greeting state_of message s)
+    → MarkLeads (machine (started s.kind) after greeting) (writing form (state_of s.kind)) so_far (mark_reported (writing form (state_of s.kind)) s.boot message so_far) (mark_received started greeting state_of message s)
 mark_leads started after greeting form state_of s so_far message st =
     let service : Machine _ = machine (started s.kind) after greeting in
     let written : Writing _ = writing form (state_of s.kind) in
-    subst (λ a. MarkLeads service written so_far (mark_reported written s.boot message so_far) (if message.boot == s.boot && a then held_heard started greeting state_of message.body s else None))
+    subst (λ a. MarkLeads service written so_far (mark_reported written s.boot message so_far) (if message.boot == s.boot && a then held_received started greeting state_of message.body s else None))
     (sym st.awaits)
-    (by_choice service written so_far (message.boot == s.boot && so_far.awaits_mark) (mark_of_newest written message.body so_far.entries) (held_heard started greeting state_of message.body s)
+    (by_choice service written so_far (message.boot == s.boot && so_far.awaits_mark) (mark_of_newest written message.body so_far.entries) (held_received started greeting state_of message.body s)
     (body_leads started after greeting form state_of s so_far message.body st.fetched))
 
 -- A message that isn't about marks
@@ -163,8 +163,8 @@ SoFarLeads service (Some more) (Some s) = StandsSoFar service more s
 noted_stands : {S : Type 0} (service : Machine S) (code : Marks) (s : FetchingState S) (fetched : List Fetched) → StandsFetching service fetched s → StandsFetching service fetched (noted code s)
 noted_stands service code s fetched st = record { entries = st.entries; newest = st.newest; whole = st.whole }
 
-noted_leads : {S : Type 0} (service : Machine S) (awaiting : Bool) (code : Marks) (told : Option (List Fetched)) (now : Option (FetchingState S)) → awaits code ≡ awaiting → Leads service told now
-    → SoFarLeads service (option_map (λ more. record { entries = more; awaits_mark = awaiting }) told) (option_map (noted code) now)
+noted_leads : {S : Type 0} (service : Machine S) (awaiting : Bool) (code : Marks) (reported : Option (List Fetched)) (now : Option (FetchingState S)) → awaits code ≡ awaiting → Leads service reported now
+    → SoFarLeads service (option_map (λ more. record { entries = more; awaits_mark = awaiting }) reported) (option_map (noted code) now)
 noted_leads service awaiting code None None same l = tt
 noted_leads service awaiting code None (Some s) same l = absurd l
 noted_leads service awaiting code (Some more) None same l = absurd l
@@ -184,13 +184,13 @@ awaits_is marks.Unused body = sym (awaits_none body)
 awaits_is marks.Used body = awaits_if (awaits_after true body)
 awaits_is marks.Awaited body = awaits_if (awaits_after true body)
 
-unless : {S : Type 0} (service : Machine S) (a : Bool) (told : Option FetchedSoFar) (now : Option (FetchingState S)) → SoFarLeads service told now
-    → SoFarLeads service (if a then None else told) (if a then None else now)
-unless service true told now l = tt
-unless service false told now l = l
+unless : {S : Type 0} (service : Machine S) (a : Bool) (reported : Option FetchedSoFar) (now : Option (FetchingState S)) → SoFarLeads service reported now
+    → SoFarLeads service (if a then None else reported) (if a then None else now)
+unless service true reported now l = tt
+unless service false reported now l = l
 
 log_so_far : {S : Type 0} (started : ℕ → S) (after : S → List ℕ → Served S) (greeting : S → List ℕ) (s : FetchingState S) (so_far : FetchedSoFar) (message : Message) → StandsSoFar (machine (started s.kind) after greeting) so_far s
-    → SoFarLeads (machine (started s.kind) after greeting) (fetched_on (uses s.marks) s.boot s.count message so_far) (log_heard started after greeting message s)
+    → SoFarLeads (machine (started s.kind) after greeting) (fetched_on (uses s.marks) s.boot s.count message so_far) (log_received started after greeting message s)
 log_so_far started after greeting s so_far message st =
     let service : Machine _ = machine (started s.kind) after greeting in
     let code : Marks = marks_after s.marks message.body in
@@ -200,17 +200,17 @@ log_so_far started after greeting s so_far message st =
     (awaits_is s.marks message.body) (log_leads started after greeting s so_far.entries message st.fetched)))
 
 -- The whole law of an answer
-log_done : {S : Type 0} (service : Machine S) (told : Option FetchedSoFar) (now : Option (FetchingState S)) (fits : Bool) (old new : FetchingState S) → SoFarLeads service told now
+log_done : {S : Type 0} (service : Machine S) (reported : Option FetchedSoFar) (now : Option (FetchingState S)) (fits : Bool) (old new : FetchingState S) → SoFarLeads service reported now
     → MatchOption now ((fits ≡ false) × (new ≡ old)) (λ s. (fits ≡ true) × (new ≡ s))
-    → MatchOption told ((fits ≡ false) × (new ≡ old)) (λ more. (fits ≡ true) × StandsSoFar service more new)
+    → MatchOption reported ((fits ≡ false) × (new ≡ old)) (λ more. (fits ≡ true) × StandsSoFar service more new)
 log_done service None None fits old new l m = m
 log_done service None (Some s) fits old new l m = absurd l
 log_done service (Some more) None fits old new l m = absurd l
 log_done service (Some more) (Some s) fits old new l m = (m.0, subst (StandsSoFar service more) (sym m.1) l)
 
-mark_done : {S : Type 0} (service : Machine S) (written : Writing S) (so_far : FetchedSoFar) (told : Option Mark) (now : Option (FetchingState S)) (fits : Bool) (old new : FetchingState S)
-    → MarkLeads service written so_far told now → MatchOption now ((fits ≡ false) × (new ≡ old)) (λ s. (fits ≡ true) × (new ≡ s))
-    → MatchOption told ((fits ≡ false) × (new ≡ old))
+mark_done : {S : Type 0} (service : Machine S) (written : Writing S) (so_far : FetchedSoFar) (reported : Option Mark) (now : Option (FetchingState S)) (fits : Bool) (old new : FetchingState S)
+    → MarkLeads service written so_far reported now → MatchOption now ((fits ≡ false) × (new ≡ old)) (λ s. (fits ≡ true) × (new ≡ s))
+    → MatchOption reported ((fits ≡ false) × (new ≡ old))
     (λ m. (fits ≡ true) × ((bytes lengths : List ℕ) → IsFront service written m bytes lengths → StandsSoFar service (begun_on bytes lengths so_far) new))
 mark_done service written so_far None None fits old new l m = m
 mark_done service written so_far None (Some s) fits old new l m = absurd l
@@ -220,12 +220,12 @@ mark_done service written so_far (Some held) (Some s) fits old new l m =
 
 pub any_leads : {S : Type 0} (started : ℕ → S) (after : S → List ℕ → Served S) (greeting : S → List ℕ) (form : S → List ℕ) (state_of : ℕ → List ℕ → Option S) (s : FetchingState S) (so_far : FetchedSoFar) (message : AnyMessage)
     (fits : Bool) (new : FetchingState S) → StandsSoFar (machine (started s.kind) after greeting) so_far s
-    → MatchOption (any_heard started after greeting state_of message s) ((fits ≡ false) × (new ≡ s)) (λ x. (fits ≡ true) × (new ≡ x))
+    → MatchOption (any_received started after greeting state_of message s) ((fits ≡ false) × (new ≡ s)) (λ x. (fits ≡ true) × (new ≡ x))
     → AnyLeads (machine (started s.kind) after greeting) (writing form (state_of s.kind)) so_far message fits s new
 any_leads started after greeting form state_of s so_far (Of_log message) fits new st m =
-    log_done (machine (started s.kind) after greeting) (fetched_on (uses s.marks) s.boot s.count message so_far) (log_heard started after greeting message s) fits s new (log_so_far started after greeting s so_far message st) m
+    log_done (machine (started s.kind) after greeting) (fetched_on (uses s.marks) s.boot s.count message so_far) (log_received started after greeting message s) fits s new (log_so_far started after greeting s so_far message st) m
 any_leads started after greeting form state_of s so_far (About_mark message) fits new st m =
-    mark_done (machine (started s.kind) after greeting) (writing form (state_of s.kind)) so_far (mark_reported (writing form (state_of s.kind)) s.boot message so_far) (mark_heard started greeting state_of message s)
+    mark_done (machine (started s.kind) after greeting) (writing form (state_of s.kind)) so_far (mark_reported (writing form (state_of s.kind)) s.boot message so_far) (mark_received started greeting state_of message s)
     fits s new (mark_leads started after greeting form state_of s so_far message st) m
 
 -- What is asked

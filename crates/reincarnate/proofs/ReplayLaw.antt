@@ -3,7 +3,7 @@ use Rattle.std.proofs.Common.{◌≡◌, ℕ, ◌+◌, ◌-◌, ◌^◌, ◌≤�
 use Rattle.std.proofs.lemmas.List.{drop-append-le}
 use Rattle.std.proofs.Math.Seq.{drop-nil}
 use Rattle.server_trait.specs.Service.{Machine, Run, Served, fed, with_served, reference}
-use Rattle.ft_model.proofs.Services.{more_bytes, reads_go_on, prefix_length, sum_append}
+use Rattle.ft_model.proofs.Services.{more_bytes, reads_proceed, prefix_length, sum_append}
 use Rattle.north_wrap.proofs.OneRead.{drop_drop, one_more}
 use Rattle.log_replay.specs.Replay.{ReplayState, RunsTo, passes_the_stream, served_on, taken_on, fed_on}
 use Rattle.reincarnate.specs.Progress.{replayed_from}
@@ -75,7 +75,7 @@ fed_stands service bytes lengths n ws acked r h low =
       acked_is = taken_acked service.after r (take n r.held) ∙ h.acked_is;
       run = λ small.
           let before : length (reference service bytes h.replayed).output ≤ 2 ^ 24 =
-          le_trans (prefix_length _ _ (reads_go_on service bytes h.replayed (h.replayed ++ n ∷ []) (n ∷ [], refl)).output) small in
+          le_trans (prefix_length _ _ (reads_proceed service bytes h.replayed (h.replayed ++ n ∷ []) (n ∷ [], refl)).output) small in
           subst (λ x. RunsTo x acked (record (taken_on service.after r (take n r.held)) { held = drop n r.held })) (sym whole)
           (holds_else (fed service (reference service bytes h.replayed) (take n r.held)) acked (taken_on service.after r (take n r.held)) (drop n r.held)
           (taken_runs service (reference service bytes h.replayed) acked r (take n r.held) (h.run before) h.acked_is (subst (λ x. length x.output ≤ 2 ^ 24) whole small)));

@@ -19,10 +19,10 @@ use Rattle.tcp_endpoint.specs.declared.states.StateName.TheVariants.{Closed, Lis
 use Rattle.tcp_endpoint.specs.SendHalf.{Sending, bytes_end}
 use Rattle.tcp_endpoint.specs.States.{has_begun}
 use Rattle.tcp_endpoint.specs.Tcb.{Tcb}
-use Rattle.connection_laws.specs.Splice.{GoesOnFrom, StandsAtEntry, delta_from, spliced_measuring}
-use Rattle.connection_laws.specs.PointNumbers.{PartsTell}
+use Rattle.connection_laws.specs.Splice.{ProceedsFrom, StandsAtEntry, delta_from, spliced_measuring}
+use Rattle.connection_laws.specs.PointNumbers.{PartsShow}
 use Rattle.connection_laws.proofs.Spliced.{splices, splices_parts}
-use Rattle.connection_laws.proofs.PointNumbers.{parts_tell}
+use Rattle.connection_laws.proofs.PointNumbers.{parts_show}
 use Rattle.wrapped_conn.proofs.SoundAgain.{resumed_leaves}
 use Rattle.wrapped_conn.specs.Numbers.{has_fin}
 use Rattle.wrapped_conn.specs.Sound.{LeavesRoom, has_peer, IsSoundTcp, IsSound}
@@ -30,7 +30,7 @@ use Rattle.wrapped_conn.proofs.NumbersAt.{has_fin_is}
 use Rattle.log_replay.specs.ReadLengths.{HaveBytes}
 use Rattle.reincarnate.specs.Progress.{ReplayedState}
 use Rattle.log_replay.specs.LoggedHead.{IsSegmentSize, has_end}
-use Rattle.reincarnate.specs.Splice.{SplicedState, conn_of, goes_on_at, spliced_from_in, EntryNumbersFit}
+use Rattle.reincarnate.specs.Splice.{SplicedState, conn_of, proceeds_at, spliced_from_in, EntryNumbersFit}
 use Rattle.log_replay.proofs.Forging.{idle}
 use Rattle.reincarnate.proofs.Joined.{less_fin}
 use Rattle.ft_io.proofs.Booleans.{false_by}
@@ -96,7 +96,7 @@ record IsFresh (i fetched size : ℕ) (has_end : Bool) (t : Tcb) : Type 0 where
 end_is : (s : Sending) → s.fin_sent ≡ false → bytes_end s ≡ s.una + length s.held
 end_is s e = ap (λ b. if b then s.sent - 1 else s.una + length s.held) e
 
-fresh_at : (profile : Profile) (key : Key) (local : Addr) (cisn fetched mss i : ℕ) (fin : Bool) (e : Entry) → e ≡ unread_entry key cisn fetched mss fin → GoesOnFrom idle e i
+fresh_at : (profile : Profile) (key : Key) (local : Addr) (cisn fetched mss i : ℕ) (fin : Bool) (e : Entry) → e ≡ unread_entry key cisn fetched mss fin → ProceedsFrom idle e i
     → HasReplayed idle (point_of idle profile e) (resumed_at idle e) (idle_north e.bytes)
     → IsFresh i (length e.bytes) e.mss e.fin (spliced_measuring profile.measures e.key local e.cisn (length e.bytes) e.mss i e.fin)
 fresh_at profile key local cisn fetched mss i fin e is g replayed =
@@ -110,8 +110,8 @@ fresh_at profile key local cisn fetched mss i fin e is g replayed =
     let unread : length t.receiving.unread ≡ 0 = omega (arith, at.receives.long, read) in
     let una : t.sending.una ≡ 0 = omega (arith, at.sends.una) in
     let last = end_is t.sending (false_by t.sending.fin_sent t.sending.closed (λ f. (between.fin_last f).0) s.open_still) in
-    let tell : PartsTell idle (delta_from idle e i) (point_of idle profile e) (idle_north e.bytes) t =
-    parts_tell idle u i (delta_from idle e i) u (point_of idle profile e) (idle_north e.bytes) t (splices_parts idle profile local e i (idle_north e.bytes) g replayed) in
+    let shown : PartsShow idle (delta_from idle e i) (point_of idle profile e) (idle_north e.bytes) t =
+    parts_show idle u i (delta_from idle e i) u (point_of idle profile e) (idle_north e.bytes) t (splices_parts idle profile local e i (idle_north e.bytes) g replayed) in
     record {
       sound = record {
         bounds = between.bounds;
@@ -125,7 +125,7 @@ fresh_at profile key local cisn fetched mss i fin e is g replayed =
       mss = sym at.sends.mss;
       una = una;
       held = omega (arith, last, s.feeds.until, una);
-      fin = has_fin_is t.name ∙ sym tell.fin;
+      fin = has_fin_is t.name ∙ sym shown.fin;
     }
   where
     max_zero : (n : ℕ) → max n 0 ≡ n
@@ -137,7 +137,7 @@ fresh_tcp profile key local cisn fetched mss i fin few segments room fits =
     let e : Entry = unread_entry key cisn fetched mss fin in
     let size : length e.bytes ≡ fetched = length-replicate fetched 0 in
     let none : resumed_at idle e ≡ 0 = omega arith in
-    let g : GoesOnFrom idle e i = record {
+    let g : ProceedsFrom idle e i = record {
       least = segments.0;
       most = segments.1;
       short = omega (arith, size, few);
@@ -175,7 +175,7 @@ spliced_sound profile boot local i r live f have whole made pending =
     let fresh = fresh_tcp profile r.head.key local r.head.cisn r.head.length r.head.mss i ends f.stream f.segments (below r.head.fin (nat_lt r.head.length (2 ^ 24)) r.head.length refl) f.i_fits in
     let fetched : distance (number_at r.head.cisn (r.head.length + one_if ends)) ((r.head.cisn + 1) % 2 ^ 32) - one_if (has_fin t.name) ≡ r.head.length =
     (λ j. distance (number_at r.head.cisn (r.head.length + one_if ends)) ((r.head.cisn + 1) % 2 ^ 32) - one_if (fresh.fin j)) ∙ less_fin r.head.cisn r.head.length ends f.stream in
-    let behind = swallowed_is i r.head.sisn (goes_on_at r) t.sending.iss fresh.iss f.i_fits f.sisn (omega (arith, made)) in
+    let behind = swallowed_is i r.head.sisn (proceeds_at r) t.sending.iss fresh.iss f.i_fits f.sisn (omega (arith, made)) in
     record {
       parts = record {
         tcp = fresh.sound;
@@ -185,7 +185,7 @@ spliced_sound profile boot local i r live f have whole made pending =
         made = made;
         written = λ o. omega (arith, fresh.una, fresh.held, pending);
         count = have;
-        tellable = tt;
+        writable = tt;
       };
       boot = live;
       sisn = f.sisn;

@@ -100,25 +100,25 @@ any_asked s =
 abbrev pub noted : {S : Type 0} → Marks → FetchingState S → FetchingState S
 noted marks s = record s { marks = marks }
 
-abbrev pub log_heard : {S : Type 0} → (ℕ → S) → (S → List ℕ → Served S) → (S → List ℕ) → Message → FetchingState S → Option (FetchingState S)
-log_heard started after greeting message s =
+abbrev pub log_received : {S : Type 0} → (ℕ → S) → (S → List ℕ → Served S) → (S → List ℕ) → Message → FetchingState S → Option (FetchingState S)
+log_received started after greeting message s =
     if awaits s.marks then None else option_map (noted (marks_after s.marks message.body)) (after_answer started after greeting message s)
 
 -- the mark of the newest entry
 abbrev pub with_marked : {S : Type 0} → FetchingState S → EntryState S → FetchingState S
 with_marked s e = record s { newest = Some e; marks = marks.Used }
 
-abbrev pub held_heard : {S : Type 0} → (ℕ → S) → (S → List ℕ) → (ℕ → List ℕ → Option S) → MarkBody → FetchingState S → Option (FetchingState S)
-held_heard started greeting state_of (HeldMsg key m) s =
+abbrev pub held_received : {S : Type 0} → (ℕ → S) → (S → List ℕ) → (ℕ → List ℕ → Option S) → MarkBody → FetchingState S → Option (FetchingState S)
+held_received started greeting state_of (HeldMsg key m) s =
     option_map (with_marked s) (marked_on (started s.kind) (greeting (started s.kind)) (state_of s.kind) key m s.newest)
-held_heard started greeting state_of _ s = None
+held_received started greeting state_of _ s = None
 
 -- .. while it is awaited
-abbrev pub mark_heard : {S : Type 0} → (ℕ → S) → (S → List ℕ) → (ℕ → List ℕ → Option S) → MarkMessage → FetchingState S → Option (FetchingState S)
-mark_heard started greeting state_of message s = if message.boot == s.boot && awaits s.marks then held_heard started greeting state_of message.body s else None
+abbrev pub mark_received : {S : Type 0} → (ℕ → S) → (S → List ℕ) → (ℕ → List ℕ → Option S) → MarkMessage → FetchingState S → Option (FetchingState S)
+mark_received started greeting state_of message s = if message.boot == s.boot && awaits s.marks then held_received started greeting state_of message.body s else None
 
 -- what is known after any message, if it is an answer
-abbrev pub any_heard : {S : Type 0} → (ℕ → S) → (S → List ℕ → Served S) → (S → List ℕ) → (ℕ → List ℕ → Option S) → AnyMessage → FetchingState S
+abbrev pub any_received : {S : Type 0} → (ℕ → S) → (S → List ℕ → Served S) → (S → List ℕ) → (ℕ → List ℕ → Option S) → AnyMessage → FetchingState S
     → Option (FetchingState S)
-any_heard started after greeting state_of (Of_log message) s = log_heard started after greeting message s
-any_heard started after greeting state_of (About_mark message) s = mark_heard started greeting state_of message s
+any_received started after greeting state_of (Of_log message) s = log_received started after greeting message s
+any_received started after greeting state_of (About_mark message) s = mark_received started greeting state_of message s

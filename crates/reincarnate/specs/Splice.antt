@@ -34,15 +34,15 @@ abbrev pub conn_of : {S : Type 0} → SplicedState S → ConnState S
 conn_of s = joined_conn_in s.profile s.boot s.key s.local s.south s.endpoint s.north
 
 -- output continues after what the client has acknowledged of it. A FIN is retransmitted even if it was acknowledged
-abbrev pub goes_on_at : {S : Type 0} → ReplayedState S → ℕ
-goes_on_at r = min r.head.acked r.replay.made
+abbrev pub proceeds_at : {S : Type 0} → ReplayedState S → ℕ
+proceeds_at r = min r.head.acked r.replay.made
 
 -- the units of output that an earlier incarnation may have sent: what the service has made, and one more if it has closed
 abbrev pub made_units : {S : Type 0} → ReplayedState S → ℕ
 made_units r = r.replay.made + one_if r.replay.closed
 
 abbrev pub south_from : {S : Type 0} → (i : ℕ) → ReplayedState S → SouthState
-south_from i r = record (resumed_south r.head.cisn r.head.sisn r.head.length (made_units r) (has_end r.head) (goes_on_at r) i) { read = r.cuts.sum }
+south_from i r = record (resumed_south r.head.cisn r.head.sisn r.head.length (made_units r) (has_end r.head) (proceeds_at r) i) { read = r.cuts.sum }
 
 abbrev pub north_from : {S : Type 0} → ReplayedState S → NorthState S
 north_from r = resumed_north r.replay.service r.replay.held r.replay.pending r.cuts.count r.cuts.sum r.replay.made r.cuts.ended r.replay.closed

@@ -22,7 +22,7 @@ ghost use Rattle.logger_wire.specs.Value.{body_of, message_of, IsSendableBy};
 ghost use Rattle.logger_wire.specs.Records.{head_said};
 ghost use Rattle.reincarnate.specs.Progress.{AreReady};
 ghost use Rattle.log_replay.specs.LoggedHead.{IsSegmentSize};
-ghost use Rattle.reincarnate.specs.Questions.{any_asked, any_heard, log_heard, noted, held_heard, mark_heard, mark_asked};
+ghost use Rattle.reincarnate.specs.Questions.{any_asked, any_received, log_received, noted, held_received, mark_received, mark_asked};
 ghost use Rattle.reincarnate.specs.Questions.{IsAskable, entries_of, asked_of, asked_entry, asked, entry_known, head_fits, with_head, with_newest};
 ghost use Rattle.reincarnate.specs.Questions.{part_on, lens_on, answered, after_answer};
 ghost use Rattle.reincarnate.specs.Refinement.{StandsFetching, StandsSoFar, StandsWhole, AnyLeads, held_of};
@@ -215,7 +215,7 @@ impl<S: Service> Fetching<S> {
     /// Takes a message that isn't about marks. It is no answer while a mark is awaited.
     fn receive_log(&mut self, alloc: Global, m: &Msg<'_>) -> Result<bool, NoMemory>
         requires { IsRead m.now }
-        ensures value { IfOk result (λ fits. MatchOption (log_heard S.started S.after S.greeting (message_of m.now) self.old)
+        ensures value { IfOk result (λ fits. MatchOption (log_received S.started S.after S.greeting (message_of m.now) self.old)
             ((fits ≡ false) × (self.new ≡ self.old)) (λ s. (fits ≡ true) × (self.new ≡ s))) }
     {
         if self.marks.are_awaited() {
@@ -353,7 +353,7 @@ impl<S: Saved> Fetching<S> {
     /// Takes an answer, if it fits the question, and returns whether it does. After `NoMemory` this value may only be dropped.
     pub fn on_answer(&mut self, alloc: Global, m: &AnyMsg<'_>) -> Result<bool, NoMemory>
         requires { IsAnyRead m.now }
-        ensures value { IfOk result (λ fits. MatchOption (any_heard S.started S.after S.greeting S.state_of (any_of m.now) self.old)
+        ensures value { IfOk result (λ fits. MatchOption (any_received S.started S.after S.greeting S.state_of (any_of m.now) self.old)
             ((fits ≡ false) × (self.new ≡ self.old)) (λ s. (fits ≡ true) × (self.new ≡ s))) }
         ensures law { IfOk result (λ fits. (so_far : FetchedSoFar) → StandsSoFar (machine (S.started self.old.kind) S.after S.greeting) so_far self.old
             → AnyLeads (machine (S.started self.old.kind) S.after S.greeting) (writing S.form (S.state_of self.old.kind)) so_far
@@ -364,7 +364,7 @@ impl<S: Saved> Fetching<S> {
 
     fn receive_any(&mut self, alloc: Global, m: &AnyMsg<'_>) -> Result<bool, NoMemory>
         requires { IsAnyRead m.now }
-        ensures value { IfOk result (λ fits. MatchOption (any_heard S.started S.after S.greeting S.state_of (any_of m.now) self.old)
+        ensures value { IfOk result (λ fits. MatchOption (any_received S.started S.after S.greeting S.state_of (any_of m.now) self.old)
             ((fits ≡ false) × (self.new ≡ self.old)) (λ s. (fits ≡ true) × (self.new ≡ s))) }
     {
         match m {
@@ -377,7 +377,7 @@ impl<S: Saved> Fetching<S> {
     #[tactic(auto, using(crate::proofs::Sendable::held_in_range))]
     fn receive_mark(&mut self, alloc: Global, m: &MarkMsg<'_>) -> Result<bool, NoMemory>
         requires { IsSpellable (mark_message_of m.now) }
-        ensures value { IfOk result (λ fits. MatchOption (mark_heard S.started S.greeting S.state_of (mark_message_of m.now) self.old)
+        ensures value { IfOk result (λ fits. MatchOption (mark_received S.started S.greeting S.state_of (mark_message_of m.now) self.old)
             ((fits ≡ false) × (self.new ≡ self.old)) (λ s. (fits ≡ true) × (self.new ≡ s))) }
     {
         if m.boot != self.boot || !self.marks.are_awaited() {
@@ -392,7 +392,7 @@ impl<S: Saved> Fetching<S> {
     /// Takes the mark of the newest entry: if it is an answer, the entry begins there.
     fn on_held(&mut self, alloc: Global, key: Key, mark: &Mark<'_>) -> Result<bool, NoMemory>
         requires { mark.now.made ≤ longest_stream }
-        ensures value { IfOk result (λ fits. MatchOption (held_heard S.started S.greeting S.state_of (HeldMsg key (mark_said mark.now)) self.old)
+        ensures value { IfOk result (λ fits. MatchOption (held_received S.started S.greeting S.state_of (HeldMsg key (mark_said mark.now)) self.old)
             ((fits ≡ false) × (self.new ≡ self.old)) (λ s. (fits ≡ true) × (self.new ≡ s))) }
     {
         let Some(entry) = self.begun_from(alloc, key, mark)? else {

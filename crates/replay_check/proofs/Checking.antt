@@ -23,7 +23,7 @@ use Rattle.replay_check.specs.Stream.{Stream, HasFailed, HasNotFailed}
 use Rattle.replay_check.specs.declared.status.TooMuch.TheVariants.{Text, Events, Packets}
 use Rattle.replay_check.specs.declared.status.RunEnd.{RunEnd}
 use Rattle.replay_check.specs.declared.status.RunEnd.TheVariants.{Usage, NoMemory, ReadFault, WriteFault, BadLine, BadEvent, TooLong, Rejected}
-use Rattle.replay_check.proofs.EndTold.{when_told, TellsEnd}
+use Rattle.replay_check.proofs.EndReported.{when_reported, ReportsEnd}
 
 -- what holds of a text that was read holds of the source's
 of_read : (Is : List ℕ → Type 0) (left : Option (List ℕ)) (text : List ℕ) → IfSome left (λ whole. text ≡ whole) → Is text → IfSome left Is
@@ -71,9 +71,9 @@ finds safe input out text events packets at well same few judged wrote kept = (
 )
 
 -- .. and the line isn't written whole
-pub telling_stops : AreSafe → (input out : Stream) (text : List ℕ) (events packets : ℕ) → IsAtEnd input.after → HasNotFailed input → IfSome input.before (λ whole. text ≡ whole)
+pub reporting_stops : AreSafe → (input out : Stream) (text : List ℕ) (events packets : ℕ) → IsAtEnd input.after → HasNotFailed input → IfSome input.before (λ whole. text ≡ whole)
     → length text ≤ report_limit → IsCounted text events packets → WroteFront out.before out.after (legal_line events packets) → HasFailed out → CheckStops input out WriteFault
-telling_stops safe input out text events packets at well same few judged wrote failed = (
+reporting_stops safe input out text events packets at well same few judged wrote failed = (
   reads_report (λ t. Wrote out.before out.after (IsFrontOfLegal t)) input text at well same few
       (wrote.0, wrote.1, (legal_line events packets, found safe text events packets judged, wrote.2)),
   failed,
@@ -90,9 +90,9 @@ codes_of input out Usage s = absurd s
 codes_of input out (BadLine line why) s = absurd s
 codes_of input out (BadEvent number why) s = absurd s
 
-pub is_told_code : (input out : Stream) (end : RunEnd) (err : Stream) (code : ℕ) → CheckStops input out end → TellsEnd end err code → is_check_code code ≡ true
-is_told_code input out end err code s (inl t) = ap is_check_code t.0 ∙ codes_of input out end s
-is_told_code input out end err code s (inr t) = ap is_check_code t.0
+pub is_reported_code : (input out : Stream) (end : RunEnd) (err : Stream) (code : ℕ) → CheckStops input out end → ReportsEnd end err code → is_check_code code ≡ true
+is_reported_code input out end err code s (inl t) = ap is_check_code t.0 ∙ codes_of input out end s
+is_reported_code input out end err code s (inr t) = ap is_check_code t.0
 
 same_lines : (n : ℕ) (lines : List (List ℕ)) → SameLines n lines lines
 same_lines zero lines = tt
@@ -137,22 +137,22 @@ module _
   }
 
   pub settles_found : (input out : Stream) → input.before ≡ Some text → FindsLegal input out → code ≡ 0 → IsCheckSettled text code
-  settles_found input out told s is =
-      let line : Wrote out.before out.after (IsFoundLegal text) = when_told (λ t. Wrote out.before out.after (IsFoundLegal t)) input.before text told s.0.text in
-      by_report is (when_told (λ t. length t ≤ report_limit) input.before text told s.0.within) line.2.report
+  settles_found input out reported s is =
+      let line : Wrote out.before out.after (IsFoundLegal text) = when_reported (λ t. Wrote out.before out.after (IsFoundLegal t)) input.before text reported s.0.text in
+      by_report is (when_reported (λ t. length t ≤ report_limit) input.before text reported s.0.within) line.2.report
 
   -- where no count of faults rises, the status is that of the end
   pub settles_end : (input out : Stream) (end : RunEnd) → input.before ≡ Some text → code ≡ code_of end → CheckStops input out end
       → (HasFailed input → ⊥) → (HasFailed out → ⊥) → IsCheckSettled text code
-  settles_end input out NoMemory told is s input_still out_still = by_memory is
-  settles_end input out ReadFault told is s input_still out_still = absurd (input_still s.0)
-  settles_end input out WriteFault told is s input_still out_still = absurd (out_still s.1)
-  settles_end input out (TooLong Text) told is s input_still out_still = by_length is (when_told (λ t. report_limit < length t) input.before text told s.0)
-  settles_end input out (Rejected line law) told is s input_still out_still =
-      by_rejection line law is (when_told (λ t. length t ≤ report_limit) input.before text told s.0.within)
-      (when_told (λ t. IsRejected any_machine t line law) input.before text told s.0.text)
-  settles_end input out (TooLong Events) told is s input_still out_still = absurd s
-  settles_end input out (TooLong Packets) told is s input_still out_still = absurd s
-  settles_end input out Usage told is s input_still out_still = absurd s
-  settles_end input out (BadLine line why) told is s input_still out_still = absurd s
-  settles_end input out (BadEvent number why) told is s input_still out_still = absurd s
+  settles_end input out NoMemory reported is s input_still out_still = by_memory is
+  settles_end input out ReadFault reported is s input_still out_still = absurd (input_still s.0)
+  settles_end input out WriteFault reported is s input_still out_still = absurd (out_still s.1)
+  settles_end input out (TooLong Text) reported is s input_still out_still = by_length is (when_reported (λ t. report_limit < length t) input.before text reported s.0)
+  settles_end input out (Rejected line law) reported is s input_still out_still =
+      by_rejection line law is (when_reported (λ t. length t ≤ report_limit) input.before text reported s.0.within)
+      (when_reported (λ t. IsRejected any_machine t line law) input.before text reported s.0.text)
+  settles_end input out (TooLong Events) reported is s input_still out_still = absurd s
+  settles_end input out (TooLong Packets) reported is s input_still out_still = absurd s
+  settles_end input out Usage reported is s input_still out_still = absurd s
+  settles_end input out (BadLine line why) reported is s input_still out_still = absurd s
+  settles_end input out (BadEvent number why) reported is s input_still out_still = absurd s

@@ -1,4 +1,4 @@
 pub mod Fronts
 pub mod Checking
-pub mod EndTold
+pub mod EndReported
 pub mod Events

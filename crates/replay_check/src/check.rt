@@ -9,7 +9,7 @@ ghost use Rattle.replay_check.specs.Stream.{stream};
 
 use crate::safe::joint_traces_are_safe;
 use crate::status::RunEnd;
-use crate::telling::{write_both, write_text};
+use crate::reporting::{write_both, write_text};
 use ft_io::{Failed, Sink, Source, read_to_limit};
 use itoa::Buffer;
 use sample_servers::AnyService;

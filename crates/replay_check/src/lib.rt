@@ -5,11 +5,11 @@
 pub use reports::check_report;
 pub use safe::joint_traces_are_safe;
 pub use status::{RunEnd, Status, TooMuch, end_of_step};
-pub use telling::report_end;
+pub use reporting::report_end;
 
 mod check;
 mod excluded;
 mod reports;
 mod safe;
 mod status;
-mod telling;
+mod reporting;

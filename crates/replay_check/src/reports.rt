@@ -7,7 +7,7 @@ ghost use Rattle.replay_check.specs.Stream.{stream};
 
 use crate::check::check;
 use crate::status::Status;
-use crate::telling::report_end;
+use crate::reporting::report_end;
 use ft_io::{Sink, Source};
 use report_laws::no_report_has_a_rejected_prefix;
 use sample_servers::AnyService;

@@ -21,7 +21,7 @@ use Rattle.mark_laws.specs.MarkedLog.AnyMessage.{About_mark, Of_log}
 use Rattle.mark_laws.specs.MarkedLegal.{IsMarkedLegalFor, marked_start, marked_events_of, marked_packets_sent}
 use Rattle.mark_laws.specs.MarkedNode.{Marker, MarkedNode, MarkedInput}
 use Rattle.mark_laws.specs.MarkedNode.MarkedInput.{Plain_comes, Mark_comes}
-use Rattle.mark_laws.specs.MarkedWorld.{Parcel, MarkedWorld, MarkedMoment, MarkedHappens, MarkedJoint, ParcelComes, ComesAs, LogHears, LogReads, ServerTurn, CanBeRead, bytes_of, input_of, marked_after, said_by}
+use Rattle.mark_laws.specs.MarkedWorld.{Parcel, MarkedWorld, MarkedMoment, MarkedHappens, MarkedJoint, ParcelComes, ComesAs, LogReceives, LogReads, ServerTurn, CanBeRead, bytes_of, input_of, marked_after, said_by}
 use Rattle.mark_laws.specs.MarkedWorld.Parcel.{Usual, Mark_sent, Mark_answered}
 use Rattle.mark_laws.specs.MarkedReport.{mark_words, way_of_marked, marked_parcel_line, marked_parcel_lines, marked_parcel_count, marked_event_lines, marked_report}
 use Rattle.schedule_network.specs.AtNumber.{at_number}
@@ -53,7 +53,7 @@ turn_grows : {State : Type 0} (by : Marker State) (input : MarkedInput) (o : Opt
 turn_grows by input None before sent after t = ap (λ (w : MarkedWorld). w.parcels) t.1
 turn_grows by input (Some node) before sent after t = ap (λ (w : MarkedWorld). w.parcels) t.4
 
-log_grows : (message : AnyMessage) (before : MarkedWorld) (sent : List Parcel) (after : MarkedWorld) → LogHears message before sent after → Grows before sent after
+log_grows : (message : AnyMessage) (before : MarkedWorld) (sent : List Parcel) (after : MarkedWorld) → LogReceives message before sent after → Grows before sent after
 log_grows (Of_log message) before sent after t = ap (λ (w : MarkedWorld). w.parcels) t.1
 log_grows (About_mark message) before sent after t = ap (λ (w : MarkedWorld). w.parcels) t.1
 

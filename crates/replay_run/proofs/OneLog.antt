@@ -14,7 +14,7 @@ use Rattle.ft_model.specs.Wire.{wire_by, HasWireBy}
 use Rattle.ft_model.specs.World.{World, Moment, Joint, world_after}
 use Rattle.ft_model.specs.declared.event.Event.{Event}
 use Rattle.ft_model.specs.declared.schedule.Schedule.{Schedule}
-use Rattle.ft_model.proofs.OneTrace.{goes_on}
+use Rattle.ft_model.proofs.OneTrace.{proceeds}
 use Rattle.std.specs.List.{flat_map}
 use Rattle.ft_model.specs.declared.way.Way.{Way}
 use Rattle.schedule_network.specs.AtNumber.{at_number}
@@ -37,7 +37,7 @@ as_many schedule events trace l = ap length (sym l.events_are) ∙ events_count 
 all_counted : {State : Type 0} (service : Machine State) (start : World) (trace : List Moment) → start.packets ≡ [] → Joint service start trace → length (world_after start trace).packets ≡ packet_count trace
 all_counted service start [] none j = ap length none
 all_counted service start (moment ∷ earlier) none j =
-    ap length (goes_on service moment.event (world_after start earlier) moment.world moment.sent j.1)
+    ap length (proceeds service moment.event (world_after start earlier) moment.world moment.sent j.1)
     ∙ length-append (world_after start earlier).packets moment.sent ∙ ap (λ n. n + length moment.sent) (all_counted service start earlier none j.0)
 
 -- what is stored of a packet is read as the packet

@@ -8,8 +8,8 @@ use Rattle.ft_model.specs.Report.{header, event_line, packet_lines, packet_count
 use Rattle.ft_model.specs.World.{World, Moment, world_after}
 use Rattle.ft_model.specs.declared.schedule.Schedule.{Schedule}
 use Rattle.ft_model.proofs.ReportHeader.{IsClosing, NoClient, NoProfile, NoTwin, NoMarks, NoLasting, closing_ends, no_client, no_profile, no_twin, no_marks, no_lasting, IsSameHeader, header_cut}
-use Rattle.ft_model.proofs.ReportTurns.{Telling, sent_in, lines_of}
-use Rattle.ft_model.proofs.ReportTells.{its_clients, all_told, text_of}
+use Rattle.ft_model.proofs.ReportTurns.{Reporting, sent_in, lines_of}
+use Rattle.ft_model.proofs.ReportDetermines.{its_clients, all_reported, text_of}
 use Rattle.mark_laws.specs.MarkedLegal.{marked_start}
 use Rattle.mark_laws.specs.MarkedReport.{marked_parcel_lines, marked_parcel_count, marked_event_lines, marked_report}
 use Rattle.mark_laws.specs.MarkedWorld.{MarkedMoment, marked_after}
@@ -30,7 +30,7 @@ record Behind (schedule : Schedule) (text : List ℕ) : Type 0 where
   pub marks : NoMarks rest
   pub lasting : NoLasting rest
 
-behind : {Turn : Type 0} (by : List Client → Telling Turn Turn) (schedule : Schedule) (turns : List Turn) (w : World) (text : List ℕ) → text ≡ text_of by schedule turns w → Behind schedule text
+behind : {Turn : Type 0} (by : List Client → Reporting Turn Turn) (schedule : Schedule) (turns : List Turn) (w : World) (text : List ℕ) → text ≡ text_of by schedule turns w → Behind schedule text
 behind by schedule turns w text e =
     let r : List ℕ = closing_lines w (length turns) in
     let ends : IsClosing r = closing_ends w (length turns) in
@@ -45,8 +45,8 @@ behind by schedule turns w text e =
     }
 
 -- with one log
-moments : List Client → Telling Moment Moment
-moments clients = all_told (λ m. m.event) (λ m. length m.sent) (λ cs k m. packet_lines cs k m.sent) clients
+moments : List Client → Reporting Moment Moment
+moments clients = all_reported (λ m. m.event) (λ m. length m.sent) (λ cs k m. packet_lines cs k m.sent) clients
 
 one_counted : (clients : List Client) (trace : List Moment) → packet_count trace ≡ sent_in (moments clients) trace
 unfolding moments
@@ -65,8 +65,8 @@ one_behind schedule trace =
     behind moments schedule trace w (report schedule trace) (ap (λ l. header schedule ++ (l ++ closing_lines w (length trace))) (one_lines (its_clients schedule) trace))
 
 -- with two loggers
-twin_moments : List Client → Telling TwinMoment TwinMoment
-twin_moments clients = all_told (λ m. event_of m.event) (λ m. length m.sent) (λ cs k m. parcel_lines cs k m.sent) clients
+twin_moments : List Client → Reporting TwinMoment TwinMoment
+twin_moments clients = all_reported (λ m. event_of m.event) (λ m. length m.sent) (λ cs k m. parcel_lines cs k m.sent) clients
 
 twin_counted : (clients : List Client) (trace : List TwinMoment) → parcel_count trace ≡ sent_in (twin_moments clients) trace
 unfolding twin_moments
@@ -85,8 +85,8 @@ twin_behind schedule trace =
     behind twin_moments schedule trace w (twin_report schedule trace) (ap (λ l. header schedule ++ (l ++ closing_lines w (length trace))) (twin_lines (its_clients schedule) trace))
 
 -- with marks
-marked_moments : List Client → Telling MarkedMoment MarkedMoment
-marked_moments clients = all_told (λ m. m.event) (λ m. length m.sent) (λ cs k m. marked_parcel_lines cs k m.sent) clients
+marked_moments : List Client → Reporting MarkedMoment MarkedMoment
+marked_moments clients = all_reported (λ m. m.event) (λ m. length m.sent) (λ cs k m. marked_parcel_lines cs k m.sent) clients
 
 marked_counted : (clients : List Client) (trace : List MarkedMoment) → marked_parcel_count trace ≡ sent_in (marked_moments clients) trace
 unfolding marked_moments
@@ -110,8 +110,8 @@ all_behind false None schedule trace = one_behind schedule trace
 all_behind false (Some every) schedule trace = marked_behind schedule trace
 
 -- reports tell the header, whatever their kinds
-header_told : (traced other : Traced) → FitsSchedule traced.schedule → FitsSchedule other.schedule → report_of traced ≡ report_of other → IsSameHeader traced.schedule other.schedule
-header_told traced other fits too e =
+header_reported : (traced other : Traced) → FitsSchedule traced.schedule → FitsSchedule other.schedule → report_of traced ≡ report_of other → IsSameHeader traced.schedule other.schedule
+header_reported traced other fits too e =
     let a : Behind traced.schedule (report_of traced) = all_behind traced.schedule.twin traced.schedule.marks traced.schedule traced.trace in
     let b : Behind other.schedule (report_of other) = all_behind other.schedule.twin other.schedule.marks other.schedule other.trace in
     (header_cut traced.schedule other.schedule a.rest b.rest fits too a.client b.client a.profile b.profile a.twin b.twin a.marks b.marks a.lasting b.lasting (sym a.is ∙ (e ∙ b.is))).0
@@ -125,16 +125,16 @@ once one two marked true marks = two
 once one two marked false None = one
 once one two marked false (Some every) = marked every
 
-abbrev Tells : Traces → Traces → Schedule → Schedule → Type 0
-Tells kind like schedule other =
+abbrev Reports : Traces → Traces → Schedule → Schedule → Type 0
+Reports kind like schedule other =
     (trace : List kind.Turn) (also : List like.Turn) → FitsSchedule schedule → FitsSchedule other → kind.IsLegal schedule schedule.events trace → like.IsLegal other other.events also
     → kind.report schedule trace ≡ like.report other also → schedule ≡ other
 
-same_kind : ((schedule other : Schedule) → Tells (traces_of false None) (traces_of false None) schedule other)
-    → ((schedule other : Schedule) → Tells (traces_of true None) (traces_of true None) schedule other)
-    → ((every often : ℕ) (schedule other : Schedule) → schedule.marks ≡ Some every → other.marks ≡ Some often → Tells (traces_of false (Some every)) (traces_of false (Some often)) schedule other)
+same_kind : ((schedule other : Schedule) → Reports (traces_of false None) (traces_of false None) schedule other)
+    → ((schedule other : Schedule) → Reports (traces_of true None) (traces_of true None) schedule other)
+    → ((every often : ℕ) (schedule other : Schedule) → schedule.marks ≡ Some every → other.marks ≡ Some often → Reports (traces_of false (Some every)) (traces_of false (Some often)) schedule other)
     → (twin also : Bool) (marks more : Option ℕ) (schedule other : Schedule) → schedule.marks ≡ marks → other.marks ≡ more → twin ≡ also → marks ≡ more
-    → Tells (traces_of twin marks) (traces_of also more) schedule other
+    → Reports (traces_of twin marks) (traces_of also more) schedule other
 same_kind one two marked true true marks more schedule other p q b o = two schedule other
 same_kind one two marked true false marks more schedule other p q b o = absurd (true≢false b)
 same_kind one two marked false true marks more schedule other p q b o = absurd (true≢false (sym b))
@@ -143,15 +143,15 @@ same_kind one two marked false false None (Some often) schedule other p q b o = 
 same_kind one two marked false false (Some every) None schedule other p q b o = absurd (none-some every (sym o))
 same_kind one two marked false false (Some every) (Some often) schedule other p q b o = marked every often schedule other p q
 
-pub traced_told : ((schedule : Schedule) → (trace other : List (traces schedule).Turn) → (traces schedule).IsLegal schedule schedule.events trace
+pub traced_reported : ((schedule : Schedule) → (trace other : List (traces schedule).Turn) → (traces schedule).IsLegal schedule schedule.events trace
     → (traces schedule).IsLegal schedule schedule.events other → trace ≡ other)
-    → ((schedule other : Schedule) → Tells (traces_of false None) (traces_of false None) schedule other)
-    → ((schedule other : Schedule) → Tells (traces_of true None) (traces_of true None) schedule other)
-    → ((every often : ℕ) (schedule other : Schedule) → schedule.marks ≡ Some every → other.marks ≡ Some often → Tells (traces_of false (Some every)) (traces_of false (Some often)) schedule other)
+    → ((schedule other : Schedule) → Reports (traces_of false None) (traces_of false None) schedule other)
+    → ((schedule other : Schedule) → Reports (traces_of true None) (traces_of true None) schedule other)
+    → ((every often : ℕ) (schedule other : Schedule) → schedule.marks ≡ Some every → other.marks ≡ Some often → Reports (traces_of false (Some every)) (traces_of false (Some often)) schedule other)
     → (traced other : Traced) → FitsSchedule traced.schedule → FitsSchedule other.schedule → IsLegalTraced traced → IsLegalTraced other
     → report_of traced ≡ report_of other → traced ≡ other
-traced_told only one two marked traced other fits too l k e =
-    let h : IsSameHeader traced.schedule other.schedule = header_told traced other fits too e in
+traced_reported only one two marked traced other fits too l k e =
+    let h : IsSameHeader traced.schedule other.schedule = header_reported traced other fits too e in
     let same : traced.schedule ≡ other.schedule =
     same_kind one two marked traced.schedule.twin other.schedule.twin traced.schedule.marks other.schedule.marks traced.schedule other.schedule refl refl h.twin h.marks traced.trace other.trace fits too l k e in
     subst (λ s. (also : List (traces s).Turn) → (traces s).IsLegal s s.events also → traced ≡ record { schedule = s; trace = also }) same

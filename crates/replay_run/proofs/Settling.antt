@@ -23,17 +23,17 @@ use Rattle.replay_check.specs.Stream.{Stream, HasFailed}
 use Rattle.replay_check.specs.declared.status.TooMuch.TheVariants.{Text, Events, Packets}
 use Rattle.replay_check.specs.declared.status.RunEnd.{RunEnd}
 use Rattle.replay_check.specs.declared.status.RunEnd.TheVariants.{Usage, NoMemory, ReadFault, WriteFault, BadLine, BadEvent, TooLong, Rejected}
-use Rattle.replay_check.proofs.EndTold.{when_told, never_zero, TellsEnd}
+use Rattle.replay_check.proofs.EndReported.{when_reported, never_zero, ReportsEnd}
 
 pub bad_line : (text : List ℕ) (input out : Stream) (end : RunEnd) → input.before ≡ Some text → code_of end ≡ 6 → RunStops input out end → HasBadLine text
-bad_line text input out (BadLine line why) told e s = record { line = line; why = why; refused = when_told (λ t. read_fleeting t ≡ Err (reading.BadLine line why)) input.before text told s.refused }
-bad_line text input out (BadEvent number why) told e s = cc
-bad_line text input out (TooLong what) told e s = cc
-bad_line text input out (Rejected line law) told e s = cc
-bad_line text input out Usage told e s = cc
-bad_line text input out NoMemory told e s = cc
-bad_line text input out ReadFault told e s = cc
-bad_line text input out WriteFault told e s = cc
+bad_line text input out (BadLine line why) reported e s = record { line = line; why = why; refused = when_reported (λ t. read_fleeting t ≡ Err (reading.BadLine line why)) input.before text reported s.refused }
+bad_line text input out (BadEvent number why) reported e s = cc
+bad_line text input out (TooLong what) reported e s = cc
+bad_line text input out (Rejected line law) reported e s = cc
+bad_line text input out Usage reported e s = cc
+bad_line text input out NoMemory reported e s = cc
+bad_line text input out ReadFault reported e s = cc
+bad_line text input out WriteFault reported e s = cc
 
 -- with two loggers, with one log or with marks
 refused_in : (twin : Bool) (marks : Option ℕ) (schedule : Schedule) (played : List Event) (event : Event) (others : List Event) (why : EventWhy) (trace : List (traces_of twin marks).Turn)
@@ -76,7 +76,7 @@ past_packets schedule old new w =
     past_in schedule.twin schedule.marks schedule r.played.events r.event r.others r.moment r.played.trace r.played.split r.legal r.played.within r.over
 
 spelled_at : (input out : Stream) (text : List ℕ) (Is : Schedule → List ℕ → Type 0) → input.before ≡ Some text → Reports input out Is → Spells text (λ schedule. Wrote out.before out.after (Is schedule))
-spelled_at input out text Is told r = when_told (λ t. Spells t (λ schedule. Wrote out.before out.after (Is schedule))) input.before text told r.written
+spelled_at input out text Is reported r = when_reported (λ t. Spells t (λ schedule. Wrote out.before out.after (Is schedule))) input.before text reported r.written
 
 -- the one end of that status, for any goal that it answers
 only_event : {P : Type 0} (end : RunEnd) → code_of end ≡ 7 → ((number : ℕ) (why : EventWhy) → end ≡ BadEvent number why → P) → P
@@ -90,26 +90,26 @@ only_event ReadFault e f = cc
 only_event WriteFault e f = cc
 
 has_bad_event : (text : List ℕ) (input out : Stream) (number : ℕ) (why : EventWhy) → input.before ≡ Some text → Reports input out (λ schedule. ReportsTill schedule number why) → HasBadEvent text
-has_bad_event text input out number why told s =
-    let t : Spells text (λ schedule. Wrote out.before out.after (ReportsTill schedule number why)) = spelled_at input out text (λ schedule. ReportsTill schedule number why) told s in
+has_bad_event text input out number why reported s =
+    let t : Spells text (λ schedule. Wrote out.before out.after (ReportsTill schedule number why)) = spelled_at input out text (λ schedule. ReportsTill schedule number why) reported s in
     record { schedule = t.0; spelled = t.1; refused = refused_event t.0 number why out.before out.after t.2 }
 
 pub bad_event : (text : List ℕ) (input out : Stream) (end : RunEnd) → input.before ≡ Some text → code_of end ≡ 7 → RunStops input out end → HasBadEvent text
-bad_event text input out end told e s = only_event end e (λ number why is. has_bad_event text input out number why told (subst (RunStops input out) is s))
+bad_event text input out end reported e s = only_event end e (λ number why is. has_bad_event text input out number why reported (subst (RunStops input out) is s))
 
 pub past_limit : (text : List ℕ) (input out : Stream) (end : RunEnd) → input.before ≡ Some text → code_of end ≡ 8 → RunStops input out end → IsPastLimit text
-past_limit text input out (TooLong Text) told e s = by_text limits.Text (when_told (λ t. read_fleeting t ≡ Err (reading.TooLong limits.Text)) input.before text told s.refused)
-past_limit text input out (TooLong Events) told e s = by_text limits.Events (when_told (λ t. read_fleeting t ≡ Err (reading.TooLong limits.Events)) input.before text told s.refused)
-past_limit text input out (TooLong Packets) told e s =
-    let t : Spells text (λ schedule. Wrote out.before out.after (ReportsToLimit schedule)) = spelled_at input out text ReportsToLimit told s in
+past_limit text input out (TooLong Text) reported e s = by_text limits.Text (when_reported (λ t. read_fleeting t ≡ Err (reading.TooLong limits.Text)) input.before text reported s.refused)
+past_limit text input out (TooLong Events) reported e s = by_text limits.Events (when_reported (λ t. read_fleeting t ≡ Err (reading.TooLong limits.Events)) input.before text reported s.refused)
+past_limit text input out (TooLong Packets) reported e s =
+    let t : Spells text (λ schedule. Wrote out.before out.after (ReportsToLimit schedule)) = spelled_at input out text ReportsToLimit reported s in
     by_packets t.0 t.1 (past_packets t.0 out.before out.after t.2)
-past_limit text input out (BadLine line why) told e s = cc
-past_limit text input out (Rejected line law) told e s = cc
-past_limit text input out (BadEvent number why) told e s = cc
-past_limit text input out Usage told e s = cc
-past_limit text input out NoMemory told e s = cc
-past_limit text input out ReadFault told e s = cc
-past_limit text input out WriteFault told e s = cc
+past_limit text input out (BadLine line why) reported e s = cc
+past_limit text input out (Rejected line law) reported e s = cc
+past_limit text input out (BadEvent number why) reported e s = cc
+past_limit text input out Usage reported e s = cc
+past_limit text input out NoMemory reported e s = cc
+past_limit text input out ReadFault reported e s = cc
+past_limit text input out WriteFault reported e s = cc
 
 ok_or_err : {A B : Type 0} (a : A) (b : B) → Ok a ≡ Err b → ⊥
 ok_or_err a b e = cc
@@ -148,8 +148,8 @@ codes_of input out (Rejected line law) s = absurd s
 
 -- a run that is done
 pub in_order : (text : List ℕ) (input out : Stream) → input.before ≡ Some text → Reports input out ReportsAll → IsInOrder text
-in_order text input out told r =
-    let t : Spells text (λ schedule. Wrote out.before out.after (ReportsAll schedule)) = spelled_at input out text ReportsAll told r in
+in_order text input out reported r =
+    let t : Spells text (λ schedule. Wrote out.before out.after (ReportsAll schedule)) = spelled_at input out text ReportsAll reported r in
     record { schedule = t.0; spelled = t.1; whole = in_whole t.0 t.2.0 t.2.2 }
   where
     in_whole : (schedule : Schedule) (written : List ℕ) → ReportsAll schedule written → AllHappen schedule.twin schedule.marks schedule
@@ -176,9 +176,9 @@ no_write_fault input out (BadEvent number why) s still e = cc
 no_write_fault input out (TooLong what) s still e = cc
 no_write_fault input out (Rejected line law) s still e = cc
 
-pub is_told_code : (input out : Stream) (end : RunEnd) (err : Stream) (code : ℕ) → RunStops input out end → TellsEnd end err code → is_run_code code ≡ true
-is_told_code input out end err code s (inl t) = ap is_run_code t.0 ∙ codes_of input out end s
-is_told_code input out end err code s (inr t) = ap is_run_code t.0
+pub is_reported_code : (input out : Stream) (end : RunEnd) (err : Stream) (code : ℕ) → RunStops input out end → ReportsEnd end err code → is_run_code code ≡ true
+is_reported_code input out end err code s (inl t) = ap is_run_code t.0 ∙ codes_of input out end s
+is_reported_code input out end err code s (inr t) = ap is_run_code t.0
 
 module _
     (whole_or_refused : (schedule : Schedule) → AllHappen schedule.twin schedule.marks schedule → OneIsRefused schedule.twin schedule.marks schedule → ⊥)
@@ -243,10 +243,10 @@ module _
   -- where no count of faults rises, the status is that of the end
   pub settles_end : (input out : Stream) (end : RunEnd) → input.before ≡ Some text → code ≡ code_of end → RunStops input out end
       → (HasFailed input → ⊥) → (HasFailed out → ⊥) → IsSettled text code
-  settles_end input out end told is s input_still out_still =
+  settles_end input out end reported is s input_still out_still =
       settles (ap is_run_code is ∙ codes_of input out end s) (λ e. no_read_fault input out end s input_still (sym is ∙ e))
       (λ e. no_write_fault input out end s out_still (sym is ∙ e))
       (λ e. absurd (never_zero end (sym is ∙ e)))
-      (λ e. bad_line text input out end told (sym is ∙ e) s)
-      (λ e. bad_event text input out end told (sym is ∙ e) s)
-      (λ e. past_limit text input out end told (sym is ∙ e) s)
+      (λ e. bad_line text input out end reported (sym is ∙ e) s)
+      (λ e. bad_event text input out end reported (sym is ∙ e) s)
+      (λ e. past_limit text input out end reported (sym is ∙ e) s)

@@ -17,19 +17,19 @@ use Rattle.ft_model.specs.declared.schedule.Schedule.{Schedule}
 use Rattle.ft_model.specs.declared.way.Way.{Way}
 use Rattle.twin_laws.specs.Twin.{Request, Between, bytes_of, from_other_logger, asked, forwarded_as}
 use Rattle.twin_laws.specs.Twin.Between.{Forward, Got}
-use Rattle.twin_laws.specs.Twin.Comes.{Tells}
+use Rattle.twin_laws.specs.Twin.Comes.{Reports}
 use Rattle.twin_laws.specs.TwinLegal.{IsTwinLegalFor, twin_start, twin_events_of, event_of, twin_packets_sent, bytes_of_parcel}
 use Rattle.twin_laws.specs.TwinReport.{way_of_parcel, way_of_between, between_words, parcel_line, parcel_lines, parcel_count, twin_event_lines, twin_report}
 use Rattle.twin_laws.specs.TwinWorld.{Parcel, TwinWorld, TwinMoment, TwinJoint, twin_after}
 use Rattle.twin_laws.specs.TwinWorld.Parcel.{Outside, Inside}
 use Rattle.twin_laws.specs.SentBytes.{IsWritten, IsRead}
-use Rattle.twin_laws.proofs.OneTurn.{twin_goes_on}
+use Rattle.twin_laws.proofs.OneTurn.{twin_proceeds}
 use Rattle.schedule_network.specs.AtNumber.{at_number}
 use Rattle.schedule_network.specs.StoredPackets.{Carried}
 use Rattle.net_schedule.specs.SentPackets.{run_grammar, KeepsAllParcels, parcels_of}
 use Rattle.net_schedule.specs.Refinement.{Kept}
 use Rattle.net_schedule.specs.TwinStep.{TwinStandsAfter}
-use Rattle.schedule_text.specs.Bytes.{content_by, told_words, forwarded_words}
+use Rattle.schedule_text.specs.Bytes.{content_by, reported_words, forwarded_words}
 use Rattle.schedule_text.proofs.Contents.{content_of_packet}
 use Rattle.replay_run.specs.PacketLines.{line_of, stored_lines}
 use Rattle.replay_run.proofs.Following.{packet_is_read}
@@ -48,11 +48,11 @@ as_many schedule events trace l = ap length (sym l.events_are) ∙ as_many_event
 all_counted : {State : Type 0} (service : Machine State) (start : TwinWorld) (trace : List TwinMoment) → start.parcels ≡ [] → TwinJoint service start trace → length (twin_after start trace).parcels ≡ parcel_count trace
 all_counted service start [] none j = ap length none
 all_counted service start (moment ∷ earlier) none j =
-    ap length (twin_goes_on service moment.event (twin_after start earlier) moment.world moment.sent j.1)
+    ap length (twin_proceeds service moment.event (twin_after start earlier) moment.world moment.sent j.1)
     ∙ length-append (twin_after start earlier).parcels moment.sent ∙ ap (λ n. n + length moment.sent) (all_counted service start earlier none j.0)
 
 -- a forwarded message is read as what it is
-said_by : (number : ℕ) (request : Request) (read : Result Message BadMsg) → forwarded_as number (asked request.bytes read) ≡ Tells (Forward number request)
+said_by : (number : ℕ) (request : Request) (read : Result Message BadMsg) → forwarded_as number (asked request.bytes read) ≡ Reports (Forward number request)
     → forwarded_words number read ≡ Some (between_words (Forward number request))
 said_by number request (Ok message) e =
     let same : message ≡ request.message = cc in
@@ -61,8 +61,8 @@ said_by number request (Err why) e = absurd (cc)
 
 between_is_read : (grammar : Grammar) (between : Between) → IsRead grammar between → content_by grammar (way_of_between between) (bytes_of between) ≡ Some (between_words between)
 between_is_read grammar (Forward number request) r =
-    ap (told_words grammar) r.0 ∙ said_by number request (messages.reading_by grammar request.bytes) (sym (ap (from_other_logger grammar) r.0) ∙ r.1)
-between_is_read grammar (Got number) r = ap (told_words grammar) r.0
+    ap (reported_words grammar) r.0 ∙ said_by number request (messages.reading_by grammar request.bytes) (sym (ap (from_other_logger grammar) r.0) ∙ r.1)
+between_is_read grammar (Got number) r = ap (reported_words grammar) r.0
 
 -- what is stored of a parcel is read as the parcel
 abbrev words_of : Parcel → List (List ℕ)

@@ -9,14 +9,14 @@ ghost use Rattle.replay_run.specs.Traces.{traces, Traced, IsLegalTraced, report_
 
 use ft_model::laws::{legal_traces_are_determined, schedules_have_one_outcome};
 use mark_laws::{
-    legal_marked_traces_are_determined, marked_reports_tell_their_traces,
+    legal_marked_traces_are_determined, marked_reports_determine_their_traces,
     marked_schedules_are_masked, marked_schedules_have_one_outcome, marked_traces_cut_the_bytes,
     marked_traces_fence_no_server, marked_traces_reset_no_logged_connection, marks_are_true,
 };
 use replay_check::joint_traces_are_safe;
 use sample_servers::AnyService;
 use twin_laws::{
-    legal_traces_are_masked, legal_twin_traces_are_determined, twin_reports_tell_their_traces,
+    legal_traces_are_masked, legal_twin_traces_are_determined, twin_reports_determine_their_traces,
     twin_schedules_have_one_outcome,
 };
 
@@ -60,11 +60,11 @@ pub fn schedules_have_one_trace()
 
 /// A report determines its schedule and its trace, with one log, with two loggers or with marks: two legal traces have the same report only where their
 /// schedules are the same, and the traces too.
-pub fn reports_tell_schedule_and_trace()
+pub fn reports_determine_schedule_and_trace()
     ensures { (traced other : Traced) → FitsSchedule traced.schedule → FitsSchedule other.schedule → IsLegalTraced traced → IsLegalTraced other
         → report_of traced ≡ report_of other → traced ≡ other }
 {
     schedules_have_one_trace();
-    twin_reports_tell_their_traces::<AnyService>();
-    marked_reports_tell_their_traces::<AnyService>();
+    twin_reports_determine_their_traces::<AnyService>();
+    marked_reports_determine_their_traces::<AnyService>();
 }

@@ -23,7 +23,7 @@ pub trait Tool {
 struct Ends {
     read: u32,
     wrote: u32,
-    told: u32,
+    reported: u32,
     last: u32,
 }
 
@@ -34,14 +34,14 @@ pub(crate) fn play<T: Tool>(
     text: &[u8],
     said: &mut Said,
 ) -> Result<(), NoMemory> {
-    let [name, spoken, read, wrote, told, last] = order else {
+    let [name, spoken, read, wrote, reported, last] = order else {
         said.line("no such order");
         return Ok(());
     };
     let ends = Ends {
         read: number(read),
         wrote: number(wrote),
-        told: number(told),
+        reported: number(reported),
         last: number(last),
     };
     let words = words_of(alloc, spoken)?;
@@ -68,10 +68,10 @@ fn play_words<T: Tool>(
 ) -> Result<(), NoMemory> {
     let read_fails = failing(alloc, ends.read)?;
     let write_fails = failing(alloc, ends.wrote)?;
-    let told_fails = failing(alloc, ends.told)?;
+    let reported_fails = failing(alloc, ends.reported)?;
     let mut input = MemSource::new(text.to_vec(alloc)?, read_fails);
     let mut report = MemSink::new(alloc, write_fails);
-    let mut err = MemSink::new(alloc, told_fails);
+    let mut err = MemSink::new(alloc, reported_fails);
     let status = T::replay(alloc, words, &mut input, &mut report, &mut err);
     write!(said, "{name}: status {status}\n");
     said.add(err.written());

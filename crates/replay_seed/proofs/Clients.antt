@@ -20,7 +20,7 @@ use Rattle.ft_model.proofs.Lists.{all_map, all_append, same_key}
 use Rattle.ft_model.proofs.FaithfulKept.{received_same, clients_fit}
 use Rattle.ft_model.proofs.Happened.{Happened, holds_after}
 use Rattle.ft_model.proofs.Letters.{length_letters}
-use Rattle.ft_model.proofs.Happened.Happened.{log_heard, client_heard, client_moved, server_turned, server_booted, server_down}
+use Rattle.ft_model.proofs.Happened.Happened.{log_received, client_received, client_moved, server_turned, server_booted, server_down}
 use Rattle.replay_seed.specs.Generated.{server_address, client_line, client_lines, after_draws}
 use Rattle.ft_io.proofs.Choices.{holds_if}
 use Rattle.ft_model.proofs.FaithfulOver.{client_there}
@@ -82,8 +82,8 @@ pub record ClientInvariant (c : Client) : Type 0 where
   pub total : length c.script ≡ total_of c.key
   pub within : IsWithin c
 
-heard_keeps : (c : Client) (segment : Segment) → ClientInvariant c → ClientInvariant (received c segment)
-heard_keeps c segment k =
+received_keeps : (c : Client) (segment : Segment) → ClientInvariant c → ClientInvariant (received c segment)
+received_keeps c segment k =
     let s = received_same c segment in
     record { total = ap length s.script ∙ (k.total ∙ ap total_of (sym s.key)); within = received_within c segment k.within }
 
@@ -121,10 +121,10 @@ all_change start before after key change e keeps name k = record {
 }
 
 all_step : {State : Type 0} (service : Machine State) (start before : World) (sent : List Packet) (after : World) → AllKeep start before → Happened service before sent after → AllKeep start after
-all_step service start before sent after k (log_heard message under t e) = all_stay start before after (ap (λ w. w.clients) e) k
-all_step service start before sent after k (client_heard segment under t e) =
+all_step service start before sent after k (log_received message under t e) = all_stay start before after (ap (λ w. w.clients) e) k
+all_step service start before sent after k (client_received segment under t e) =
     all_change start before after (destination_of segment) (λ c. received c segment) (ap (λ w. w.clients) e)
-    (λ c name h. heard_keeps c segment h) (λ c name. (received_same c segment).key) k
+    (λ c name h. received_keeps c segment h) (λ c name. (received_same c segment).key) k
 all_step service start before sent after k (client_moved number m) =
     let name : m.later.key ≡ m.client.key = ap (λ c. c.key) m.move.after_is in
     let mover : ClientInvariant m.client = client_there ClientInvariant before.clients number m.client k.keeps m.is_there in

@@ -86,9 +86,9 @@ module _ (asked : Asked) (n : ℕ) (w w' : Kept AnyService) (p : Progress) (s : 
   drawn_on : (x : Goes) → AreDrawn (after_draws asked.seed asked.clients) (start_of_run asked) (x.moment ∷ s.trace)
   drawn_on x = (s.drawn, event_is x ∙ ap (λ (d : Drawn). d.event) is_drawn)
 
-  pub goes_on : (answer : StepOut) → Steps any_machine (schedule_of asked.seed asked.clients []) (events_of s.trace) s.trace event answer w'
+  pub proceeds : (answer : StepOut) → Steps any_machine (schedule_of asked.seed asked.clients []) (events_of s.trace) s.trace event answer w'
       → StandsBehind asked (n + 1) w' (counted p dice answer event)
-  goes_on answer t =
+  proceeds answer t =
       let x : Goes = t.extends in
       let v : World = world_of asked s.trace in
       let long : length x.moment.world.packets ≡ length v.packets + length x.moment.sent = ap length x.grew ∙ length-append v.packets x.moment.sent in

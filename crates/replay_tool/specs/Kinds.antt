@@ -2,7 +2,7 @@
 use Rattle.std.specs.Prelude.{◌≡◌, ◌⊎◌, ℕ, true, Err}
 use Rattle.replay_seed.specs.declared.asked.Asked.{Asked}
 use Rattle.replay_check.specs.Ends.{is_seed_code}
-use Rattle.replay_check.specs.Outcome.{HasEnded, IsTold}
+use Rattle.replay_check.specs.Outcome.{HasEnded, IsReported}
 use Rattle.replay_tool.specs.SeedRuns.{SeedDoes}
 use Rattle.replay_check.specs.Stream.{Stream, IsQuiet}
 use Rattle.replay_check.specs.declared.status.RunEnd.TheVariants.{Usage}
@@ -16,6 +16,6 @@ pub record HasSeeded (asked : Asked) (input out err : Stream) (code : ℕ) : Typ
 
 -- For other arguments: the end is `Usage`, nothing was read, and nothing was written to out
 pub record IsUsage (input out err : Stream) (code : ℕ) : Type 0 where
-  pub told : IsTold (Err Usage) err code
+  pub reported : IsReported (Err Usage) err code
   pub unread : input.Untouched
   pub unwritten : out.Untouched

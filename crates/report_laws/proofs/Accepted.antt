@@ -175,18 +175,18 @@ server_text kind at text line is spelled =
 module _ {State : Type 0} (service : ℕ → Machine State) where
   -- one of the closing lines
   due_on : (due : List (List ℕ)) (line text : List ℕ) (next : Position) → IsReport service (text ++ concat due) → ClosingLine due (Some line) (Continues next) → Holds service next (text ++ line)
-  due_on [] line text next told d = on_fails next law.End d
-  due_on (first ∷ more) line text next told d =
+  due_on [] line text next reported d = on_fails next law.End d
+  due_on (first ∷ more) line text next reported d =
       tested (bytes_eq line first) (Continues next ≡ Continues (InClosing more)) (Continues next ≡ Rejects law.End) (Holds service next (text ++ line))
       (λ same e. let is : line ≡ first = (bytes_eq-Decides line first).0 same in
       let whole : text ++ concat (first ∷ more) ≡ (text ++ line) ++ concat more =
       sym (append_assoc text first (concat more)) ∙ ap (λ l. (text ++ l) ++ concat more) (sym is) in
-      subst (λ s. Holds service s (text ++ line)) (sym (on_same next (InClosing more) e)) (subst (IsReport service) whole told))
+      subst (λ s. Holds service s (text ++ line)) (sym (on_same next (InClosing more) e)) (subst (IsReport service) whole reported))
       (λ same e. on_fails next law.End e) d
 
   due_ends : (due : List (List ℕ)) (text : List ℕ) → IsReport service (text ++ concat due) → ClosingLine due None Accepts → IsReport service text
-  due_ends [] text told d = subst (IsReport service) (append-nil text) told
-  due_ends (first ∷ more) text told d = ends_fails law.End d
+  due_ends [] text reported d = subst (IsReport service) (append-nil text) reported
+  due_ends (first ∷ more) text reported d = ends_fails law.End d
 
   -- a legal trace's turns and its closing lines are its report
   closes : (schedule : Schedule) (trace : List Moment) (text : List ℕ) → Legal service schedule trace → IsWithinLimits schedule → packet_count trace ≤ 200000
@@ -343,10 +343,10 @@ module _ {State : Type 0} (service : ℕ → Machine State) where
   text_ends (InClosing due) text h e = due_ends due text h e
 
   -- the lines read so far and the accepted ones after them are a report
-  accepted_told : (position : Position) (lines : List (List ℕ)) (text : List ℕ) → Holds service position text → AcceptedFrom service position lines → IsReport service (text ++ concat lines)
-  accepted_told position [] text h e = subst (IsReport service) (sym (append-nil text)) (text_ends position text h e)
-  accepted_told position (line ∷ lines) text h e =
-      subst (IsReport service) (append_assoc text line (concat lines)) (accepted_told e.0 lines (text ++ line) (line_on position line text e.0 h e.1) e.2)
+  accepted_reported : (position : Position) (lines : List (List ℕ)) (text : List ℕ) → Holds service position text → AcceptedFrom service position lines → IsReport service (text ++ concat lines)
+  accepted_reported position [] text h e = subst (IsReport service) (sym (append-nil text)) (text_ends position text h e)
+  accepted_reported position (line ∷ lines) text h e =
+      subst (IsReport service) (append_assoc text line (concat lines)) (accepted_reported e.0 lines (text ++ line) (line_on position line text e.0 h e.1) e.2)
 
-  pub read_told : (text : List ℕ) → AcceptedFrom service AtStart (lines_in text) → IsReport service text
-  read_told text e = subst (IsReport service) (lines_join text) (accepted_told AtStart (lines_in text) [] refl e)
+  pub read_reported : (text : List ℕ) → AcceptedFrom service AtStart (lines_in text) → IsReport service text
+  read_reported text e = subst (IsReport service) (lines_join text) (accepted_reported AtStart (lines_in text) [] refl e)

@@ -7,7 +7,7 @@ use Rattle.std.specs.Int.{w64, to_be_bytes, from_be_bytes}
 use Rattle.server_trait.specs.Service.{Served, Machine, silent}
 use Rattle.sample_servers.specs.Stream.{waiting, and_then, each_byte}
 use Rattle.sample_servers.specs.declared.line.Piece.{Piece}
-use Rattle.sample_servers.specs.declared.line.Piece.TheVariants.{Ends, GoesOn}
+use Rattle.sample_servers.specs.declared.line.Piece.TheVariants.{Ends, Proceeds}
 
 -- the number of finished lines, and the bytes of the unfinished one
 pub record LineState : Type 0 where
@@ -99,4 +99,4 @@ pub record StaysOpen (state : LineState) (bytes : List ℕ) : Type 0 where
 -- where the unfinished line ends in the bytes that follow it
 abbrev pub Splits : LineState → List ℕ → Piece → Type 0
 Splits state bytes (Ends len used) = EndsAt state bytes len used
-Splits state bytes GoesOn = StaysOpen state bytes
+Splits state bytes Proceeds = StaysOpen state bytes

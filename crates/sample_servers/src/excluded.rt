@@ -9,7 +9,7 @@ use server_trait::{Next, Service};
 use std::alloc::Global;
 
 /// Meter closes at the empty chunk, which is the end of input: the clause `closed` of `Service::take`.
-fn empty_chunk_goes_on(out: &mut Vec<u8>) -> Result<Next, NoMemory>
+fn empty_chunk_proceeds(out: &mut Vec<u8>) -> Result<Next, NoMemory>
     ensures { IfOk result (λ next. next ≡ Next.Close) }
 {
     let mut meter = Meter;

@@ -40,7 +40,7 @@ enum Piece {
     /// The line ends with `len` more bytes, and `used` bytes of the chunk are used up.
     Ends { len: usize, used: usize },
     /// The line doesn't end in them.
-    GoesOn,
+    Proceeds,
 }
 
 impl Line {
@@ -103,7 +103,7 @@ impl Line {
                 len: room,
                 used: room,
             },
-            None => Piece::GoesOn,
+            None => Piece::Proceeds,
         }
     }
 

@@ -1,4 +1,4 @@
--- A mark that a store keeps is told to its journal as Data without bytes: the journal then acknowledges what the log does.
+-- A mark that a store keeps is told to its full log as Data without bytes: the full log then acknowledges what the log does.
 use Rattle.std.proofs.Common.{◌≡◌, ◌∙◌, sym, ap, ap₂, subst, refl, ℕ, ◌<◌, ◌≤◌, ◌==◌, Bool, true, false, true≢false, nat_lt, max, find, Option, Some, None, option_map, List, [], ◌∷◌, map, arith, if◌then◌else◌}
 use Rattle.std.proofs.lemmas.Bool.{or_parts}
 use Rattle.std.specs.Option.{option_map_or}
@@ -10,16 +10,16 @@ use Rattle.seq_arith.specs.Mark.{Mark, MarkBody, MarkMessage}
 use Rattle.seq_arith.specs.Mark.MarkBody.{MarkMsg, MarkedMsg, AskMsg, HeldMsg}
 use Rattle.seq_arith.specs.Message.Body.{DataMsg}
 use Rattle.logger_wire.specs.MarkValue.{body_of}
-use Rattle.logger_wire.specs.declared.marks.mark_msg.Mark.{Mark as ToldMark}
-use Rattle.logger_wire.specs.declared.marks.mark_msg.MarkBody.{MarkBody as Told}
-use Rattle.logger_wire.specs.declared.marks.mark_msg.MarkBody.TheVariants as told
+use Rattle.logger_wire.specs.declared.marks.mark_msg.Mark.{Mark as ReportedMark}
+use Rattle.logger_wire.specs.declared.marks.mark_msg.MarkBody.{MarkBody as Reported}
+use Rattle.logger_wire.specs.declared.marks.mark_msg.MarkBody.TheVariants as reported
 use Rattle.ft_model.specs.Log.{Log, Entry, entry_of, with_entry, with_part, log_after}
 use Rattle.ft_model.specs.Keys.{AreDistinct, has_key}
 use Rattle.ft_model.proofs.Lists.{none_is_some, some_is, same_key}
 use Rattle.mark_laws.specs.MarkedLog.{MarkedLog, acknowledging, after_mark, keeps, may_follow, with_mark, with_mark_body}
 use Rattle.mark_laws.proofs.Steps.{only_acknowledges, same_changes}
 use Rattle.mark_store.specs.Refinement.{IsLeftOfMarked}
-use Rattle.schedule_network.specs.Journal.{StoreAndJournal, AreAt, HasDistinctKeys, no_bytes}
+use Rattle.schedule_network.specs.FullLog.{StoreAndLog, AreAt, HasDistinctKeys, no_bytes}
 
 not_below : (m n : ℕ) → m == n ≡ true → nat_lt m n ≡ false
 not_below m n e = grind (arith, e)
@@ -114,7 +114,7 @@ acked : (o : Option Entry) (units : ℕ) → acked_of o ≡ Some units → (e : 
 acked None units h = none_is_some units h
 acked (Some e) units h = (e, refl, some_is e.acknowledged units h)
 
--- Where the store then acknowledges as much as the mark says is made, the journal gets the Data
+-- Where the store then acknowledges as much as the mark says is made, the full log gets the Data
 pub enters : (l : MarkedLog) (boot : ℕ) (key : Key) (m : Mark) (offset units : ℕ) → HasDistinctKeys l → acked_of (entry_of key (after_mark l (marking boot key m)).log) ≡ Some units
     → m.made ≤ units → log_after l.log (record { boot = boot; body = DataMsg (no_bytes key offset m.made) }) ≡ (after_mark l (marking boot key m)).log
 enters l boot key m offset units d h low = by_taken (taken l boot key m)
@@ -151,11 +151,11 @@ abbrev pub is_mark : MarkBody → Bool
 is_mark (MarkMsg key m) = true
 is_mark _ = false
 
-pub other_body : (b : Told) → ((key : Key) (mark : ToldMark) → b ≡ told.Mark key mark → ⊥) → is_mark (body_of b) ≡ false
-other_body (told.Mark key mark) other = absurd (other key mark refl)
-other_body (told.Marked key reads) other = refl
-other_body (told.Ask key) other = refl
-other_body (told.Held key mark) other = refl
+pub other_body : (b : Reported) → ((key : Key) (mark : ReportedMark) → b ≡ reported.Mark key mark → ⊥) → is_mark (body_of b) ≡ false
+other_body (reported.Mark key mark) other = absurd (other key mark refl)
+other_body (reported.Marked key reads) other = refl
+other_body (reported.Ask key) other = refl
+other_body (reported.Held key mark) other = refl
 
 others_stay : (l : MarkedLog) (body : MarkBody) → is_mark body ≡ false → with_mark_body body l ≡ l
 others_stay l (MarkMsg key m) e = absurd (true≢false e)
@@ -167,26 +167,26 @@ pub stays : (l : MarkedLog) (message : MarkMessage) → is_mark message.body ≡
 unfolding after_mark
 stays l message e = holds_if (λ (x : MarkedLog). x ≡ l) (message.boot == l.log.boot) (with_mark_body message.body l) l (λ t. others_stay l message.body e) (λ t. refl)
 
--- So, once the store has taken a message about marks, the journal is the log's after it
-pub entered : (both after : StoreAndJournal) (l : MarkedLog) (message : MarkMessage) (boot : ℕ) (key : Key) (m : Mark) (offset units : ℕ) → message ≡ marking boot key m
-    → IsLeftOfMarked both.store (after_mark l message) → both.journal ≡ l.log → HasDistinctKeys l → acked_of (entry_of key (after_mark l message).log) ≡ Some units → m.made ≤ units
-    → after ≡ record both { journal = log_after both.journal (record { boot = boot; body = DataMsg (no_bytes key offset m.made) }) } → AreAt after (after_mark l message)
-entered both after l message boot key m offset units is left journal d acked_is low e =
-    let told : acked_of (entry_of key (after_mark l (marking boot key m)).log) ≡ Some units = subst (λ x. acked_of (entry_of key (after_mark l x).log) ≡ Some units) is acked_is in
+-- So, once the store has taken a message about marks, the full log is the log's after it
+pub entered : (both after : StoreAndLog) (l : MarkedLog) (message : MarkMessage) (boot : ℕ) (key : Key) (m : Mark) (offset units : ℕ) → message ≡ marking boot key m
+    → IsLeftOfMarked both.store (after_mark l message) → both.full_log ≡ l.log → HasDistinctKeys l → acked_of (entry_of key (after_mark l message).log) ≡ Some units → m.made ≤ units
+    → after ≡ record both { full_log = log_after both.full_log (record { boot = boot; body = DataMsg (no_bytes key offset m.made) }) } → AreAt after (after_mark l message)
+entered both after l message boot key m offset units is left full_log d acked_is low e =
+    let reported : acked_of (entry_of key (after_mark l (marking boot key m)).log) ≡ Some units = subst (λ x. acked_of (entry_of key (after_mark l x).log) ≡ Some units) is acked_is in
     subst (λ x. AreAt x (after_mark l message)) (sym e)
     (record {
       left = left;
-      journal = ap (λ x. log_after x (record { boot = boot; body = DataMsg (no_bytes key offset m.made) })) journal
-          ∙ (enters l boot key m offset units d told low ∙ ap (λ x. (after_mark l x).log) (sym is));
+      full_log = ap (λ x. log_after x (record { boot = boot; body = DataMsg (no_bytes key offset m.made) })) full_log
+          ∙ (enters l boot key m offset units d reported low ∙ ap (λ x. (after_mark l x).log) (sym is));
     })
 
-pub not_entered : (both : StoreAndJournal) (l : MarkedLog) (message : MarkMessage) (boot : ℕ) (key : Key) (m : Mark) (o : Option ℕ) → message ≡ marking boot key m
-    → IsLeftOfMarked both.store (after_mark l message) → both.journal ≡ l.log → acked_of (entry_of key (after_mark l message).log) ≡ o → IfSome o (λ units. units < m.made)
+pub not_entered : (both : StoreAndLog) (l : MarkedLog) (message : MarkMessage) (boot : ℕ) (key : Key) (m : Mark) (o : Option ℕ) → message ≡ marking boot key m
+    → IsLeftOfMarked both.store (after_mark l message) → both.full_log ≡ l.log → acked_of (entry_of key (after_mark l message).log) ≡ o → IfSome o (λ units. units < m.made)
     → AreAt both (after_mark l message)
-not_entered both l message boot key m o is left journal acked_is less =
-    let told : acked_of (entry_of key (after_mark l (marking boot key m)).log) ≡ o = subst (λ x. acked_of (entry_of key (after_mark l x).log) ≡ o) is acked_is in
-    record { left = left; journal = journal ∙ (enters_not l boot key m o told less ∙ ap (λ x. (after_mark l x).log) (sym is)) }
+not_entered both l message boot key m o is left full_log acked_is less =
+    let reported : acked_of (entry_of key (after_mark l (marking boot key m)).log) ≡ o = subst (λ x. acked_of (entry_of key (after_mark l x).log) ≡ o) is acked_is in
+    record { left = left; full_log = full_log ∙ (enters_not l boot key m o reported less ∙ ap (λ x. (after_mark l x).log) (sym is)) }
 
-pub unmarked : (both : StoreAndJournal) (l : MarkedLog) (message : MarkMessage) → is_mark message.body ≡ false → IsLeftOfMarked both.store (after_mark l message) → both.journal ≡ l.log
+pub unmarked : (both : StoreAndLog) (l : MarkedLog) (message : MarkMessage) → is_mark message.body ≡ false → IsLeftOfMarked both.store (after_mark l message) → both.full_log ≡ l.log
     → AreAt both (after_mark l message)
-unmarked both l message none left journal = record { left = left; journal = journal ∙ ap (λ (x : MarkedLog). x.log) (sym (stays l message none)) }
+unmarked both l message none left full_log = record { left = left; full_log = full_log ∙ ap (λ (x : MarkedLog). x.log) (sym (stays l message none)) }

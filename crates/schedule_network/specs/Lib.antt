@@ -1,5 +1,5 @@
 pub mod AtNumber
 pub mod StoredPackets
 pub mod Loggers
-pub mod Journal
+pub mod FullLog
 pub mod Logs

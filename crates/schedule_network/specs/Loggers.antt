@@ -41,28 +41,28 @@ with_datagrams part kept sent =
     record { ways = kept.ways ++ map (λ d. way_out part d.0) sent; bytes = kept.bytes ++ map (λ d. d.1) sent }
 
 -- bytes arrive at one of them from a side. One that has stopped does nothing
-abbrev pub head_hears : Side → List ℕ → Loggers × Carried → Loggers × Carried
-head_hears from bytes h =
+abbrev pub head_receives : Side → List ℕ → Loggers × Carried → Loggers × Carried
+head_receives from bytes h =
     if h.0.tail.alone then h
     else (let d = kept_does from bytes h.0.head in (record h.0 { head = d.next }, with_datagrams parts.Head h.1 d.sent))
 
-abbrev pub tail_hears : Side → List ℕ → Loggers × Carried → Loggers × Carried
-tail_hears from bytes h =
+abbrev pub tail_receives : Side → List ℕ → Loggers × Carried → Loggers × Carried
+tail_receives from bytes h =
     if h.0.head.alone then h
     else (let d = kept_does from bytes h.0.tail in (record h.0 { tail = d.next }, with_datagrams parts.Tail h.1 d.sent))
 
 -- what the server sends reaches the head, or the tail once the head has stopped
-abbrev pub front_hears : List ℕ → Loggers × Carried → Loggers × Carried
-front_hears bytes h = if h.0.tail.alone then tail_hears sides.Server bytes h else head_hears sides.Server bytes h
+abbrev pub front_receives : List ℕ → Loggers × Carried → Loggers × Carried
+front_receives bytes h = if h.0.tail.alone then tail_receives sides.Server bytes h else head_receives sides.Server bytes h
 
 -- bytes of this direction arrive at the logger to which it leads, if it leads to one
-abbrev pub pair_hears : Way → List ℕ → Loggers × Carried → Loggers × Carried
-pair_hears ServerToLogger bytes h = front_hears bytes h
-pair_hears HeadToTail bytes h = tail_hears sides.Other bytes h
-pair_hears TailToHead bytes h = head_hears sides.Other bytes h
-pair_hears (ClientToServer number) bytes h = h
-pair_hears (ServerToClient number) bytes h = h
-pair_hears LoggerToServer bytes h = h
+abbrev pub pair_receives : Way → List ℕ → Loggers × Carried → Loggers × Carried
+pair_receives ServerToLogger bytes h = front_receives bytes h
+pair_receives HeadToTail bytes h = tail_receives sides.Other bytes h
+pair_receives TailToHead bytes h = head_receives sides.Other bytes h
+pair_receives (ClientToServer number) bytes h = h
+pair_receives (ServerToClient number) bytes h = h
+pair_receives LoggerToServer bytes h = h
 
 -- the logger that a schedule means by a number
 abbrev pub part_numbered : ℕ → Option Part

@@ -12,20 +12,20 @@ use Rattle.logger_store.specs.StoreState.{answer_bytes_by}
 use Rattle.mark_laws.specs.MarkedLog.{nothing_logged}
 use Rattle.mark_store.specs.Refinement.{TrimmedAtMarks}
 use Rattle.schedule_network.specs.StoredPackets.{Carried, with_answer}
-use Rattle.schedule_network.specs.Loggers.{Loggers, serving_log, pair_hears}
-use Rattle.schedule_network.specs.Journal.{StoreAndJournal, AreAt, MarksHear}
+use Rattle.schedule_network.specs.Loggers.{Loggers, serving_log, pair_receives}
+use Rattle.schedule_network.specs.FullLog.{StoreAndLog, AreAt, MarksReceive}
 use Rattle.schedule_network.specs.declared.logs.Logs.{Logs}
 use Rattle.schedule_network.specs.declared.logs.Logs.TheVariants.{One, Two, Marked}
 
--- a store with marks and its journal, with nothing logged
+-- a store with marks and its full log, with nothing logged
 abbrev pub IsNewMarked : Logs → Type 0
-IsNewMarked logs = (kept : StoreAndJournal) × (logs ≡ Marked kept) × AreAt kept nothing_logged
+IsNewMarked logs = (kept : StoreAndLog) × (logs ≡ Marked kept) × AreAt kept nothing_logged
 
--- the log that serves: with marks, the journal
+-- the log that serves: with marks, the full log
 abbrev pub log_in : Logs → Log
 log_in (One log) = log
 log_in (Two loggers) = serving_log loggers
-log_in (Marked kept) = kept.journal
+log_in (Marked kept) = kept.full_log
 
 -- what keeps the log: one logger, a head and a tail, or a store with marks
 pub data Keepers : Type 0 where
@@ -44,13 +44,13 @@ log_reads grammar (Err bad) h = h
 log_reads grammar (Ok message) h = (log_after h.0 message, with_answer h.1 (answer_bytes_by grammar (answer_to h.0 message)))
 
 -- bytes of this direction arrive at the only logger, if it leads there
-abbrev pub log_hears : Grammar → Way → List ℕ → Log × Carried → Log × Carried
-log_hears grammar ServerToLogger bytes h = log_reads grammar (reading_by grammar bytes) h
-log_hears grammar (ClientToServer number) bytes h = h
-log_hears grammar (ServerToClient number) bytes h = h
-log_hears grammar LoggerToServer bytes h = h
-log_hears grammar HeadToTail bytes h = h
-log_hears grammar TailToHead bytes h = h
+abbrev pub log_receives : Grammar → Way → List ℕ → Log × Carried → Log × Carried
+log_receives grammar ServerToLogger bytes h = log_reads grammar (reading_by grammar bytes) h
+log_receives grammar (ClientToServer number) bytes h = h
+log_receives grammar (ServerToClient number) bytes h = h
+log_receives grammar LoggerToServer bytes h = h
+log_receives grammar HeadToTail bytes h = h
+log_receives grammar TailToHead bytes h = h
 
 -- what keeps the log, and the packets
 abbrev pub both : Logs → Carried → Logs × Carried
@@ -58,8 +58,8 @@ both logs packets = (logs, packets)
 
 -- bytes of this direction arrive at what keeps the log: `now` is its state after that, and `sent` are the stored packets with what it sends. Two loggers know
 -- their grammar
-abbrev pub HearsIn : Grammar → Logs → Way → List ℕ → Carried → Logs → Carried → Type 0
-HearsIn grammar (One log) way bytes packets now sent = let h = log_hears grammar way bytes (log, packets) in both now sent ≡ both (One h.0) h.1
-HearsIn grammar (Two loggers) way bytes packets now sent = let h = pair_hears way bytes (loggers, packets) in both now sent ≡ both (Two h.0) h.1
-HearsIn grammar (Marked kept) way bytes packets now sent =
-    (after : StoreAndJournal) × (now ≡ Marked after) × MarksHear grammar way bytes (kept, packets) (after, sent)
+abbrev pub ReceivesIn : Grammar → Logs → Way → List ℕ → Carried → Logs → Carried → Type 0
+ReceivesIn grammar (One log) way bytes packets now sent = let h = log_receives grammar way bytes (log, packets) in both now sent ≡ both (One h.0) h.1
+ReceivesIn grammar (Two loggers) way bytes packets now sent = let h = pair_receives way bytes (loggers, packets) in both now sent ≡ both (Two h.0) h.1
+ReceivesIn grammar (Marked kept) way bytes packets now sent =
+    (after : StoreAndLog) × (now ≡ Marked after) × MarksReceive grammar way bytes (kept, packets) (after, sent)

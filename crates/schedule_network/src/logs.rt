@@ -3,7 +3,7 @@
 ghost use Rattle.std.specs.Prelude.{◌≡◌, true, false, OnOk, IfOk};
 ghost use Rattle.ft_model.specs.Log.{empty_log};
 ghost use Rattle.schedule_network.specs.Loggers.{new_loggers};
-ghost use Rattle.schedule_network.specs.Logs.{IsNewMarked, log_in, HearsIn};
+ghost use Rattle.schedule_network.specs.Logs.{IsNewMarked, log_in, ReceivesIn};
 ghost use Rattle.schedule_network.specs.declared.logs.Logs.TheVariants.{One as OneLog, Two as TwoLogs};
 
 use crate::marked::MarkedLog;
@@ -43,7 +43,7 @@ impl Logs {
         Ok(Logs::One(OnlyLogger::new(alloc)))
     }
 
-    /// Returns the log that serves; with marks, the journal.
+    /// Returns the log that serves; with marks, the full log.
     pub fn log(&self) -> &LogStore
         ensures { result.now ≡ log_in self.now }
     {
@@ -63,7 +63,7 @@ impl Logs {
         bytes: &[u8],
         packets: &mut Packets,
     ) -> Result<(), NoMemory>
-        ensures { OnOk result (HearsIn grammar self.old way bytes.now packets.old self.new packets.new) }
+        ensures { OnOk result (ReceivesIn grammar self.old way bytes.now packets.old self.new packets.new) }
     {
         match self {
             Logs::One(only) => only.receive(alloc, grammar, way, bytes, packets),

@@ -12,7 +12,7 @@ ghost use Rattle.logger_wire.specs.MarkValue.{message_of as mark_message_of};
 ghost use Rattle.ft_model.specs.declared.way.Way.TheVariants.{ServerToLogger};
 ghost use Rattle.mark_laws.specs.MarkedLog.{after_mark};
 ghost use Rattle.mark_store.specs.Bytes.{after_bytes_by};
-ghost use Rattle.schedule_network.specs.Journal.{AreAt, MarksHear, Notes, no_bytes};
+ghost use Rattle.schedule_network.specs.FullLog.{AreAt, MarksReceive, Notes, no_bytes};
 
 use crate::answers::keep_answer;
 use crate::packets::Packets;
@@ -39,23 +39,23 @@ fn acknowledged(store: &MarkStore, key: Key) -> Option<u32>
     None
 }
 
-/// A logger that keeps marks. Its store drops what lies below a mark, so it also has a journal: the log with all bytes and lengths. In contracts it is both.
+/// A logger that keeps marks. Its store drops what lies below a mark, so it also has a full log: the log with all bytes and lengths. In contracts it is both.
 #[derive(Drop)]
 pub struct MarkedLog {
     store: MarkStore,
-    /// The journal. It gets each log message that the store gets; and for each mark that the store keeps, a Data without bytes that acknowledges the output
+    /// The full log. It gets each log message that the store gets; and for each mark that the store keeps, a Data without bytes that acknowledges the output
     /// made.
-    journal: LogStore,
+    full_log: LogStore,
     /// Its answer in a turn.
     answer: MsgOut,
 }
 
 impl Model for MarkedLog {
-    ghost use Rattle.schedule_network.specs.Journal.{StoreAndJournal};
+    ghost use Rattle.schedule_network.specs.FullLog.{StoreAndLog};
 
-    ghost Value = { StoreAndJournal };
+    ghost Value = { StoreAndLog };
 
-    ghost view = { λ l. record { store = l.store; journal = l.journal } };
+    ghost view = { λ l. record { store = l.store; full_log = l.full_log } };
 }
 
 impl MarkedLog {
@@ -65,19 +65,19 @@ impl MarkedLog {
     {
         MarkedLog {
             store: MarkStore::new(alloc),
-            journal: LogStore::new(alloc),
+            full_log: LogStore::new(alloc),
             answer: MsgOut::new(),
         }
     }
 
-    /// Returns the journal.
+    /// Returns the full log.
     pub fn log(&self) -> &LogStore
-        ensures { result.now ≡ self.now.journal }
+        ensures { result.now ≡ self.now.full_log }
     {
-        &self.journal
+        &self.full_log
     }
 
-    /// Enters in the journal that this much output of a key is acknowledged.
+    /// Enters in the full log that this much output of a key is acknowledged.
     #[tactic(auto, unfolding(seq_arith::specs::MessageGrammar::has_length, seq_arith::specs::MessageGrammar::is_sound_by))]
     fn acknowledge(
         &mut self,
@@ -91,7 +91,7 @@ impl MarkedLog {
         requires length { length ≤ longest_stream }
         requires made { made ≤ longest_stream }
         ensures { OnOk result (self.new ≡ record self.old {
-          journal = log_after self.old.journal (record {
+          full_log = log_after self.old.full_log (record {
             boot = boot;
             body = DataMsg (no_bytes key length made);
           });
@@ -105,11 +105,11 @@ impl MarkedLog {
             more: false,
             bytes: &[],
         });
-        self.journal
+        self.full_log
             .answer(alloc, &Msg { boot, body }, &mut self.answer)
     }
 
-    /// Enters in the journal the mark of a message that the store has read, if the store's acknowledged output of its key is at least the output made.
+    /// Enters in the full log the mark of a message that the store has read, if the store's acknowledged output of its key is at least the output made.
     pub(crate) fn enter(&mut self, alloc: Global, message: &MarkMsg<'_>) -> Result<(), NoMemory>
         requires { IsSpellable (mark_message_of message.now) }
         ensures { OnOk result (Notes (λ l. after_mark l (mark_message_of message.now)) self.old self.new) }
@@ -125,13 +125,13 @@ impl MarkedLog {
         }
     }
 
-    /// Enters in the journal the message in these bytes, which the store has read.
+    /// Enters in the full log the message in these bytes, which the store has read.
     fn note(&mut self, alloc: Global, grammar: Grammar, bytes: &[u8]) -> Result<(), NoMemory>
         ensures { OnOk result (Notes (after_bytes_by grammar bytes.now) self.old self.new) }
     {
         if let Ok(message) = read_msg_by(grammar, bytes) {
             return self
-                .journal
+                .full_log
                 .answer_by(alloc, grammar, &message, &mut self.answer);
         }
         match read_mark(bytes) {
@@ -148,7 +148,7 @@ impl MarkedLog {
         bytes: &[u8],
         packets: &mut Packets,
     ) -> Result<(), NoMemory>
-        ensures { OnOk result (MarksHear grammar ServerToLogger bytes.now (self.old, packets.old) (self.new, packets.new)) }
+        ensures { OnOk result (MarksReceive grammar ServerToLogger bytes.now (self.old, packets.old) (self.new, packets.new)) }
     {
         self.store
             .answer_by(alloc, grammar, bytes, &mut self.answer)?;
@@ -165,7 +165,7 @@ impl MarkedLog {
         bytes: &[u8],
         packets: &mut Packets,
     ) -> Result<(), NoMemory>
-        ensures { OnOk result (MarksHear grammar way bytes.now (self.old, packets.old) (self.new, packets.new)) }
+        ensures { OnOk result (MarksReceive grammar way bytes.now (self.old, packets.old) (self.new, packets.new)) }
     {
         if matches!(way, Way::ServerToLogger) {
             return self.read(alloc, grammar, bytes, packets);

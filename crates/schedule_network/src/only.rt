@@ -4,7 +4,7 @@ ghost use Rattle.std.specs.Prelude.{◌≡◌, Ok, OnOk};
 ghost use Rattle.seq_arith.specs.MessageGrammar.{reading_by};
 ghost use Rattle.ft_model.specs.Log.{empty_log};
 ghost use Rattle.logger_wire.specs.Value.{message_of, IsSendableBy};
-ghost use Rattle.schedule_network.specs.Logs.{log_reads, log_hears};
+ghost use Rattle.schedule_network.specs.Logs.{log_reads, log_receives};
 
 use crate::answers::keep_answer;
 use crate::packets::Packets;
@@ -90,7 +90,7 @@ impl OnlyLogger {
         bytes: &[u8],
         packets: &mut Packets,
     ) -> Result<(), NoMemory>
-        ensures { OnOk result ((self.new, packets.new) ≡ log_hears grammar way bytes.now (self.old, packets.old)) }
+        ensures { OnOk result ((self.new, packets.new) ≡ log_receives grammar way bytes.now (self.old, packets.old)) }
     {
         if matches!(way, Way::ServerToLogger) {
             return self.read(alloc, grammar, bytes, packets);

@@ -1,7 +1,7 @@
 //! The two loggers of a world.
 
 ghost use Rattle.std.specs.Prelude.{◌≡◌, ◌||◌, not, false, IfOk, OnOk};
-ghost use Rattle.schedule_network.specs.Loggers.{new_loggers, serving_log, stopped, head_hears, tail_hears, front_hears, pair_hears};
+ghost use Rattle.schedule_network.specs.Loggers.{new_loggers, serving_log, stopped, head_receives, tail_receives, front_receives, pair_receives};
 
 use crate::answers::keep_datagrams;
 use crate::packets::Packets;
@@ -86,14 +86,14 @@ impl LogPair {
     }
 
     /// Passes bytes to the head, and stores what it sends.
-    fn head_hears(
+    fn head_receives(
         &mut self,
         alloc: Global,
         from: Side,
         bytes: &[u8],
         packets: &mut Packets,
     ) -> Result<(), NoMemory>
-        ensures { OnOk result ((self.new, packets.new) ≡ head_hears from bytes.now (self.old, packets.old)) }
+        ensures { OnOk result ((self.new, packets.new) ≡ head_receives from bytes.now (self.old, packets.old)) }
     {
         if !self.head_runs() {
             return Ok(());
@@ -103,14 +103,14 @@ impl LogPair {
     }
 
     /// Passes bytes to the tail, and stores what it sends.
-    fn tail_hears(
+    fn tail_receives(
         &mut self,
         alloc: Global,
         from: Side,
         bytes: &[u8],
         packets: &mut Packets,
     ) -> Result<(), NoMemory>
-        ensures { OnOk result ((self.new, packets.new) ≡ tail_hears from bytes.now (self.old, packets.old)) }
+        ensures { OnOk result ((self.new, packets.new) ≡ tail_receives from bytes.now (self.old, packets.old)) }
     {
         if !self.tail_runs() {
             return Ok(());
@@ -120,18 +120,18 @@ impl LogPair {
     }
 
     /// Passes bytes of the server to the head, or to the tail once the head has stopped.
-    fn front_hears(
+    fn front_receives(
         &mut self,
         alloc: Global,
         bytes: &[u8],
         packets: &mut Packets,
     ) -> Result<(), NoMemory>
-        ensures { OnOk result ((self.new, packets.new) ≡ front_hears bytes.now (self.old, packets.old)) }
+        ensures { OnOk result ((self.new, packets.new) ≡ front_receives bytes.now (self.old, packets.old)) }
     {
         if self.head_runs() {
-            return self.head_hears(alloc, Side::Server, bytes, packets);
+            return self.head_receives(alloc, Side::Server, bytes, packets);
         }
-        self.tail_hears(alloc, Side::Server, bytes, packets)
+        self.tail_receives(alloc, Side::Server, bytes, packets)
     }
 
     /// Passes bytes of this direction to the logger to which it leads, and stores what that logger sends.
@@ -142,12 +142,12 @@ impl LogPair {
         bytes: &[u8],
         packets: &mut Packets,
     ) -> Result<(), NoMemory>
-        ensures { OnOk result ((self.new, packets.new) ≡ pair_hears way bytes.now (self.old, packets.old)) }
+        ensures { OnOk result ((self.new, packets.new) ≡ pair_receives way bytes.now (self.old, packets.old)) }
     {
         match way {
-            Way::ServerToLogger => self.front_hears(alloc, bytes, packets),
-            Way::HeadToTail => self.tail_hears(alloc, Side::Other, bytes, packets),
-            Way::TailToHead => self.head_hears(alloc, Side::Other, bytes, packets),
+            Way::ServerToLogger => self.front_receives(alloc, bytes, packets),
+            Way::HeadToTail => self.tail_receives(alloc, Side::Other, bytes, packets),
+            Way::TailToHead => self.head_receives(alloc, Side::Other, bytes, packets),
             Way::ClientToServer(_) | Way::ServerToClient(_) | Way::LoggerToServer => Ok(()),
         }
     }

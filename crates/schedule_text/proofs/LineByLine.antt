@@ -10,10 +10,10 @@ use Rattle.schedule_text.specs.declared.end.ScheduleEnd.{ScheduleEnd}
 use Rattle.schedule_text.specs.declared.end.ScheduleEnd.TheVariants.{NoMemory, BadLine, TooLong}
 
 -- an accepted line leaves the lines after it
-pub goes_on : (o : Objection) (n : ℕ) (draft later : Draft) (rest line behind : List ℕ) → lines_of rest ≡ line ∷ lines_of behind → after_line o n draft line ≡ Ok later
+pub proceeds : (o : Objection) (n : ℕ) (draft later : Draft) (rest line behind : List ℕ) → lines_of rest ≡ line ∷ lines_of behind → after_line o n draft line ≡ Ok later
     → read_lines o n draft (lines_of rest) ≡ read_lines o (n + 1) later (lines_of behind)
 unfolding read_lines
-goes_on o n draft later rest line behind e f = rw (e, f) refl
+proceeds o n draft later rest line behind e f = rw (e, f) refl
 
 -- a refused line decides
 pub stops : (o : Objection) (n : ℕ) (draft : Draft) (rest line behind : List ℕ) (whole : Result Schedule Refusal) (e : ScheduleEnd) → lines_of rest ≡ line ∷ lines_of behind

@@ -45,17 +45,17 @@ abbrev pub forwarded_words : ℕ → Result Message BadMsg → Option (List (Lis
 forwarded_words number (Ok message) = Some (forward_words number message)
 forwarded_words number (Err why) = None
 
-abbrev pub told_words : Grammar → Result TwinDatagram BadTwin → Option (List (List ℕ))
-told_words grammar (Ok (datagrams.Forward number message)) = forwarded_words number (messages.reading_by grammar message)
-told_words grammar (Ok (datagrams.Got number)) = Some (got_words number)
-told_words grammar _ = None
+abbrev pub reported_words : Grammar → Result TwinDatagram BadTwin → Option (List (List ℕ))
+reported_words grammar (Ok (datagrams.Forward number message)) = forwarded_words number (messages.reading_by grammar message)
+reported_words grammar (Ok (datagrams.Got number)) = Some (got_words number)
+reported_words grammar _ = None
 
 -- the words of a packet's line after its direction
 abbrev pub content_by : Grammar → Way → List ℕ → Option (List (List ℕ))
 content_by grammar ServerToLogger bytes = logged_words (messages.reading_by grammar bytes) (marks.reading bytes)
 content_by grammar LoggerToServer bytes = logged_words (messages.reading_by grammar bytes) (marks.reading bytes)
-content_by grammar HeadToTail bytes = told_words grammar (twins.reading_by grammar bytes)
-content_by grammar TailToHead bytes = told_words grammar (twins.reading_by grammar bytes)
+content_by grammar HeadToTail bytes = reported_words grammar (twins.reading_by grammar bytes)
+content_by grammar TailToHead bytes = reported_words grammar (twins.reading_by grammar bytes)
 content_by grammar way bytes = option_map content_words (packet_by grammar way bytes)
 
 -- .. in a run of the plain grammar

@@ -7,7 +7,7 @@ ghost use Rattle.seq_arith.specs.TwinGrammar.{reading_by};
 ghost use Rattle.seq_arith.specs.Value.{said};
 ghost use Rattle.ft_model.specs.Texts.{spaced, way_text};
 ghost use Rattle.ft_model.specs.Report.{segment_words, line_of_packet};
-ghost use Rattle.schedule_text.specs.Bytes.{content_by, content_in, logged_words, told_words};
+ghost use Rattle.schedule_text.specs.Bytes.{content_by, content_in, logged_words, reported_words};
 
 use crate::line_out::LineOut;
 use crate::line_text::{
@@ -36,7 +36,7 @@ fn is_packet_by(grammar: Grammar, way: Way, bytes: &[u8]) -> bool
     match way {
         Way::ClientToServer(_) | Way::ServerToClient(_) => read_packet(bytes).is_ok(),
         Way::ServerToLogger | Way::LoggerToServer => is_logged(grammar, bytes),
-        Way::HeadToTail | Way::TailToHead => is_told(grammar, bytes),
+        Way::HeadToTail | Way::TailToHead => is_reported(grammar, bytes),
     }
 }
 
@@ -48,8 +48,8 @@ fn is_logged(grammar: Grammar, bytes: &[u8]) -> bool
 }
 
 /// Returns whether bytes are a datagram that one of two loggers sends the other.
-fn is_told(grammar: Grammar, bytes: &[u8]) -> bool
-    ensures { IsTrue result ↔ IsSome (told_words grammar (reading_by grammar bytes.now)) }
+fn is_reported(grammar: Grammar, bytes: &[u8]) -> bool
+    ensures { IsTrue result ↔ IsSome (reported_words grammar (reading_by grammar bytes.now)) }
 {
     match read_twin_by(grammar, bytes) {
         Ok(TwinMsg::Forward { message, .. }) => read_msg_by(grammar, message).is_ok(),
@@ -133,7 +133,7 @@ fn put_bytes(grammar: Grammar, way: Way, bytes: &[u8], line: &mut LineOut) -> Re
             put_segment(&packet.head, packet.payload, line)
         }
         Way::ServerToLogger | Way::LoggerToServer => put_logged(grammar, bytes, line),
-        Way::HeadToTail | Way::TailToHead => put_told(grammar, bytes, line),
+        Way::HeadToTail | Way::TailToHead => put_reported(grammar, bytes, line),
     }
 }
 
@@ -155,9 +155,9 @@ fn put_logged(grammar: Grammar, bytes: &[u8], line: &mut LineOut) -> Result<(), 
 
 /// Appends the words of a datagram between two loggers: a message with its number, or the number alone.
 #[tactic(auto, using(crate::proofs::LineLemmas::line_rules), unfolding(ft_model::specs::Report::forward_words, ft_model::specs::Report::got_words))]
-fn put_told(grammar: Grammar, bytes: &[u8], line: &mut LineOut) -> Result<(), NoMemory>
-    requires { IsSome (told_words grammar (reading_by grammar bytes.now)) }
-    ensures ok { OnOk result (IfSome (told_words grammar (reading_by grammar bytes.now)) (λ words. line.new.words ≡ line.old.words ++ spaced words)) }
+fn put_reported(grammar: Grammar, bytes: &[u8], line: &mut LineOut) -> Result<(), NoMemory>
+    requires { IsSome (reported_words grammar (reading_by grammar bytes.now)) }
+    ensures ok { OnOk result (IfSome (reported_words grammar (reading_by grammar bytes.now)) (λ words. line.new.words ≡ line.old.words ++ spaced words)) }
     ensures before { line.new.before ≡ line.old.before }
 {
     match read_twin_by(grammar, bytes) {

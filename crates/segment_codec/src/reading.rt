@@ -175,7 +175,7 @@ fn option_length(behind: &[u8]) -> usize
 /// The segment size found so far, or the one that this option gives.
 #[tactic(auto, using(crate::proofs::Options::mss_found, crate::proofs::Options::mss_passed))]
 fn mss_after(found: Option<u16>, kind: u8, behind: &[u8], passed: usize) -> Option<u16>
-    requires goes_on { kind ≢ 0 }
+    requires proceeds { kind ≢ 0 }
     requires within { passed ≤ length behind.now }
     requires counted { passed ≡ option_rest kind behind.now }
     ensures { option_or result (mss_in 0 (drop passed behind.now)) ≡ option_or found (mss_in 0 (kind ∷ behind.now)) }
@@ -194,7 +194,7 @@ fn timestamps_after(
     behind: &[u8],
     passed: usize,
 ) -> Option<Timestamps>
-    requires goes_on { kind ≢ 0 }
+    requires proceeds { kind ≢ 0 }
     requires within { passed ≤ length behind.now }
     requires counted { passed ≡ option_rest kind behind.now }
     ensures { option_or result (timestamps_in 0 (drop passed behind.now)) ≡ option_or found (timestamps_in 0 (kind ∷ behind.now)) }

@@ -16,21 +16,21 @@ use Rattle.seq_arith.specs.TwinDatagram.{TwinDatagram}
 use Rattle.seq_arith.specs.TwinGrammar as twins
 use Rattle.seq_arith.proofs.Damaged.{flip_is_seen}
 use Rattle.seq_arith.proofs.Passing.{same_from}
-use Rattle.seq_arith.proofs.Refused.{refused, accepted, goes_on}
+use Rattle.seq_arith.proofs.Refused.{refused, accepted, proceeds}
 
 -- what is refused last is a field: a string that comes so far holds its checksum
 pub sum_held : {V E : Type 0} (length_test : Bool) (length_why sum_why : E) (bytes : List ℕ) (last : Result V E)
     → IsOk (if length_test then Err length_why else (if not (nat_eq (checksum bytes) 0) then Err sum_why else last)) → checksum bytes ≡ 0
 sum_held length_test length_why sum_why bytes last ok =
     let sum_test : Bool = not (nat_eq (checksum bytes) 0)
-    in same_from _ _ (goes_on sum_test sum_why last (goes_on length_test length_why (if sum_test then Err sum_why else last) ok).1).0
+    in same_from _ _ (proceeds sum_test sum_why last (proceeds length_test length_why (if sum_test then Err sum_why else last) ok).1).0
 
 -- what comes to the kind was refused by none of the first three tests
 pub kind_comes : {V E : Type 0} (short magic version : Bool) (short_why magic_why version_why : E) (last : Result V E)
     → IsOk (if short then Err short_why else (if magic then Err magic_why else (if version then Err version_why else last))) → IsOk last
 kind_comes {V = V} {E = E} short magic version short_why magic_why version_why last ok =
     let third : Result V E = if version then Err version_why else last
-    in (goes_on version version_why last (goes_on magic magic_why third (goes_on short short_why (if magic then Err magic_why else third) ok).1).1).1
+    in (proceeds version version_why last (proceeds magic magic_why third (proceeds short short_why (if magic then Err magic_why else third) ok).1).1).1
 
 twin_sum_if : (grammar : Grammar) (kind : Option TwinKind) (bytes : List ℕ) → IsOk (twins.reading_if grammar kind bytes) → checksum bytes ≡ 0
 unfolding twins.reading_of

@@ -91,9 +91,9 @@ record IsWholeMessage (bytes : List ℕ) : Type 0 where
   sum : checksum bytes ≡ 0
 
 -- no refusal came first
-pub goes_on : {E V : Type 0} (b : Bool) (e : E) (later : Result V E) → IsOk (if b then Err e else later) → (b ≡ false) × IsOk later
-goes_on true e later ok = absurd (cc)
-goes_on false e later ok = (refl, ok)
+pub proceeds : {E V : Type 0} (b : Bool) (e : E) (later : Result V E) → IsOk (if b then Err e else later) → (b ≡ false) × IsOk later
+proceeds true e later ok = absurd (cc)
+proceeds false e later ok = (refl, ok)
 
 whole_of : (grammar : Grammar) (kind : Kind) (bytes : List ℕ) → IsOk (reading_of grammar kind bytes) → (word_at bytes 4 ≡ length bytes) × (checksum bytes ≡ 0)
 unfolding reading_of
@@ -101,10 +101,10 @@ whole_of grammar kind bytes ok =
     let length_test : Bool = not (nat_eq (word_at bytes 4) (length bytes)) || not (has_length kind (length bytes))
     in let sum_test : Bool = not (nat_eq (checksum bytes) 0)
     in let last : Result Message BadMsg = if not (is_sound_in grammar kind bytes) then Err bad.Field else Ok (message_in kind bytes)
-    in let sized : (length_test ≡ false) × IsOk (if sum_test then Err bad.Sum else last) = goes_on length_test bad.Length (if sum_test then Err bad.Sum else last) ok
+    in let sized : (length_test ≡ false) × IsOk (if sum_test then Err bad.Sum else last) = proceeds length_test bad.Length (if sum_test then Err bad.Sum else last) ok
     in (
       same_from _ _ (left_false (not (nat_eq (word_at bytes 4) (length bytes))) (not (has_length kind (length bytes))) sized.0),
-      same_from _ _ (goes_on sum_test bad.Sum last sized.1).0,
+      same_from _ _ (proceeds sum_test bad.Sum last sized.1).0,
     )
 
 whole_if : (grammar : Grammar) (kind : Option Kind) (bytes : List ℕ) → IsOk (reading_if grammar kind bytes) → (word_at bytes 4 ≡ length bytes) × (checksum bytes ≡ 0)
@@ -120,9 +120,9 @@ whole_message grammar bytes ok =
     in let last : Result Message BadMsg = reading_if grammar (kind_numbered (slice_index bytes 3)) bytes
     in let third : Result Message BadMsg = if other then Err bad.Version else last
     in let second : Result Message BadMsg = if magic then Err bad.Magic else third
-    in let long : (short ≡ false) × IsOk second = goes_on short bad.Short second ok
+    in let long : (short ≡ false) × IsOk second = proceeds short bad.Short second ok
     in let rest : (word_at bytes 4 ≡ length bytes) × (checksum bytes ≡ 0) =
-    whole_if grammar (kind_numbered (slice_index bytes 3)) bytes (goes_on other bad.Version last (goes_on magic bad.Magic third long.1).1).1
+    whole_if grammar (kind_numbered (slice_index bytes 3)) bytes (proceeds other bad.Version last (proceeds magic bad.Magic third long.1).1).1
     in record { long = ltb-false (length bytes) 16 long.0; counted = rest.0; sum = rest.1 }
 
 pub flipped_is_refused_by : (grammar : Grammar) (bit : ℕ) (bytes : List ℕ) (message : Message) → reading_by grammar bytes ≡ Ok message → bit < 8 * length bytes → IsErr (reading_by grammar (flipped bit bytes))
@@ -166,7 +166,7 @@ no_grammar_reads_the_other grammar other bytes message is apart =
     in let another : Bool = not (nat_eq (slice_index bytes 2) (version grammar))
     in let last : Result Message BadMsg = reading_if grammar (kind_numbered (slice_index bytes 3)) bytes
     in let third : Result Message BadMsg = if another then Err bad.Version else last
-    in let long : (short ≡ false) × IsOk (if magic then Err bad.Magic else third) = goes_on short bad.Short (if magic then Err bad.Magic else third) ok
-    in let ours : (magic ≡ false) × IsOk third = goes_on magic bad.Magic third long.1
-    in let same : slice_index bytes 2 ≡ version grammar = same_from _ _ (goes_on another bad.Version last ours.1).0
+    in let long : (short ≡ false) × IsOk (if magic then Err bad.Magic else third) = proceeds short bad.Short (if magic then Err bad.Magic else third) ok
+    in let ours : (magic ≡ false) × IsOk third = proceeds magic bad.Magic third long.1
+    in let same : slice_index bytes 2 ≡ version grammar = same_from _ _ (proceeds another bad.Version last ours.1).0
     in rw (long.0, ours.0, other_version grammar other apart (slice_index bytes 2) same) refl

@@ -63,8 +63,8 @@ body_same started after greeting (PartMsg key offset bytes) s = newest_same s (p
 body_same started after greeting (LensMsg key first lens) s = newest_same s (lens_on after key first lens s.newest)
 body_same started after greeting _ s = tt
 
-pub heard_same : {S : Type 0} (started : ℕ → S) (after : S → List ℕ → Served S) (greeting : S → List ℕ) (message : Message) (s : FetchingState S) → IfSome (after_answer started after greeting message s) (IsSame s)
-heard_same started after greeting message s = go (message.boot == s.boot)
+pub received_same : {S : Type 0} (started : ℕ → S) (after : S → List ℕ → Served S) (greeting : S → List ℕ) (message : Message) (s : FetchingState S) → IfSome (after_answer started after greeting message s) (IsSame s)
+received_same started after greeting message s = go (message.boot == s.boot)
   where
     go : (b : Bool) → IfSome (if b then answered started after greeting s message.body else None) (IsSame s)
     go true = body_same started after greeting message.body s
@@ -72,7 +72,7 @@ heard_same started after greeting message s = go (message.boot == s.boot)
 
 pub answer_same : {S : Type 0} (started : ℕ → S) (after : S → List ℕ → Served S) (greeting : S → List ℕ) (message : Message) (s t : FetchingState S) (fits : Bool)
     → MatchOption (after_answer started after greeting message s) ((fits ≡ false) × (t ≡ s)) (λ x. (fits ≡ true) × (t ≡ x)) → IsSame s t
-answer_same {S} started after greeting message s t fits = go (after_answer started after greeting message s) (heard_same started after greeting message s)
+answer_same {S} started after greeting message s t fits = go (after_answer started after greeting message s) (received_same started after greeting message s)
   where
     go : (o : Option (FetchingState S)) → IfSome o (IsSame s) → MatchOption o ((fits ≡ false) × (t ≡ s)) (λ x. (fits ≡ true) × (t ≡ x)) → IsSame s t
     go None h (unfit, is) = subst (IsSame s) (sym is) (record { boot = refl; kind = refl; so_many = refl; marks = refl })

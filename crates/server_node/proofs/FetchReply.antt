@@ -28,9 +28,9 @@ module _ (node : Node) (fetched : List Fetched) (segment : Segment) where
       ∙ ap (λ x. map (λ h. To_client (holding_segment node.server h)) (option_to_list x)) (ap (λ k. option_map (λ f. f.head) (live_entry k fetched)) from ∙ sym is))
 
   -- nor does a client without an entry that isn't done
-  pub none_held : (key : Key) (told : List Wire) → (is_for node.server segment && not (has_rst segment)) ≡ true → source_of segment ≡ key
-      → None ≡ option_map (λ f. f.head) (live_entry key fetched) → ArePut (grammar_of node.profile) (held node fetched segment) told told
-  none_held key told e from is = subst (λ ps. ArePut (grammar_of node.profile) ps told told) (sym (held_by key None e from is)) (record { wires = sym (append-nil told); spelled = tt })
+  pub none_held : (key : Key) (reported : List Wire) → (is_for node.server segment && not (has_rst segment)) ≡ true → source_of segment ≡ key
+      → None ≡ option_map (λ f. f.head) (live_entry key fetched) → ArePut (grammar_of node.profile) (held node fetched segment) reported reported
+  none_held key reported e from is = subst (λ ps. ArePut (grammar_of node.profile) ps reported reported) (sym (held_by key None e from is)) (record { wires = sym (append-nil reported); spelled = tt })
 
   -- another is told where its stream stands
   pub one_held : (key : Key) (head : EntryHead) (answer : Segment) (old new : List Wire) → (is_for node.server segment && not (has_rst segment)) ≡ true → source_of segment ≡ key

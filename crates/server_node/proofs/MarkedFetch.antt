@@ -11,8 +11,8 @@ use Rattle.seq_arith.specs.Message.{Message, Body}
 use Rattle.seq_arith.specs.Message.Body.{HelloMsg, EntryMsg, PartMsg, LensMsg}
 use Rattle.seq_arith.specs.Packet.{Segment}
 use Rattle.server_trait.specs.Service.{Machine, Served, AreBytes}
-use Rattle.ft_model.specs.Connection.{told_by}
-use Rattle.ft_model.specs.Lawful.{AreSound, StageTurn, Rests, Fetches, Continues as PlainContinues, asked, held, count_told, summary_count, fence, fetched_then, restored_count}
+use Rattle.ft_model.specs.Connection.{reported_by}
+use Rattle.ft_model.specs.Lawful.{AreSound, StageTurn, Rests, Fetches, Continues as PlainContinues, asked, held, count_reported, summary_count, fence, fetched_then, restored_count}
 use Rattle.ft_model.specs.Node.{Node, Place, Input, Stage as law_stage, place_at}
 use Rattle.ft_model.specs.Node.Input.{Packet_comes, Message_comes, Tick_comes}
 use Rattle.ft_model.specs.Node.Stage.{Asking, Fetching, Serving, Fenced}
@@ -29,7 +29,7 @@ use Rattle.mark_laws.specs.Restart.{FetchedSoFar, next_question, fetched_on, mar
 use Rattle.mark_laws.specs.MarkedNode.{Marker, MarkedNode, RestsMarked, InputTurn, UnlessFenced, PlainTurn, MarkTurn, Continues, FetchesMarked, so_far, outgoing, marking_fetched, marking_then}
 use Rattle.reincarnate.specs.Marking.{uses, used_if, awaits, marks_after, marked_on}
 use Rattle.reincarnate.specs.Progress.{EntryState}
-use Rattle.reincarnate.specs.Questions.{FetchingState, begun_fetching, after_answer, noted, log_heard, with_marked, held_heard, mark_heard, any_heard}
+use Rattle.reincarnate.specs.Questions.{FetchingState, begun_fetching, after_answer, noted, log_received, with_marked, held_received, mark_received, any_received}
 use Rattle.reincarnate.specs.Refinement.{StandsSoFar, AnyLeads}
 use Rattle.reincarnate.specs.declared.marks.Marks.{Marks}
 use Rattle.reincarnate.specs.declared.marks.Marks.TheVariants as marks
@@ -47,9 +47,9 @@ use Rattle.node_serving.specs.SentBytes.{ArePut}
 use Rattle.node_serving.specs.Identity.{node_of, grammar_in}
 use Rattle.server_node.specs.MarkedNumbers.{AllNumberedAt, entries_of}
 use Rattle.server_node.specs.MarkedRestart.{AllBytes, AreRestoredMarked}
-use Rattle.server_node.specs.MarkedTurns.{FetchingStandsMarked, MarkedStands, GoesOn, TurnsOn, FetchesOn, IsFairTo, IsSoundStart, IsUnfencedMarked, Notes, marking_noted, BodyBytes, IsPartBytes, SendsQuestion, input_of_any}
+use Rattle.server_node.specs.MarkedTurns.{FetchingStandsMarked, MarkedStands, Proceeds, TurnsOn, FetchesOn, IsFairTo, IsSoundStart, IsUnfencedMarked, Notes, marking_noted, BodyBytes, IsPartBytes, SendsQuestion, input_of_any}
 use Rattle.node_serving.specs.Markers.{node_at}
-use Rattle.server_node.proofs.FetchAnswer.{IsSame, heard_same, then_distinct}
+use Rattle.server_node.proofs.FetchAnswer.{IsSame, received_same, then_distinct}
 use Rattle.server_node.proofs.Staged.{stand_again}
 
 -- what is fetched stays bytes
@@ -115,15 +115,15 @@ awaiting_uses marks.Unused a = absurd (true≢false (sym a))
 awaiting_uses marks.Used a = refl
 awaiting_uses marks.Awaited a = refl
 
-log_kept : {S : Type 0} (started : ℕ → S) (after : S → List ℕ → Served S) (greeting : S → List ℕ) (message : Message) (s : FetchingState S) → IfSome (log_heard started after greeting message s) (IsKeptOn s)
-log_kept {S} started after greeting message s = go (awaits s.marks) (after_answer started after greeting message s) (heard_same started after greeting message s)
+log_kept : {S : Type 0} (started : ℕ → S) (after : S → List ℕ → Served S) (greeting : S → List ℕ) (message : Message) (s : FetchingState S) → IfSome (log_received started after greeting message s) (IsKeptOn s)
+log_kept {S} started after greeting message s = go (awaits s.marks) (after_answer started after greeting message s) (received_same started after greeting message s)
   where
     go : (a : Bool) (o : Option (FetchingState S)) → IfSome o (IsSame s) → IfSome (if a then None else option_map (noted (marks_after s.marks message.body)) o) (IsKeptOn s)
     go true o h = tt
     go false None h = tt
     go false (Some x) h = record { boot = h.boot; kind = h.kind; so_many = h.so_many; uses_marks = uses_after s.marks message.body }
 
-held_kept : {S : Type 0} (started : ℕ → S) (greeting : S → List ℕ) (state_of : ℕ → List ℕ → Option S) (body : MarkBody) (s : FetchingState S) → awaits s.marks ≡ true → IfSome (held_heard started greeting state_of body s) (IsKeptOn s)
+held_kept : {S : Type 0} (started : ℕ → S) (greeting : S → List ℕ) (state_of : ℕ → List ℕ → Option S) (body : MarkBody) (s : FetchingState S) → awaits s.marks ≡ true → IfSome (held_received started greeting state_of body s) (IsKeptOn s)
 held_kept {S} started greeting state_of (HeldMsg key m) s a = go (marked_on (started s.kind) (greeting (started s.kind)) (state_of s.kind) key m s.newest)
   where
     go : (o : Option (EntryState S)) → IfSome (option_map (with_marked s) o) (IsKeptOn s)
@@ -133,18 +133,18 @@ held_kept started greeting state_of (MarkMsg key m) s a = tt
 held_kept started greeting state_of (MarkedMsg key reads) s a = tt
 held_kept started greeting state_of (AskMsg key) s a = tt
 
-about_kept : {S : Type 0} (started : ℕ → S) (greeting : S → List ℕ) (state_of : ℕ → List ℕ → Option S) (message : MarkMessage) (s : FetchingState S) → IfSome (mark_heard started greeting state_of message s) (IsKeptOn s)
+about_kept : {S : Type 0} (started : ℕ → S) (greeting : S → List ℕ) (state_of : ℕ → List ℕ → Option S) (message : MarkMessage) (s : FetchingState S) → IfSome (mark_received started greeting state_of message s) (IsKeptOn s)
 about_kept {S} started greeting state_of message s =
-    holds_if (λ o. IfSome o (IsKeptOn s)) (message.boot == s.boot && awaits s.marks) (held_heard started greeting state_of message.body s) None
+    holds_if (λ o. IfSome o (IsKeptOn s)) (message.boot == s.boot && awaits s.marks) (held_received started greeting state_of message.body s) None
     (λ t. held_kept started greeting state_of message.body s (and_parts (message.boot == s.boot) (awaits s.marks) t).1) (λ t. tt)
 
-any_kept_on : {S : Type 0} (started : ℕ → S) (after : S → List ℕ → Served S) (greeting : S → List ℕ) (state_of : ℕ → List ℕ → Option S) (message : AnyMessage) (s : FetchingState S) → IfSome (any_heard started after greeting state_of message s) (IsKeptOn s)
+any_kept_on : {S : Type 0} (started : ℕ → S) (after : S → List ℕ → Served S) (greeting : S → List ℕ) (state_of : ℕ → List ℕ → Option S) (message : AnyMessage) (s : FetchingState S) → IfSome (any_received started after greeting state_of message s) (IsKeptOn s)
 any_kept_on started after greeting state_of (Of_log message) s = log_kept started after greeting message s
 any_kept_on started after greeting state_of (About_mark message) s = about_kept started greeting state_of message s
 
 pub kept_on : {S : Type 0} (started : ℕ → S) (after : S → List ℕ → Served S) (greeting : S → List ℕ) (state_of : ℕ → List ℕ → Option S) (message : AnyMessage) (s t : FetchingState S) (fits : Bool)
-    → MatchOption (any_heard started after greeting state_of message s) ((fits ≡ false) × (t ≡ s)) (λ x. (fits ≡ true) × (t ≡ x)) → IsKeptOn s t
-kept_on {S} started after greeting state_of message s t fits m = go (any_heard started after greeting state_of message s) (any_kept_on started after greeting state_of message s) m
+    → MatchOption (any_received started after greeting state_of message s) ((fits ≡ false) × (t ≡ s)) (λ x. (fits ≡ true) × (t ≡ x)) → IsKeptOn s t
+kept_on {S} started after greeting state_of message s t fits m = go (any_received started after greeting state_of message s) (any_kept_on started after greeting state_of message s) m
   where
     go : (o : Option (FetchingState S)) → IfSome o (IsKeptOn s) → MatchOption o ((fits ≡ false) × (t ≡ s)) (λ x. (fits ≡ true) × (t ≡ x)) → IsKeptOn s t
     go None h (unfit, same) = subst (IsKeptOn s) (sym same) (record { boot = refl; kind = refl; so_many = refl; uses_marks = refl })
@@ -153,7 +153,7 @@ kept_on {S} started after greeting state_of message s t fits m = go (any_heard s
 -- what the node then goes on with
 
 pub goes_by : {S : Type 0} (by : Marker S) (who : Identity) (few more : List Fetched) (P Q : List Outgoing → MarkedNode → Type 0) (now : Marked S) (lent : List Wire) → few ≡ more
-    → ((out : List Outgoing) (after : MarkedNode) → P out after → Q out after) → GoesOn by who few P now lent → GoesOn by who more Q now lent
+    → ((out : List Outgoing) (after : MarkedNode) → P out after → Q out after) → Proceeds by who few P now lent → Proceeds by who more Q now lent
 goes_by by who few more P Q now lent same f g = record {
   standing = g.standing;
   awaits = g.awaits;
@@ -172,7 +172,7 @@ none_numbered service isn (marked.Fetching f) = tt
 none_numbered service isn (marked.Serving s) = tt
 
 pub rests_on : {S : Type 0} (by : Marker S) (who : Identity) (standing : law_stage) (awaits : Bool) (marking : Key → Marking) (now : Marked S) (lent : List Wire)
-    → MarkedStands by (node_at who standing awaits marking) now → lent ≡ [] → GoesOn by who [] (RestsMarked (node_at who standing awaits marking)) now lent
+    → MarkedStands by (node_at who standing awaits marking) now → lent ≡ [] → Proceeds by who [] (RestsMarked (node_at who standing awaits marking)) now lent
 rests_on by who standing awaits marking now lent st none =
     record {
       standing = standing;
@@ -249,8 +249,8 @@ module _ {S : Type 0} (by : Marker S) (who : Identity) (count : ℕ) (fetched : 
   begun_where o = entries_of (option_map (λ x. begun_on bytes lengths (so_far here fetched)) o)
 
   -- what is then asked of the rest of the turn
-  abbrev pub GoesOnWith : FetchingState S → KeyMarks → Marked S → List Wire → Type 0
-  GoesOnWith t later now lent =
+  abbrev pub ProceedsWith : FetchingState S → KeyMarks → Marked S → List Wire → Type 0
+  ProceedsWith t later now lent =
       (then_marking : Key → Marking) (more : FetchedSoFar) → Keeps by then_marking later → FetchingStandsMarked by count more t → AreSound by.service more.entries
       → FetchesOn by who here count more then_marking now lent
 
@@ -259,8 +259,8 @@ module _ {S : Type 0} (by : Marker S) (who : Identity) (count : ℕ) (fetched : 
       → IfSome o (λ more. AreSound by.service more.entries) → IfSome o (λ more. AreDistinct more.entries) → IfSome o (λ more. AllBytes more.entries)
       → FetchingStandsMarked by count (so_far here fetched) f → Keeps by marking m → IsKeptOn f t
       → MatchOption o ((fits ≡ false) × (t ≡ f)) (λ more. (fits ≡ true) × StandsSoFar by.service more t)
-      → (fits ≡ false → (now ≡ record { stage = marked.Fetching t; marks = m }) × (lent ≡ [])) → (fits ≡ true → (later ≡ m) × GoesOnWith t later now lent)
-      → GoesOn by who (entries_of (fetched_on (nat_lt 0 by.every) who.boot count message (so_far here fetched))) (UnlessFenced by here (Message_comes message) (fence here.plain (Message_comes message))) now lent
+      → (fits ≡ false → (now ≡ record { stage = marked.Fetching t; marks = m }) × (lent ≡ [])) → (fits ≡ true → (later ≡ m) × ProceedsWith t later now lent)
+      → Proceeds by who (entries_of (fetched_on (nat_lt 0 by.every) who.boot count message (so_far here fetched))) (UnlessFenced by here (Message_comes message) (fence here.plain (Message_comes message))) now lent
   took_log message f t fits m later now lent None is unfenced sound distinct whole st keeps kept leads unfit fit =
       let u = unfit leads.0 in
       let stands : MarkedStands by here (record { stage = marked.Fetching t; marks = m }) =
@@ -283,8 +283,8 @@ module _ {S : Type 0} (by : Marker S) (who : Identity) (count : ℕ) (fetched : 
       → mark_reported by.writing who.boot message (so_far here fetched) ≡ o → (0 < by.every → IfSome o (IsSoundStart by bytes lengths (so_far here fetched)))
       → FetchingStandsMarked by count (so_far here fetched) f → Keeps by marking m → IsKeptOn f t
       → MatchOption o ((fits ≡ false) × (t ≡ f)) (λ mark. (fits ≡ true) × ((bs ls : List ℕ) → IsFront by.service by.writing mark bs ls → StandsSoFar by.service (begun_on bs ls (so_far here fetched)) t))
-      → (fits ≡ false → (now ≡ record { stage = marked.Fetching t; marks = m }) × (lent ≡ [])) → (fits ≡ true → marking_noted message.body m later × GoesOnWith t later now lent)
-      → GoesOn by who (begun_where (mark_reported by.writing who.boot message (so_far here fetched))) (MarkTurn by bytes lengths here (Fetching count fetched) message) now lent
+      → (fits ≡ false → (now ≡ record { stage = marked.Fetching t; marks = m }) × (lent ≡ [])) → (fits ≡ true → marking_noted message.body m later × ProceedsWith t later now lent)
+      → Proceeds by who (begun_where (mark_reported by.writing who.boot message (so_far here fetched))) (MarkTurn by bytes lengths here (Fetching count fetched) message) now lent
   took_mark message f t fits m later now lent None is fair st keeps kept leads unfit fit =
       let u = unfit leads.0 in
       let stands : MarkedStands by here (record { stage = marked.Fetching t; marks = m }) =
@@ -315,7 +315,7 @@ module _ {S : Type 0} (by : Marker S) (who : Identity) (count : ℕ) (fetched : 
 
   pub took : (any : AnyMessage) (f t : FetchingState S) (fits : Bool) (m later : KeyMarks) (now : Marked S) (lent : List Wire) → IsUnfencedMarked here (input_of_any any) → IsFairTo by bytes lengths here (input_of_any any)
       → IsPartBytes any → FetchingStandsMarked by count (so_far here fetched) f → Keeps by marking m → f.boot ≡ who.boot → IsKeptOn f t → AnyLeads by.service by.writing (so_far here fetched) any fits f t
-      → (fits ≡ false → (now ≡ record { stage = marked.Fetching t; marks = m }) × (lent ≡ [])) → (fits ≡ true → Notes any m later × GoesOnWith t later now lent)
+      → (fits ≡ false → (now ≡ record { stage = marked.Fetching t; marks = m }) × (lent ≡ [])) → (fits ≡ true → Notes any m later × ProceedsWith t later now lent)
       → TurnsOn by who bytes lengths here (input_of_any any) now lent
   took (Of_log message) f t fits m later now lent unfenced fair part st keeps boot kept leads unfit fit =
       let law = fetched_on (nat_lt 0 by.every) who.boot count message (so_far here fetched) in
@@ -424,17 +424,17 @@ held_at by who segment (Fenced newer) awaited marking bytes lengths f m lent hol
 -- while it asks how many entries there are
 
 pub hello_at : {S : Type 0} (by : Marker S) (who : Identity) (standing : law_stage) (awaited : Bool) (marking : Key → Marking) (bytes lengths : List ℕ) (m : KeyMarks) (lent : List Wire)
-    → ArePut (grammar_in who) (told_by who.boot HelloMsg ∷ []) [] lent → MarkedStands {S = S} by (node_at who standing awaited marking) (record { stage = marked.Asking; marks = m })
+    → ArePut (grammar_in who) (reported_by who.boot HelloMsg ∷ []) [] lent → MarkedStands {S = S} by (node_at who standing awaited marking) (record { stage = marked.Asking; marks = m })
     → TurnsOn by who bytes lengths (node_at who standing awaited marking) (Plain_comes Tick_comes) (record { stage = marked.Asking; marks = m }) lent
 hello_at by who Asking awaited marking bytes lengths m lent put st = record {
   standing = Asking;
   awaits = awaited;
   marking = marking;
-  sent = map Plain (told_by who.boot HelloMsg ∷ []);
+  sent = map Plain (reported_by who.boot HelloMsg ∷ []);
   stands = st;
-  goes = (Asking, told_by who.boot HelloMsg ∷ [], (refl, refl), refl, refl);
+  goes = (Asking, reported_by who.boot HelloMsg ∷ [], (refl, refl), refl, refl);
   numbers = tt;
-  out = plain_out (grammar_in who) (told_by who.boot HelloMsg ∷ []) [] lent put.wires put.spelled;
+  out = plain_out (grammar_in who) (reported_by who.boot HelloMsg ∷ []) [] lent put.wires put.spelled;
 }
 hello_at by who (Fetching count fetched) awaited marking bytes lengths m lent put st = absurd st.stage
 hello_at by who (Serving opened places) awaited marking bytes lengths m lent put st = absurd st.stage
@@ -464,21 +464,21 @@ abbrev pub nothing_yet : FetchedSoFar
 nothing_yet = record { entries = []; awaits_mark = false }
 
 begun_turn : {S : Type 0} (by : Marker S) (who : Identity) (marking : Key → Marking) (message : Message) (count : ℕ) (o : Option Wanted) (out : List Outgoing) (after : MarkedNode) → wanted count [] ≡ o
-    → count_told (node_of who Asking) message ≡ Some count
+    → count_reported (node_of who Asking) message ≡ Some count
     → Continues by (node_at who Asking false marking) count nothing_yet marking (option_map (λ w. Of_log (record { boot = who.boot; body = question w })) o) out after
     → PlainTurn by (node_at who Asking false marking) Asking (Message_comes message) out after
-begun_turn by who marking message count (Some w) out after is told c = (
+begun_turn by who marking message count (Some w) out after is reported c = (
   Fetching count [],
   asked (node_of who Asking) (Some w),
-  subst (λ x. MatchOption x (Rests Asking (Fetching count []) (asked (node_of who Asking) (Some w))) (λ n. Fetches by.service (node_of who Asking) n [] (Fetching count []) (asked (node_of who Asking) (Some w)))) (sym told)
+  subst (λ x. MatchOption x (Rests Asking (Fetching count []) (asked (node_of who Asking) (Some w))) (λ n. Fetches by.service (node_of who Asking) n [] (Fetching count []) (asked (node_of who Asking) (Some w)))) (sym reported)
       (subst (λ x. PlainContinues by.service (node_of who Asking) count [] x (Fetching count []) (asked (node_of who Asking) (Some w))) (sym is) (refl, refl)),
   c.0,
   c.1,
 )
-begun_turn by who marking message count None out after is told (places, go, same) = (
+begun_turn by who marking message count None out after is reported (places, go, same) = (
   Serving 0 places,
   [],
-  subst (λ x. MatchOption x (Rests Asking (Serving 0 places) []) (λ n. Fetches by.service (node_of who Asking) n [] (Serving 0 places) [])) (sym told)
+  subst (λ x. MatchOption x (Rests Asking (Serving 0 places) []) (λ n. Fetches by.service (node_of who Asking) n [] (Serving 0 places) [])) (sym reported)
       (subst (λ x. PlainContinues by.service (node_of who Asking) count [] x (Serving 0 places) []) (sym is) (places, refl, (go.0, refl))),
   go.1,
   same ∙ ap (λ (ps : List Place). record (node_at who Asking false marking) {
@@ -489,25 +489,25 @@ begun_turn by who marking message count None out after is told (places, go, same
 )
 
 pub begun_at : {S : Type 0} (by : Marker S) (who : Identity) (message : Message) (count : ℕ) (standing : law_stage) (awaited : Bool) (marking : Key → Marking) (bytes lengths : List ℕ) (m : KeyMarks) (now : Marked S) (lent : List Wire)
-    → fence (node_of who standing) (Message_comes message) ≡ None → count_told (node_of who Asking) message ≡ Some count
+    → fence (node_of who standing) (Message_comes message) ≡ None → count_reported (node_of who Asking) message ≡ Some count
     → MarkedStands {S = S} by (node_at who standing awaited marking) (record { stage = marked.Asking; marks = m })
     → (Keeps by marking m → FetchesOn by who (node_at who Asking false marking) count nothing_yet marking now lent)
     → TurnsOn by who bytes lengths (node_at who standing awaited marking) (Plain_comes (Message_comes message)) now lent
-begun_at by who message count Asking awaited marking bytes lengths m now lent unfenced told st goes =
+begun_at by who message count Asking awaited marking bytes lengths m now lent unfenced reported st goes =
     subst (λ a. TurnsOn by who bytes lengths (node_at who Asking a marking) (Plain_comes (Message_comes message)) now lent) (sym st.stage)
     (goes_by by who [] [] (FetchesMarked by (node_at who Asking false marking) count nothing_yet marking) (InputTurn by bytes lengths (node_at who Asking false marking) (Plain_comes (Message_comes message))) now lent
     refl
-    (λ out after c. subst (λ o. UnlessFenced by (node_at who Asking false marking) (Message_comes message) o out after) (sym unfenced) (begun_turn by who marking message count (wanted count []) out after refl told c)) (goes st.keeps))
-begun_at by who message count (Fetching n fetched) awaited marking bytes lengths m now lent unfenced told st goes = absurd st.stage
-begun_at by who message count (Serving opened places) awaited marking bytes lengths m now lent unfenced told st goes = absurd st.stage
-begun_at by who message count (Fenced newer) awaited marking bytes lengths m now lent unfenced told st goes = absurd st.stage
+    (λ out after c. subst (λ o. UnlessFenced by (node_at who Asking false marking) (Message_comes message) o out after) (sym unfenced) (begun_turn by who marking message count (wanted count []) out after refl reported c)) (goes st.keeps))
+begun_at by who message count (Fetching n fetched) awaited marking bytes lengths m now lent unfenced reported st goes = absurd st.stage
+begun_at by who message count (Serving opened places) awaited marking bytes lengths m now lent unfenced reported st goes = absurd st.stage
+begun_at by who message count (Fenced newer) awaited marking bytes lengths m now lent unfenced reported st goes = absurd st.stage
 
 -- what a message says of how many entries there are
-pub told_count : (node : Node) (message : Message) (count : ℕ) → message.boot ≡ node.boot → summary_count message.body ≡ Some count → count_told node message ≡ Some count
-told_count node message count boot told = ap (λ b. if b then summary_count message.body else None) (eq-eqb message.boot node.boot boot) ∙ told
+pub reported_count : (node : Node) (message : Message) (count : ℕ) → message.boot ≡ node.boot → summary_count message.body ≡ Some count → count_reported node message ≡ Some count
+reported_count node message count boot reported = ap (λ b. if b then summary_count message.body else None) (eq-eqb message.boot node.boot boot) ∙ reported
 
-pub told_no_count : {S : Type 0} (by : Marker S) (who : Identity) (message : Message) → summary_count message.body ≡ None → StageTurn by.service (node_of who Asking) Asking (Message_comes message) Asking []
-told_no_count by who message none =
+pub reported_no_count : {S : Type 0} (by : Marker S) (who : Identity) (message : Message) → summary_count message.body ≡ None → StageTurn by.service (node_of who Asking) Asking (Message_comes message) Asking []
+reported_no_count by who message none =
     holds_if (λ o. MatchOption o (Rests Asking Asking []) (λ count. Fetches by.service (node_of who Asking) count [] Asking [])) (message.boot == who.boot) (summary_count message.body) None
     (λ t. subst (λ o. MatchOption o (Rests Asking Asking []) (λ count. Fetches by.service (node_of who Asking) count [] Asking [])) (sym none) (refl, refl)) (λ t. (refl, refl))
 

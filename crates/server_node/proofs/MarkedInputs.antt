@@ -10,7 +10,7 @@ use Rattle.ft_model.specs.Node.Stage.{Asking, Fetching, Serving, Fenced}
 use Rattle.ft_model.specs.ServingTurn.{newcomers}
 use Rattle.ft_model.specs.Wire.{Wire}
 use Rattle.mark_laws.specs.Marking.{Marking}
-use Rattle.mark_laws.specs.MarkedNode.{Marker, MarkedNode, RestsMarked, InputTurn, UnlessFenced, HearsOfMark, FetchesMarked, so_far, marking_fetched}
+use Rattle.mark_laws.specs.MarkedNode.{Marker, MarkedNode, RestsMarked, InputTurn, UnlessFenced, ReceivesOfMark, FetchesMarked, so_far, marking_fetched}
 use Rattle.mark_laws.specs.MarkedNode.MarkedInput.{Plain_comes, Mark_comes}
 use Rattle.mark_laws.specs.Restart.{begun_on, mark_of_newest}
 use Rattle.conn_marks.specs.KeyMarks.{KeyMarks}
@@ -23,7 +23,7 @@ use Rattle.node_serving.specs.declared.serving.Serving.{Serving as CodeServing}
 use Rattle.node_serving.specs.declared.slot.Slot.{Slot}
 use Rattle.node_serving.specs.Identity.{node_of, grammar_in}
 use Rattle.server_node.specs.Marked.{AreApart}
-use Rattle.node_serving.specs.MarkedServing.{ServingGoesMarked, HeardOfMark}
+use Rattle.node_serving.specs.MarkedServing.{ServingGoesMarked, ReceivedOfMark}
 use Rattle.server_node.specs.MarkedNumbers.{entries_of, fetched_by_marked}
 use Rattle.server_node.specs.MarkedTurns.{MarkedStands, StageStandsMarked, TurnsOn}
 use Rattle.node_serving.specs.Openings.{ArePut, all_opens}
@@ -72,28 +72,28 @@ served_at by who input (Fetching count fetched) awaits marking was now m later b
 served_at by who input (Fenced newer) awaits marking was now m later bytes lengths lent unfenced goes st = absurd st.stage
 
 -- a message about marks there
-pub heard_serving : {S : Type 0} (by : Marker S) (who : Identity) (message : MarkMessage) (standing : law_stage) (awaits : Bool) (marking : Key → Marking) (serving : CodeServing S) (m later : KeyMarks) (bytes lengths : List ℕ) (lent : List Wire)
+pub received_serving : {S : Type 0} (by : Marker S) (who : Identity) (message : MarkMessage) (standing : law_stage) (awaits : Bool) (marking : Key → Marking) (serving : CodeServing S) (m later : KeyMarks) (bytes lengths : List ℕ) (lent : List Wire)
     → message.boot ≡ who.boot
     → ((opened : ℕ) (places : List Place) → Keeps by marking m → AllSettled by marking places → ServingStands by.service (node_of who standing) opened places serving
-    → HeardOfMark by (node_at who standing awaits marking) places message later [] lent)
+    → ReceivedOfMark by (node_at who standing awaits marking) places message later [] lent)
     → MarkedStands by (node_at who standing awaits marking) (record { stage = marked.Serving serving; marks = m })
     → TurnsOn by who bytes lengths (node_at who standing awaits marking) (Mark_comes message) (record { stage = marked.Serving serving; marks = later }) lent
-heard_serving by who message (Serving opened places) awaits marking serving m later bytes lengths lent boot heard st =
-    let h = heard opened places st.keeps st.stage.1 st.stage.0 in
+received_serving by who message (Serving opened places) awaits marking serving m later bytes lengths lent boot receipt st =
+    let h = receipt opened places st.keeps st.stage.1 st.stage.0 in
     let before : MarkedNode = node_at who (Serving opened places) awaits marking in record {
       standing = Serving opened places;
       awaits = awaits;
       marking = h.marking;
       sent = h.sent;
       stands = record { keeps = h.keeps; stage = (st.stage.0, h.settled) };
-      goes = subst (λ b. MatchBool b (HearsOfMark by before places message.body h.sent (node_at who (Serving opened places) awaits h.marking)) (RestsMarked before h.sent (node_at who (Serving opened places) awaits h.marking)))
-          (sym (eq-eqb message.boot who.boot boot)) h.hears;
+      goes = subst (λ b. MatchBool b (ReceivesOfMark by before places message.body h.sent (node_at who (Serving opened places) awaits h.marking)) (RestsMarked before h.sent (node_at who (Serving opened places) awaits h.marking)))
+          (sym (eq-eqb message.boot who.boot boot)) h.on_receipt;
       numbers = tt;
       out = h.out;
     }
-heard_serving by who message Asking awaits marking serving m later bytes lengths lent boot heard st = absurd st.stage
-heard_serving by who message (Fetching count fetched) awaits marking serving m later bytes lengths lent boot heard st = absurd st.stage
-heard_serving by who message (Fenced newer) awaits marking serving m later bytes lengths lent boot heard st = absurd st.stage
+received_serving by who message Asking awaits marking serving m later bytes lengths lent boot receipt st = absurd st.stage
+received_serving by who message (Fetching count fetched) awaits marking serving m later bytes lengths lent boot receipt st = absurd st.stage
+received_serving by who message (Fenced newer) awaits marking serving m later bytes lengths lent boot receipt st = absurd st.stage
 
 -- a message about marks while nothing is fetched yet, and one of another boot
 pub mark_rests : {S : Type 0} (by : Marker S) (who : Identity) (message : MarkMessage) (standing : law_stage) (awaits : Bool) (marking : Key → Marking) (m : KeyMarks) (bytes lengths : List ℕ) (lent : List Wire) → lent ≡ []
@@ -111,7 +111,7 @@ other_rests by who message Asking awaits marking now bytes lengths lent other no
 other_rests by who message (Fenced newer) awaits marking now bytes lengths lent other none st = rests_on by who (Fenced newer) awaits marking now lent st none
 other_rests by who message (Serving opened places) awaits marking now bytes lengths lent other none st =
     goes_by by who [] [] (RestsMarked (node_at who (Serving opened places) awaits marking)) (InputTurn by bytes lengths (node_at who (Serving opened places) awaits marking) (Mark_comes message)) now lent refl
-    (λ out after r. subst (λ b. MatchBool b (HearsOfMark by (node_at who (Serving opened places) awaits marking) places message.body out after) (RestsMarked (node_at who (Serving opened places) awaits marking) out after)) (sym other) r)
+    (λ out after r. subst (λ b. MatchBool b (ReceivesOfMark by (node_at who (Serving opened places) awaits marking) places message.body out after) (RestsMarked (node_at who (Serving opened places) awaits marking) out after)) (sym other) r)
     (rests_on by who (Serving opened places) awaits marking now lent st none)
 other_rests by who message (Fetching count fetched) awaits marking now bytes lengths lent other none st =
     goes_by by who [] (fetched_by_marked by bytes lengths (node_at who (Fetching count fetched) awaits marking) (Fetching count fetched) (Mark_comes message))

@@ -39,7 +39,7 @@ use Rattle.server_node.specs.Inputs.{input_of}
 use Rattle.server_node.specs.Marked.{AreApart}
 use Rattle.server_node.specs.MarkedApart.{StageTurnsApart}
 use Rattle.server_node.specs.MarkedNumbers.{AllNumberedAt, AllNumberedMarked, entries_of, fetched_by_marked}
-use Rattle.server_node.specs.MarkedTurns.{MarkedStands, MarkedTurns, TurnsOn, IsFairTo, IsUnfencedMarked, IsTurnMarked, HasSlotsApart, NodeStandsAt, MarkedNodeGoes, MarkedNodeTurns, marked_input_of, heard_of}
+use Rattle.server_node.specs.MarkedTurns.{MarkedStands, MarkedTurns, TurnsOn, IsFairTo, IsUnfencedMarked, IsTurnMarked, HasSlotsApart, NodeStandsAt, MarkedNodeGoes, MarkedNodeTurns, marked_input_of, received_of}
 use Rattle.node_serving.specs.Markers.{Saving, marker_of, node_at}
 use Rattle.server_node.specs.Stages.{is_marked, IsSoundStage}
 use Rattle.server_node.specs.StageTurns.{IsUnfenced}
@@ -136,12 +136,12 @@ module _ {S : Type 0} (s : Ghosts S) (v : Saving S) (who : Identity) where
   )
 
 -- bytes that are no message of the log are what the code of marks reads, or noise
-pub not_of_log : (grammar : Grammar) (bytes : List ℕ) (why : BadMsg) → messages.reading_by grammar bytes ≡ Err why → marked_of (either_said (messages.reading_by grammar bytes) (marks.reading bytes)) ≡ heard_of (marks.reading bytes)
-not_of_log grammar bytes why is = ap (λ r. marked_of (either_said r (marks.reading bytes))) is ∙ heard (marks.reading bytes)
+pub not_of_log : (grammar : Grammar) (bytes : List ℕ) (why : BadMsg) → messages.reading_by grammar bytes ≡ Err why → marked_of (either_said (messages.reading_by grammar bytes) (marks.reading bytes)) ≡ received_of (marks.reading bytes)
+not_of_log grammar bytes why is = ap (λ r. marked_of (either_said r (marks.reading bytes))) is ∙ receipt (marks.reading bytes)
   where
-    heard : (r : Result MarkMessage BadMark) → marked_of (either_said (Err why) r) ≡ heard_of r
-    heard (Ok message) = refl
-    heard (Err bad) = refl
+    receipt : (r : Result MarkMessage BadMark) → marked_of (either_said (Err why) r) ≡ received_of r
+    receipt (Ok message) = refl
+    receipt (Err bad) = refl
 
 pub of_the_log : (grammar : Grammar) (bytes : List ℕ) (message : Message) → messages.reading_by grammar bytes ≡ Ok message → marked_of (either_said (messages.reading_by grammar bytes) (marks.reading bytes)) ≡ Plain_comes (Message_comes message)
 of_the_log grammar bytes message is = ap (λ r. marked_of (either_said r (marks.reading bytes))) is

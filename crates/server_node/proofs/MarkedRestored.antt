@@ -39,7 +39,7 @@ use Rattle.server_node.specs.RestartNumbers.{IsNumbered, AreNumbered}
 use Rattle.node_serving.specs.Loan.{conn_in}
 use Rattle.node_serving.specs.Slots.{SlotStands, AllStand}
 use Rattle.node_serving.proofs.Admitted.{one_stands_more, next_number}
-use Rattle.node_serving.proofs.MarkedTicks.{go_on_marked}
+use Rattle.node_serving.proofs.MarkedTicks.{proceed_marked}
 use Rattle.node_serving.proofs.OneKey.{place_key}
 use Rattle.server_node.proofs.Restored.{behind_others, all_numbered_more}
 
@@ -152,7 +152,7 @@ module _ {S : Type 0} (by : Marker S) (node : Node) (marking : Key → Marking) 
           number = number;
           slots = subst (λ es. AllStand by.service node es (r.places ++ place ∷ [])) (sym is) (one_stands_more by.service node before.slots.entries r.places key now place r.stands.slots st);
         };
-        go = go_on_marked (GoesMarked (Revives by.service node) (marks_at by node.boot false marking)) (all_restored by.service node.profile fetched) r.places r.sent more (restored by.service node.profile f) place r.go g;
+        go = proceed_marked (GoesMarked (Revives by.service node) (marks_at by node.boot false marking)) (all_restored by.service node.profile fetched) r.places r.sent more (restored by.service node.profile f) place r.go g;
         numbers = subst (AreNumbered by.service node.isn (f ∷ fetched)) (sym is) (all_numbered_more by.service node.isn f fetched before.slots.entries now none r.numbers numbered);
         others = λ k e.
             let parts = or_parts (key_eq key k) (is_fetched k fetched) e in
@@ -174,9 +174,9 @@ module _ {S : Type 0} (by : Marker S) (node : Node) (marking : Key → Marking) 
         out = out_on (grammar_of node.profile) r.sent more old mid new r.out out;
       }
 
-  pub none_marked_yet : (now : Serving S) (marks : KeyMarks) (told : List Wire) → now.next.0 ≡ initial_number node.isn 0 → now.slots.entries ≡ [] → Keeps by marking marks
-      → AreRestoredMarked by node marking [] now marks told told
-  none_marked_yet now marks told number none keeps = record {
+  pub none_marked_yet : (now : Serving S) (marks : KeyMarks) (reported : List Wire) → now.next.0 ≡ initial_number node.isn 0 → now.slots.entries ≡ [] → Keeps by marking marks
+      → AreRestoredMarked by node marking [] now marks reported reported
+  none_marked_yet now marks reported number none keeps = record {
     places = [];
     sent = [];
     stands = record { number = number; slots = subst (λ es. AllStand by.service node es []) (sym none) tt };
@@ -185,7 +185,7 @@ module _ {S : Type 0} (by : Marker S) (node : Node) (marking : Key → Marking) 
     others = λ key e. ap (lookup (key_eq key)) none;
     keeps = record { every = keeps.every; each = keeps.each };
     settled = tt;
-    out = out_none (grammar_of node.profile) told;
+    out = out_none (grammar_of node.profile) reported;
   }
 
   counted : (f : Fetched) (fetched : List Fetched) (b : Bool) → f.head.done ≡ b → restored_count (f ∷ fetched) ≡ length (if not b then f ∷ filter (λ x. not x.head.done) fetched else filter (λ x. not x.head.done) fetched)

@@ -13,7 +13,7 @@ use Rattle.mark_laws.specs.MarkedLog.AnyMessage.{About_mark, Of_log}
 use Rattle.mark_laws.specs.Restart.{or_else}
 use Rattle.reincarnate.specs.Marking.{awaits, marks_after, marked_on}
 use Rattle.reincarnate.specs.Progress.{EntryState}
-use Rattle.reincarnate.specs.Questions.{FetchingState, asked, any_asked, mark_asked, noted, log_heard, after_answer, with_marked, held_heard, mark_heard, any_heard}
+use Rattle.reincarnate.specs.Questions.{FetchingState, asked, any_asked, mark_asked, noted, log_received, after_answer, with_marked, held_received, mark_received, any_received}
 use Rattle.node_serving.specs.declared.identity.Identity.{Identity}
 use Rattle.server_node.specs.declared.stage.Stage.{Stage}
 use Rattle.server_node.specs.declared.stage.Stage.TheVariants as stage
@@ -27,7 +27,7 @@ use Rattle.server_node.specs.Stages.{StageStands, IsSoundStage, NodeGoes, is_mar
 use Rattle.server_node.proofs.Staged.{noise_rests}
 use Rattle.server_node.proofs.StagedApart.{rest_apart, noise_knows}
 use Rattle.server_node.specs.Marked.{IsBareQuestion}
-use Rattle.server_node.proofs.FetchAnswer.{IsSame, heard_same}
+use Rattle.server_node.proofs.FetchAnswer.{IsSame, received_same}
 use Rattle.server_node.proofs.Questions.{question_is_bare}
 
 -- it stands nowhere in the model without marks
@@ -62,16 +62,16 @@ marked_apart service who input (stage.Marked m) now sent h = record {
 }
 
 -- what a node without marks doesn't read changes nothing
-pub unheard : {S : Type 0} (service : Machine S) (who : Identity) (standing : law.Stage) (input : law.Input) (was now : Stage S) (sent : List Wire) → input ≡ Noise_comes → now ≡ was → sent ≡ []
+pub unreceived : {S : Type 0} (service : Machine S) (who : Identity) (standing : law.Stage) (input : law.Input) (was now : Stage S) (sent : List Wire) → input ≡ Noise_comes → now ≡ was → sent ≡ []
     → StageStands service (node_of who standing) was → NodeGoes service (node_of who standing) input who now sent
-unheard service who standing input was now sent noise same silent st =
+unreceived service who standing input was now sent noise same silent st =
     subst (λ i. NodeGoes service (node_of who standing) i who now sent) (sym noise)
     (subst (λ n. NodeGoes service (node_of who standing) Noise_comes who n sent) (sym same)
     (subst (NodeGoes service (node_of who standing) Noise_comes who was) (sym silent) (noise_rests service who standing was st)))
 
-pub unheard_apart : {S : Type 0} (service : Machine S) (who : Identity) (input : law.Input) (was now : Stage S) (sent : List Wire) → input ≡ Noise_comes → now ≡ was → sent ≡ []
+pub unreceived_apart : {S : Type 0} (service : Machine S) (who : Identity) (input : law.Input) (was now : Stage S) (sent : List Wire) → input ≡ Noise_comes → now ≡ was → sent ≡ []
     → who.isn < 2 ^ 32 → IsSoundStage who was → TurnsApart service who input was now sent
-unheard_apart service who input was now sent noise same silent low sound =
+unreceived_apart service who input was now sent noise same silent low sound =
     subst (λ i. TurnsApart service who i was now sent) (sym noise)
     (subst (λ n. TurnsApart service who Noise_comes was n sent) (sym same)
     (subst (TurnsApart service who Noise_comes was was) (sym silent) (rest_apart service who Noise_comes was low sound (λ standing key. refl) (λ standing. tt) (λ standing. noise_knows (node_of who standing) was))))
@@ -109,8 +109,8 @@ pub record IsKept {S : Type 0} (s t : FetchingState S) : Type 0 where
   pub boot : t.boot ≡ s.boot
   pub kind : t.kind ≡ s.kind
 
-noted_kept : {S : Type 0} (started : ℕ → S) (after : S → List ℕ → Served S) (greeting : S → List ℕ) (message : Message) (s : FetchingState S) → IfSome (log_heard started after greeting message s) (IsKept s)
-noted_kept {S} started after greeting message s = go (awaits s.marks) (after_answer started after greeting message s) (heard_same started after greeting message s)
+noted_kept : {S : Type 0} (started : ℕ → S) (after : S → List ℕ → Served S) (greeting : S → List ℕ) (message : Message) (s : FetchingState S) → IfSome (log_received started after greeting message s) (IsKept s)
+noted_kept {S} started after greeting message s = go (awaits s.marks) (after_answer started after greeting message s) (received_same started after greeting message s)
   where
     go : (a : Bool) (o : Option (FetchingState S)) → IfSome o (IsSame s)
         → IfSome (if a then None else option_map (noted (marks_after s.marks message.body)) o) (IsKept s)
@@ -122,27 +122,27 @@ marked_kept : {S : Type 0} (s : FetchingState S) (o : Option (EntryState S)) →
 marked_kept s None = tt
 marked_kept s (Some e) = record { boot = refl; kind = refl }
 
-held_kept : {S : Type 0} (started : ℕ → S) (greeting : S → List ℕ) (state_of : ℕ → List ℕ → Option S) (body : MarkBody) (s : FetchingState S) → IfSome (held_heard started greeting state_of body s) (IsKept s)
+held_kept : {S : Type 0} (started : ℕ → S) (greeting : S → List ℕ) (state_of : ℕ → List ℕ → Option S) (body : MarkBody) (s : FetchingState S) → IfSome (held_received started greeting state_of body s) (IsKept s)
 held_kept started greeting state_of (HeldMsg key m) s = marked_kept s (marked_on (started s.kind) (greeting (started s.kind)) (state_of s.kind) key m s.newest)
 held_kept started greeting state_of (MarkMsg key m) s = tt
 held_kept started greeting state_of (MarkedMsg key reads) s = tt
 held_kept started greeting state_of (AskMsg key) s = tt
 
-about_kept : {S : Type 0} (started : ℕ → S) (greeting : S → List ℕ) (state_of : ℕ → List ℕ → Option S) (message : MarkMessage) (s : FetchingState S) → IfSome (mark_heard started greeting state_of message s) (IsKept s)
+about_kept : {S : Type 0} (started : ℕ → S) (greeting : S → List ℕ) (state_of : ℕ → List ℕ → Option S) (message : MarkMessage) (s : FetchingState S) → IfSome (mark_received started greeting state_of message s) (IsKept s)
 about_kept {S} started greeting state_of message s = go (message.boot == s.boot && awaits s.marks)
   where
-    go : (b : Bool) → IfSome (if b then held_heard started greeting state_of message.body s else None) (IsKept s)
+    go : (b : Bool) → IfSome (if b then held_received started greeting state_of message.body s else None) (IsKept s)
     go true = held_kept started greeting state_of message.body s
     go false = tt
 
 any_kept : {S : Type 0} (started : ℕ → S) (after : S → List ℕ → Served S) (greeting : S → List ℕ) (state_of : ℕ → List ℕ → Option S) (message : AnyMessage) (s : FetchingState S)
-    → IfSome (any_heard started after greeting state_of message s) (IsKept s)
+    → IfSome (any_received started after greeting state_of message s) (IsKept s)
 any_kept started after greeting state_of (Of_log message) s = noted_kept started after greeting message s
 any_kept started after greeting state_of (About_mark message) s = about_kept started greeting state_of message s
 
 pub answer_kept : {S : Type 0} (started : ℕ → S) (after : S → List ℕ → Served S) (greeting : S → List ℕ) (state_of : ℕ → List ℕ → Option S) (message : AnyMessage) (who : Identity) (s t : FetchingState S) (fits : Bool)
-    → MatchOption (any_heard started after greeting state_of message s) ((fits ≡ false) × (t ≡ s)) (λ x. (fits ≡ true) × (t ≡ x)) → IsOf who s → IsOf who t
-answer_kept {S} started after greeting state_of message who s t fits m own = go (any_heard started after greeting state_of message s) (any_kept started after greeting state_of message s) m
+    → MatchOption (any_received started after greeting state_of message s) ((fits ≡ false) × (t ≡ s)) (λ x. (fits ≡ true) × (t ≡ x)) → IsOf who s → IsOf who t
+answer_kept {S} started after greeting state_of message who s t fits m own = go (any_received started after greeting state_of message s) (any_kept started after greeting state_of message s) m
   where
     kept : (x : FetchingState S) → IsKept s x → t ≡ x → IsOf who t
     kept x k e = subst (IsOf who) (sym e) (record { boot = k.boot ∙ own.boot; kind = k.kind ∙ own.kind })

@@ -60,9 +60,9 @@ asks_where boot o m e = ap is_some e ∙ go o
     go None = refl
 
 -- .. and it is the law's
-pub asks_nothing : (node : Node) (boot : ℕ) (o : Option Wanted) (told : List Wire) → None ≡ option_map (said_in boot) (option_map question o) → ArePut (grammar_of node.profile) (asked_law node o) told told
-asks_nothing node boot None told e = record { wires = sym (append-nil told); spelled = tt }
-asks_nothing node boot (Some w) told e = none_is_some (said_in boot (question w)) e
+pub asks_nothing : (node : Node) (boot : ℕ) (o : Option Wanted) (reported : List Wire) → None ≡ option_map (said_in boot) (option_map question o) → ArePut (grammar_of node.profile) (asked_law node o) reported reported
+asks_nothing node boot None reported e = record { wires = sym (append-nil reported); spelled = tt }
+asks_nothing node boot (Some w) reported e = none_is_some (said_in boot (question w)) e
 
 pub asks_this : (node : Node) (boot : ℕ) (o : Option Wanted) (m : Message) (old new : List Wire) → boot ≡ node.boot → Some m ≡ option_map (said_in boot) (option_map question o)
     → ArePut (grammar_of node.profile) (To_logger m ∷ []) old new → ArePut (grammar_of node.profile) (asked_law node o) old new

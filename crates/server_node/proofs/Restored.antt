@@ -27,7 +27,7 @@ use Rattle.server_node.specs.RestartEnd.{SlotRevives, AreRestored}
 use Rattle.server_node.specs.RestartNumbers.{IsNumbered, AreNumbered}
 use Rattle.node_serving.specs.Loan.{conn_in}
 use Rattle.node_serving.proofs.Admitted.{one_stands_more, next_number}
-use Rattle.node_serving.proofs.AllSlots.{go_on}
+use Rattle.node_serving.proofs.AllSlots.{proceed}
 use Rattle.node_serving.proofs.Found.{found_last}
 use Rattle.node_serving.proofs.Opens.{put_on}
 use Rattle.ft_model.proofs.Keys.{key_eq_turns}
@@ -73,15 +73,15 @@ all_numbered_more service isn f fetched es now none numbers numbered = (
 
 module _ {S : Type 0} (service : Machine S) (node : Node) where
   -- before any
-  pub restored_none : (now : Serving S) (told : List Wire) → now.next.0 ≡ initial_number node.isn 0 → now.slots.entries ≡ [] → AreRestored service node [] now told told
-  restored_none now told number none = record {
+  pub restored_none : (now : Serving S) (reported : List Wire) → now.next.0 ≡ initial_number node.isn 0 → now.slots.entries ≡ [] → AreRestored service node [] now reported reported
+  restored_none now reported number none = record {
     places = [];
     packets = [];
     stands = record { number = number; slots = subst (λ es. Rattle.node_serving.specs.Slots.AllStand service node es []) (sym none) tt };
     go = (refl, refl);
     numbers = tt;
     others = λ key e. ap (lookup (key_eq key)) none;
-    wires = sym (append-nil told);
+    wires = sym (append-nil reported);
     spelled = tt;
   }
 
@@ -103,7 +103,7 @@ module _ {S : Type 0} (service : Machine S) (node : Node) where
           slots = subst (λ es. Rattle.node_serving.specs.Slots.AllStand service node es (r.places ++ s.after ∷ [])) (sym is)
               (one_stands_more service node before.slots.entries r.places f.head.key now s.after r.stands.slots s.stands);
         };
-        go = go_on service node Tick_comes (Revives service node) (all_restored service node.profile fetched) r.places r.packets s.packets (restored service node.profile f) s.after r.go s.turn;
+        go = proceed service node Tick_comes (Revives service node) (all_restored service node.profile fetched) r.places r.packets s.packets (restored service node.profile f) s.after r.go s.turn;
         numbers = subst (AreNumbered service node.isn (f ∷ fetched)) (sym is) (all_numbered_more service node.isn f fetched before.slots.entries now none r.numbers numbered);
         others = λ key e.
             let parts = or_parts (key_eq f.head.key key) (is_fetched key fetched) e in
@@ -165,9 +165,9 @@ pub record RestoresOn {S X : Type 0} (service : Machine S) (So_far : List Fetche
   pub so_far : So_far done now old new
 
 module _ {S X : Type 0} (service : Machine S) (So_far : List Fetched → X → (old new : List Wire) → Type 0) where
-  pub restores_none : (fetched : List Fetched) (entries : List (EntryState S)) (now : X) (told : List Wire) → StandsWhole service (reverse fetched) entries
-      → So_far [] now told told → RestoresOn service So_far fetched entries now told told
-  restores_none fetched entries now told st none = record {
+  pub restores_none : (fetched : List Fetched) (entries : List (EntryState S)) (now : X) (reported : List Wire) → StandsWhole service (reverse fetched) entries
+      → So_far [] now reported reported → RestoresOn service So_far fetched entries now reported reported
+  restores_none fetched entries now reported st none = record {
     left = reverse fetched;
     done = [];
     split = sym (append-nil (reverse (reverse fetched)) ∙ reverse-reverse fetched);

@@ -28,7 +28,7 @@ use Rattle.server_node.specs.Restarts.{IsRestorable, KeyRevives, IsForFetched, R
 use Rattle.server_node.specs.RestartEnd.{SlotRevives}
 use Rattle.node_serving.specs.Ownership.{of_key, IsFor, IsOnlyFor}
 use Rattle.node_serving.proofs.Found.{other_last, found_last}
-use Rattle.node_serving.proofs.Keyed.{none_of, quiet_for, told_is, told_its}
+use Rattle.node_serving.proofs.Keyed.{none_of, quiet_for, reported_is, reported_its}
 use Rattle.server_node.proofs.Restored.{behind_others, counted, plus_one}
 use Rattle.node_serving.proofs.Ticked.{of_both}
 
@@ -37,7 +37,7 @@ all_unlike : (key : Key) (fetched : List Fetched) → is_fetched key fetched ≡
 all_unlike key [] e = tt
 all_unlike key (f ∷ fetched) e = let parts = or_parts (key_eq f.head.key key) (is_fetched key fetched) e in (parts.0, all_unlike key fetched parts.1)
 
-pub silent_fetched : (grammar : Grammar) (key : Key) (fetched : List Fetched) (told : List Wire) → is_fetched key fetched ≡ false → AllByRecursion (IsForFetched grammar fetched) told → of_key grammar key told ≡ []
+pub silent_fetched : (grammar : Grammar) (key : Key) (fetched : List Fetched) (reported : List Wire) → is_fetched key fetched ≡ false → AllByRecursion (IsForFetched grammar fetched) reported → of_key grammar key reported ≡ []
 silent_fetched grammar key fetched [] fresh whose = refl
 silent_fetched grammar key fetched (w ∷ ws) fresh whose = one whose.0 (silent_fetched grammar key fetched ws fresh whose.1)
   where
@@ -50,10 +50,10 @@ silent_fetched grammar key fetched (w ∷ ws) fresh whose = one whose.0 (silent_
 
 module _ {S : Type 0} (service : Machine S) (node : Node) where
   -- before any
-  pub none_restored : (now : Serving S) (told : List Wire) → now.next.0 ≡ initial_number node.isn 0 → now.slots.entries ≡ [] → RestoredAlone service node [] now told told
-  none_restored now told number none = record {
-    told = [];
-    put = sym (append-nil told);
+  pub none_restored : (now : Serving S) (reported : List Wire) → now.next.0 ≡ initial_number node.isn 0 → now.slots.entries ≡ [] → RestoredAlone service node [] now reported reported
+  none_restored now reported number none = record {
+    reported = [];
+    put = sym (append-nil reported);
     each = tt;
     others = λ key e. ap (lookup (key_eq key)) none;
     whose = tt;
@@ -67,19 +67,19 @@ module _ {S : Type 0} (service : Machine S) (node : Node) where
       → (lookup (key_eq f.head.key) before.slots.entries ≡ None → after.slots.entries ≡ before.slots.entries ++ (f.head.key, now) ∷ [])
       → after.next.0 ≡ initial_number node.isn (restored_count (f ∷ fetched)) → known_as now ≡ Is_connected → RestoredAlone service node (f ∷ fetched) after old new
   more_restored f fetched before after now old mid new fresh r p revives added number kind = record {
-    told = r.told ++ p.told;
-    put = p.put ∙ (ap (λ ws. ws ++ p.told) r.put ∙ append_assoc old r.told p.told);
+    reported = r.reported ++ p.reported;
+    put = p.put ∙ (ap (λ ws. ws ++ p.reported) r.put ∙ append_assoc old r.reported p.reported);
     each = (
       own,
-      all_both (λ x. key_eq x.head.key f.head.key ≡ false) (λ x. IsRestorable service x → KeyRevives service node x (slot_of x.head.key before) r.told)
-          (λ x. IsRestorable service x → KeyRevives service node x (slot_of x.head.key after) (r.told ++ p.told)) fetched still (all_unlike f.head.key fetched fresh) r.each,
+      all_both (λ x. key_eq x.head.key f.head.key ≡ false) (λ x. IsRestorable service x → KeyRevives service node x (slot_of x.head.key before) r.reported)
+          (λ x. IsRestorable service x → KeyRevives service node x (slot_of x.head.key after) (r.reported ++ p.reported)) fetched still (all_unlike f.head.key fetched fresh) r.each,
     );
     others = λ key e.
         let parts = or_parts (key_eq f.head.key key) (is_fetched key fetched) e in
         ap (lookup (key_eq key)) is ∙ behind_others key f.head.key before.slots.entries now (key_eq_turns f.head.key key parts.0) (r.others key parts.1);
-    whose = all_append (IsForFetched (grammar_of node.profile) (f ∷ fetched)) r.told p.told
-        (all_weaker (IsForFetched (grammar_of node.profile) fetched) (IsForFetched (grammar_of node.profile) (f ∷ fetched)) r.told (λ w (k, there, its). (k, or_right (key_eq f.head.key k) (is_fetched k fetched) there, its)) r.whose)
-        (all_weaker (IsFor (grammar_of node.profile) f.head.key) (IsForFetched (grammar_of node.profile) (f ∷ fetched)) p.told (λ w its. (f.head.key, or_left (key_eq f.head.key f.head.key) (is_fetched f.head.key fetched) (key_is f.head.key), its)) p.alone);
+    whose = all_append (IsForFetched (grammar_of node.profile) (f ∷ fetched)) r.reported p.reported
+        (all_weaker (IsForFetched (grammar_of node.profile) fetched) (IsForFetched (grammar_of node.profile) (f ∷ fetched)) r.reported (λ w (k, there, its). (k, or_right (key_eq f.head.key k) (is_fetched k fetched) there, its)) r.whose)
+        (all_weaker (IsFor (grammar_of node.profile) f.head.key) (IsForFetched (grammar_of node.profile) (f ∷ fetched)) p.reported (λ w its. (f.head.key, or_left (key_eq f.head.key f.head.key) (is_fetched f.head.key fetched) (key_is f.head.key), its)) p.alone);
     known = record {
       number = number;
       known = ap known_in is ∙ (map-append (λ (e : Key × Slot S). (e.0, known_as e.1)) before.slots.entries ((f.head.key, now) ∷ [])
@@ -93,7 +93,7 @@ module _ {S : Type 0} (service : Machine S) (node : Node) where
       is : after.slots.entries ≡ before.slots.entries ++ (f.head.key, now) ∷ []
       is = added none
 
-      own : IsRestorable service f → KeyRevives service node f (slot_of f.head.key after) (r.told ++ p.told)
+      own : IsRestorable service f → KeyRevives service node f (slot_of f.head.key after) (r.reported ++ p.reported)
       own ok =
           let s = revives ok in record {
             after = s.after;
@@ -101,13 +101,13 @@ module _ {S : Type 0} (service : Machine S) (node : Node) where
             stands = subst (λ x. StandsFor service node f.head.key x (Some s.after))
                 (sym (ap (lookup (key_eq f.head.key)) is ∙ found_last f.head.key before.slots.entries now none)) s.stands;
             turn = s.turn;
-            wires = of_both (grammar_of node.profile) f.head.key r.told p.told ∙ (ap (λ ws. ws ++ of_key (grammar_of node.profile) f.head.key p.told) (silent_fetched (grammar_of node.profile) f.head.key fetched r.told fresh r.whose)
-                ∙ told_its (grammar_of node.profile) f.head.key p.told s.packets p.alone (told_is (grammar_of node.profile) mid new p.told s.packets p.put s.wires) s.spelled);
+            wires = of_both (grammar_of node.profile) f.head.key r.reported p.reported ∙ (ap (λ ws. ws ++ of_key (grammar_of node.profile) f.head.key p.reported) (silent_fetched (grammar_of node.profile) f.head.key fetched r.reported fresh r.whose)
+                ∙ reported_its (grammar_of node.profile) f.head.key p.reported s.packets p.alone (reported_is (grammar_of node.profile) mid new p.reported s.packets p.put s.wires) s.spelled);
             spelled = s.spelled;
           }
 
-      still : (x : Fetched) → key_eq x.head.key f.head.key ≡ false → (IsRestorable service x → KeyRevives service node x (slot_of x.head.key before) r.told)
-          → IsRestorable service x → KeyRevives service node x (slot_of x.head.key after) (r.told ++ p.told)
+      still : (x : Fetched) → key_eq x.head.key f.head.key ≡ false → (IsRestorable service x → KeyRevives service node x (slot_of x.head.key before) r.reported)
+          → IsRestorable service x → KeyRevives service node x (slot_of x.head.key after) (r.reported ++ p.reported)
       still x unlike h ok =
           let k = h ok in
           let other = key_eq_turns x.head.key f.head.key unlike in record {
@@ -116,8 +116,8 @@ module _ {S : Type 0} (service : Machine S) (node : Node) where
             stands = subst (λ s. StandsFor service node x.head.key s (Some k.after))
                 (sym (ap (lookup (key_eq x.head.key)) is ∙ other_last f.head.key x.head.key other before.slots.entries now)) k.stands;
             turn = k.turn;
-            wires = of_both (grammar_of node.profile) x.head.key r.told p.told ∙ (ap (λ ws. of_key (grammar_of node.profile) x.head.key r.told ++ ws) (none_of (grammar_of node.profile) f.head.key x.head.key p.told p.alone other)
-                ∙ (append-nil (of_key (grammar_of node.profile) x.head.key r.told) ∙ k.wires));
+            wires = of_both (grammar_of node.profile) x.head.key r.reported p.reported ∙ (ap (λ ws. of_key (grammar_of node.profile) x.head.key r.reported ++ ws) (none_of (grammar_of node.profile) f.head.key x.head.key p.reported p.alone other)
+                ∙ (append-nil (of_key (grammar_of node.profile) x.head.key r.reported) ∙ k.wires));
             spelled = k.spelled;
           }
 

@@ -75,14 +75,14 @@ module _ {S : Type 0} (service : Machine S) (who : Identity) where
   fetched_same standing message count fetched f own st = λ j. restart.fetched_then (own.boot j) (st.so_many j) message fetched
 
   -- a message that answers nothing changes nothing
-  pub answers_nothing : (standing : law.Stage) (message : Message) (count : ℕ) (fetched : List Fetched) (before after : FetchingState S) (fits : Bool) (told : List Wire) → fits ≡ false
+  pub answers_nothing : (standing : law.Stage) (message : Message) (count : ℕ) (fetched : List Fetched) (before after : FetchingState S) (fits : Bool) (reported : List Wire) → fits ≡ false
       → IsOwn who before → FetchingStands service count fetched before → AnswerLeads service (restart.fetched_then before.boot before.count message fetched) fits before after
-      → StageGoes service who (fetched_by (node_of who standing) (Fetching count fetched) (Message_comes message)) (StageTurn service (node_of who standing) (Fetching count fetched) (Message_comes message)) (stage.Fetching after) told told
-  answers_nothing standing message count fetched before after fits told unfit own st leads =
+      → StageGoes service who (fetched_by (node_of who standing) (Fetching count fetched) (Message_comes message)) (StageTurn service (node_of who standing) (Fetching count fetched) (Message_comes message)) (stage.Fetching after) reported reported
+  answers_nothing standing message count fetched before after fits reported unfit own st leads =
       go (fetched_then (node_of who standing) message count fetched) (subst (λ o. AnswerLeads service o fits before after) (fetched_same standing message count fetched before own st) leads)
     where
       go : (o : Option (List Fetched)) → AnswerLeads service o fits before after
-          → StageGoes service who (unwrap_or o []) (λ next sent. MatchOption o (Rests (Fetching count fetched) next sent) (λ more. Fetches service (node_of who standing) count more next sent)) (stage.Fetching after) told told
+          → StageGoes service who (unwrap_or o []) (λ next sent. MatchOption o (Rests (Fetching count fetched) next sent) (λ more. Fetches service (node_of who standing) count more next sent)) (stage.Fetching after) reported reported
       go (Some more) (fit, stands) = absurd (true≢false (sym fit ∙ unfit))
       go None (none, is) = record {
         after = Fetching count fetched;
@@ -90,7 +90,7 @@ module _ {S : Type 0} (service : Machine S) (who : Identity) where
         stands = (count, fetched, refl, subst (FetchingStands service count fetched) (sym is) st);
         goes = (refl, refl);
         numbers = tt;
-        wires = sym (append-nil told);
+        wires = sym (append-nil reported);
         spelled = tt;
       }
 
@@ -134,7 +134,7 @@ module _ {S : Type 0} (service : Machine S) (who : Identity) where
       go (Some w) is e p = absurd (true≢false e)
       go None is e p = (
         is,
-        record { told = r.told; put = r.put ∙ ap (λ ws. ws ++ r.told) (p.wires ∙ append-nil old); each = r.each; others = r.others; whose = r.whose; known = r.known },
+        record { reported = r.reported; put = r.put ∙ ap (λ ws. ws ++ r.reported) (p.wires ∙ append-nil old); each = r.each; others = r.others; whose = r.whose; known = r.known },
       )
 
   -- a message that answers nothing changes nothing, and an answer leads on, whatever the entries are
@@ -154,9 +154,9 @@ module _ {S : Type 0} (service : Machine S) (who : Identity) where
       go (Some more) distinct (e, stands) = goes e more (record { so_many = same.so_many ∙ st.so_many; distinct = distinct; entries = stands })
 
   -- a stage's turn by the law is the node's
-  stage_goes : (standing : law.Stage) (input : law.Input) (now : Stage S) (told : List Wire) → is_fenced standing ≡ false → fence (node_of who standing) input ≡ None
-      → StageGoes service who (fetched_by (node_of who standing) standing input) (StageTurn service (node_of who standing) standing input) now [] told → NodeGoes service (node_of who standing) input who now told
-  stage_goes standing input now told live unfenced g = record {
+  stage_goes : (standing : law.Stage) (input : law.Input) (now : Stage S) (reported : List Wire) → is_fenced standing ≡ false → fence (node_of who standing) input ≡ None
+      → StageGoes service who (fetched_by (node_of who standing) standing input) (StageTurn service (node_of who standing) standing input) now [] reported → NodeGoes service (node_of who standing) input who now reported
+  stage_goes standing input now reported live unfenced g = record {
     after = g.after;
     packets = g.packets;
     stands = g.stands;
@@ -174,37 +174,37 @@ module _ {S : Type 0} (service : Machine S) (who : Identity) where
   }
 
   -- a Summary begins the restart
-  pub begins_on : (standing : law.Stage) (message : Message) (count : ℕ) (now : Stage S) (told : List Wire) → message.boot ≡ who.boot → summary_count message.body ≡ Some count
-      → standing ≡ Asking → fence (node_of who standing) (Message_comes message) ≡ None → StageGoes service who [] (Fetches service (node_of who standing) count []) now [] told
-      → NodeGoes service (node_of who standing) (Message_comes message) who now told
-  begins_on standing message count now told boot counts is unfenced g =
-      stage_goes standing (Message_comes message) now told (ap is_fenced is) unfenced
-      (subst (λ s. StageGoes service who (fetched_by (node_of who standing) s (Message_comes message)) (StageTurn service (node_of who standing) s (Message_comes message)) now [] told) (sym is)
-      (subst (λ o. StageGoes service who [] (λ after sent. MatchOption o (Rests Asking after sent) (λ n. Fetches service (node_of who standing) n [] after sent)) now [] told)
+  pub begins_on : (standing : law.Stage) (message : Message) (count : ℕ) (now : Stage S) (reported : List Wire) → message.boot ≡ who.boot → summary_count message.body ≡ Some count
+      → standing ≡ Asking → fence (node_of who standing) (Message_comes message) ≡ None → StageGoes service who [] (Fetches service (node_of who standing) count []) now [] reported
+      → NodeGoes service (node_of who standing) (Message_comes message) who now reported
+  begins_on standing message count now reported boot counts is unfenced g =
+      stage_goes standing (Message_comes message) now reported (ap is_fenced is) unfenced
+      (subst (λ s. StageGoes service who (fetched_by (node_of who standing) s (Message_comes message)) (StageTurn service (node_of who standing) s (Message_comes message)) now [] reported) (sym is)
+      (subst (λ o. StageGoes service who [] (λ after sent. MatchOption o (Rests Asking after sent) (λ n. Fetches service (node_of who standing) n [] after sent)) now [] reported)
       (sym (ap (λ b. if b then summary_count message.body else None) (eq-eqb message.boot who.boot boot) ∙ counts))
       (record { after = g.after; packets = g.packets; stands = g.stands; goes = g.goes; numbers = g.numbers; wires = g.wires; spelled = g.spelled })))
 
   -- an answer leads it on
-  pub answered_on : (standing : law.Stage) (message : Message) (f : FetchingState S) (now : Stage S) (told : List Wire) → fence (node_of who standing) (Message_comes message) ≡ None
+  pub answered_on : (standing : law.Stage) (message : Message) (f : FetchingState S) (now : Stage S) (reported : List Wire) → fence (node_of who standing) (Message_comes message) ≡ None
       → StageStands service (node_of who standing) (stage.Fetching f) → IsSoundInput service (node_of who standing) (Message_comes message) standing
       → ((count : ℕ) (fetched : List Fetched) → FetchingStands service count fetched f → IfSome (fetched_then (node_of who standing) message count fetched) (AreSound service)
-      → StageGoes service who (fetched_by (node_of who standing) (Fetching count fetched) (Message_comes message)) (StageTurn service (node_of who standing) (Fetching count fetched) (Message_comes message)) now [] told)
-      → NodeGoes service (node_of who standing) (Message_comes message) who now told
-  answered_on standing message f now told unfenced (count, fetched, is, st) sound goes =
-      stage_goes standing (Message_comes message) now told (ap is_fenced is) unfenced
-      (subst (λ s. StageGoes service who (fetched_by (node_of who standing) s (Message_comes message)) (StageTurn service (node_of who standing) s (Message_comes message)) now [] told) (sym is)
+      → StageGoes service who (fetched_by (node_of who standing) (Fetching count fetched) (Message_comes message)) (StageTurn service (node_of who standing) (Fetching count fetched) (Message_comes message)) now [] reported)
+      → NodeGoes service (node_of who standing) (Message_comes message) who now reported
+  answered_on standing message f now reported unfenced (count, fetched, is, st) sound goes =
+      stage_goes standing (Message_comes message) now reported (ap is_fenced is) unfenced
+      (subst (λ s. StageGoes service who (fetched_by (node_of who standing) s (Message_comes message)) (StageTurn service (node_of who standing) s (Message_comes message)) now [] reported) (sym is)
       (goes count fetched st (subst (IsSoundInput service (node_of who standing) (Message_comes message)) is sound)))
 
   -- a tick asks again
-  pub ticks_on : (standing : law.Stage) (f : FetchingState S) (told : List Wire) → StageStands service (node_of who standing) (stage.Fetching f)
-      → ((count : ℕ) (fetched : List Fetched) → FetchingStands service count fetched f → ArePut (grammar_in who) (asked (node_of who standing) (wanted count fetched)) [] told)
-      → NodeGoes service (node_of who standing) Tick_comes who (stage.Fetching f) told
-  ticks_on standing f told (count, fetched, is, st) put =
-      fetches_on service who standing Tick_comes count fetched f (asked (node_of who standing) (wanted count fetched)) told is refl st (refl, refl) (put count fetched st)
+  pub ticks_on : (standing : law.Stage) (f : FetchingState S) (reported : List Wire) → StageStands service (node_of who standing) (stage.Fetching f)
+      → ((count : ℕ) (fetched : List Fetched) → FetchingStands service count fetched f → ArePut (grammar_in who) (asked (node_of who standing) (wanted count fetched)) [] reported)
+      → NodeGoes service (node_of who standing) Tick_comes who (stage.Fetching f) reported
+  ticks_on standing f reported (count, fetched, is, st) put =
+      fetches_on service who standing Tick_comes count fetched f (asked (node_of who standing) (wanted count fetched)) reported is refl st (refl, refl) (put count fetched st)
 
   -- a packet is held
-  pub holds_on : (standing : law.Stage) (segment : Segment) (f : FetchingState S) (told : List Wire) → StageStands service (node_of who standing) (stage.Fetching f)
-      → ((count : ℕ) (fetched : List Fetched) → FetchingStands service count fetched f → ArePut (grammar_in who) (held (node_of who standing) fetched segment) [] told)
-      → NodeGoes service (node_of who standing) (Packet_comes segment) who (stage.Fetching f) told
-  holds_on standing segment f told (count, fetched, is, st) put =
-      fetches_on service who standing (Packet_comes segment) count fetched f (held (node_of who standing) fetched segment) told is refl st (refl, refl) (put count fetched st)
+  pub holds_on : (standing : law.Stage) (segment : Segment) (f : FetchingState S) (reported : List Wire) → StageStands service (node_of who standing) (stage.Fetching f)
+      → ((count : ℕ) (fetched : List Fetched) → FetchingStands service count fetched f → ArePut (grammar_in who) (held (node_of who standing) fetched segment) [] reported)
+      → NodeGoes service (node_of who standing) (Packet_comes segment) who (stage.Fetching f) reported
+  holds_on standing segment f reported (count, fetched, is, st) put =
+      fetches_on service who standing (Packet_comes segment) count fetched f (held (node_of who standing) fetched segment) reported is refl st (refl, refl) (put count fetched st)

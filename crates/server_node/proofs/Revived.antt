@@ -22,7 +22,7 @@ use Rattle.node_serving.specs.declared.slot.Slot.{Slot}
 use Rattle.node_serving.specs.Conn.{Begins, ConnGoes, IsOursAt}
 use Rattle.node_serving.specs.Loan.{conn_in}
 use Rattle.node_serving.specs.Slots.{SlotStands}
-use Rattle.server_node.specs.RestartNumbers.{GoesOnUnder}
+use Rattle.server_node.specs.RestartNumbers.{ProceedsUnder}
 use Rattle.server_node.specs.RestartEnd.{SlotRevives}
 
 pub live_again : {S : Type 0} (service : Machine S) (node : Node) (e : Entry) (c now : ConnState S) (old new : List Wire) → c.local ≡ node.server → c.boot ≡ node.boot → e.mss ≤ 1460
@@ -44,9 +44,9 @@ live_again service node e c now old new local boot size before h =
 pub number_spliced : {S : Type 0} (profile : Profile) (service : Machine S) (e : Entry) (i : ℕ) (s : SplicedState S) → IsSplicedIn profile service e i s → s.endpoint.sending.iss ≡ i
 number_spliced profile service e i s is = ⊎_elim (λ standing. sym standing.stands.stands.sends.sisn) (λ closed. closed.counts.iss) is.parts.tcp
 
-pub goes_on_under : {S : Type 0} (profile : Profile) (service : Machine S) (e : Entry) (i : ℕ) (s : SplicedState S) (c now : ConnState S) → IsSplicedIn profile service e i s → c ≡ conn_of s
-    → now.endpoint.sending.iss ≡ c.endpoint.sending.iss → now.south.delta ≡ c.south.delta → GoesOnUnder service e i now
-goes_on_under profile service e i s c now is from number delta = record {
+pub proceeds_under : {S : Type 0} (profile : Profile) (service : Machine S) (e : Entry) (i : ℕ) (s : SplicedState S) (c now : ConnState S) → IsSplicedIn profile service e i s → c ≡ conn_of s
+    → now.endpoint.sending.iss ≡ c.endpoint.sending.iss → now.south.delta ≡ c.south.delta → ProceedsUnder service e i now
+proceeds_under profile service e i s c now is from number delta = record {
   number = number ∙ (ap (λ x. x.endpoint.sending.iss) from ∙ number_spliced profile service e i s is);
   delta = delta ∙ (ap (λ x. x.south.delta) from ∙ ap (λ x. x.delta) is.south);
 }

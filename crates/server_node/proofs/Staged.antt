@@ -51,12 +51,12 @@ module _ {S : Type 0} (service : Machine S) (who : Identity) where
   stand_again a b (e ∷ es) (q ∷ qs) st = (slot_again a b e.0 e.1 q st.0, stand_again a b es qs st.1)
 
   -- a turn while it serves
-  pub serves_on : (standing : law.Stage) (input : law.Input) (was now : Serving S) (told : List Wire) → fence (node_of who standing) input ≡ None
+  pub serves_on : (standing : law.Stage) (input : law.Input) (was now : Serving S) (reported : List Wire) → fence (node_of who standing) input ≡ None
       → StageStands service (node_of who standing) (stage.Serving was)
       → ((opened : ℕ) (places : List law.Place) → standing ≡ law_stage.Serving opened places → ServingStands service (node_of who standing) opened places was
-      → ServingGoes service (node_of who standing) input opened places now [] told)
-      → NodeGoes service (node_of who standing) input who (stage.Serving now) told
-  serves_on standing input was now told unfenced (opened, places, is, st) goes =
+      → ServingGoes service (node_of who standing) input opened places now [] reported)
+      → NodeGoes service (node_of who standing) input who (stage.Serving now) reported
+  serves_on standing input was now reported unfenced (opened, places, is, st) goes =
       let g = goes opened places is st in
       let next = opened + length (newcomers (node_of who standing) input opened places) in
       let after : law.Stage = law_stage.Serving next g.later in record {
@@ -78,10 +78,10 @@ module _ {S : Type 0} (service : Machine S) (who : Identity) where
       }
 
   -- one while it asks for the log
-  pub asks_on : (standing : law.Stage) (input : law.Input) (packets : List Packet) (told : List Wire) → standing ≡ law_stage.Asking → fence (node_of who standing) input ≡ None
-      → StageTurn service (node_of who standing) law_stage.Asking input law_stage.Asking packets → ArePut (grammar_in who) packets [] told
-      → NodeGoes service (node_of who standing) input who stage.Asking told
-  asks_on standing input packets told is unfenced turn put = record {
+  pub asks_on : (standing : law.Stage) (input : law.Input) (packets : List Packet) (reported : List Wire) → standing ≡ law_stage.Asking → fence (node_of who standing) input ≡ None
+      → StageTurn service (node_of who standing) law_stage.Asking input law_stage.Asking packets → ArePut (grammar_in who) packets [] reported
+      → NodeGoes service (node_of who standing) input who stage.Asking reported
+  asks_on standing input packets reported is unfenced turn put = record {
     after = law_stage.Asking;
     packets = packets;
     stands = refl;
@@ -100,11 +100,11 @@ module _ {S : Type 0} (service : Machine S) (who : Identity) where
   }
 
   -- one in which no more is fetched
-  pub fetches_on : (standing : law.Stage) (input : law.Input) (count : ℕ) (fetched : List Fetched) (f : FetchingState S) (packets : List Packet) (told : List Wire)
+  pub fetches_on : (standing : law.Stage) (input : law.Input) (count : ℕ) (fetched : List Fetched) (f : FetchingState S) (packets : List Packet) (reported : List Wire)
       → standing ≡ law_stage.Fetching count fetched → fence (node_of who standing) input ≡ None → FetchingStands service count fetched f
-      → StageTurn service (node_of who standing) (law_stage.Fetching count fetched) input (law_stage.Fetching count fetched) packets → ArePut (grammar_in who) packets [] told
-      → NodeGoes service (node_of who standing) input who (stage.Fetching f) told
-  fetches_on standing input count fetched f packets told is unfenced st turn put =
+      → StageTurn service (node_of who standing) (law_stage.Fetching count fetched) input (law_stage.Fetching count fetched) packets → ArePut (grammar_in who) packets [] reported
+      → NodeGoes service (node_of who standing) input who (stage.Fetching f) reported
+  fetches_on standing input count fetched f packets reported is unfenced st turn put =
       let after : law.Stage = law_stage.Fetching count fetched in record {
         after = after;
         packets = packets;

@@ -10,7 +10,7 @@ use Rattle.server_trait.specs.Service.{Machine}
 use Rattle.seq_arith.specs.declared.kinds.Grammar.{Grammar}
 use Rattle.tcp_rules.specs.Profile.{grammar_of}
 use Rattle.ft_model.specs.Node as law
-use Rattle.ft_model.specs.Lawful.{count_told, summary_count, fetched_then}
+use Rattle.ft_model.specs.Lawful.{count_reported, summary_count, fetched_then}
 use Rattle.ft_model.specs.Network.{source_of}
 use Rattle.ft_model.specs.Node.{Node, is_for}
 use Rattle.ft_model.specs.Restart.{wanted, fetched_after}
@@ -35,17 +35,17 @@ use Rattle.node_serving.proofs.Knocking.{counted_by}
 use Rattle.ft_model.proofs.Lists.{same_key, all_weaker}
 
 module _ {S : Type 0} (service : Machine S) (node : Node) (input : law.Input) (was now : Serving S) (old new : List Wire) (first : old ≡ []) (s : ServesAlone service node input was now old new) where
-  all_told : new ≡ s.told
-  all_told = s.put ∙ ap (λ o. o ++ s.told) first
+  all_reported : new ≡ s.reported
+  all_reported = s.put ∙ ap (λ o. o ++ s.reported) first
 
   pub serving_others : LeavesOthers node input was now new
-  serving_others = subst (LeavesOthers node input was now) (sym all_told) s.others
+  serving_others = subst (LeavesOthers node input was now) (sym all_reported) s.others
 
   pub serving_alone : GoAlone service node input was now new
-  serving_alone = subst (GoAlone service node input was now) (sym all_told) s.alone
+  serving_alone = subst (GoAlone service node input was now) (sym all_reported) s.alone
 
 pub only_for : (grammar : Grammar) (key : Key) (old new : List Wire) → old ≡ [] → IsOnlyFor grammar key old new → AllByRecursion (IsFor grammar key) new
-only_for grammar key old new first put = subst (AllByRecursion (IsFor grammar key)) (sym (put.put ∙ ap (λ o. o ++ put.told) first)) put.alone
+only_for grammar key old new first put = subst (AllByRecursion (IsFor grammar key)) (sym (put.put ∙ ap (λ o. o ++ put.reported) first)) put.alone
 
 -- a packet makes a node that serves send only what is its client's
 pub only_its_senders : {S : Type 0} (node : Node) (segment : Segment) (was : Serving S) (now : Stage S) (sent : List Wire) → Others node (Packet_comes segment) (stage.Serving was) now sent
@@ -148,20 +148,20 @@ module _ {S : Type 0} (service : Machine S) (node : Node) (message : Message) wh
   -- a Summary begins a restart, ..
   pub begun_restarts : (count : ℕ) (now : Stage S) (sent : List Wire) → message.boot ≡ node.boot → summary_count message.body ≡ Some count → RestartGoes service node count [] now [] sent
       → MessageRestarts service node message stage.Asking now sent
-  begun_restarts count now sent boot told goes =
+  begun_restarts count now sent boot reported goes =
       subst (λ o. MatchOption o ((now ≡ stage.Asking) × (sent ≡ [])) (λ n. RestartGoes service node n [] now [] sent))
-      (sym (ap (λ b. if b then summary_count message.body else None) (eq-eqb message.boot node.boot boot) ∙ told)) goes
+      (sym (ap (λ b. if b then summary_count message.body else None) (eq-eqb message.boot node.boot boot) ∙ reported)) goes
 
   -- .. any other message doesn't, ..
-  pub untold_restarts : (sent : List Wire) → message.boot ≡ node.boot → summary_count message.body ≡ None → sent ≡ [] → MessageRestarts service node message stage.Asking stage.Asking sent
-  untold_restarts sent boot untold silent =
-      rests_if_none (count_told node message) stage.Asking stage.Asking sent (λ count. RestartGoes service node count [] stage.Asking [] sent)
-      (ap (λ b. if b then summary_count message.body else None) (eq-eqb message.boot node.boot boot) ∙ untold) refl silent
+  pub unreported_restarts : (sent : List Wire) → message.boot ≡ node.boot → summary_count message.body ≡ None → sent ≡ [] → MessageRestarts service node message stage.Asking stage.Asking sent
+  unreported_restarts sent boot unreported silent =
+      rests_if_none (count_reported node message) stage.Asking stage.Asking sent (λ count. RestartGoes service node count [] stage.Asking [] sent)
+      (ap (λ b. if b then summary_count message.body else None) (eq-eqb message.boot node.boot boot) ∙ unreported) refl silent
 
   -- .. and one of another boot leads no restart on
   pub other_restarts : (at : Stage S) → (message.boot == node.boot) ≡ false → MessageRestarts service node message at at []
   other_restarts stage.Asking other =
-      rests_if_none (count_told node message) stage.Asking stage.Asking [] (λ count. RestartGoes service node count [] stage.Asking [] [])
+      rests_if_none (count_reported node message) stage.Asking stage.Asking [] (λ count. RestartGoes service node count [] stage.Asking [] [])
       (ap (λ b. if b then summary_count message.body else None) other) refl refl
   other_restarts (stage.Fetching f) other = λ count fetched st.
       rests_if_none (fetched_then node message count fetched) (stage.Fetching f) (stage.Fetching f) [] (λ more. RestartGoes service node count more (stage.Fetching f) [] [])

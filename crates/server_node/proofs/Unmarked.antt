@@ -11,9 +11,9 @@ use Rattle.mark_laws.specs.Restart.{awaits_after}
 use Rattle.reincarnate.specs.declared.marks.Marks.{Marks}
 use Rattle.reincarnate.specs.declared.marks.Marks.TheVariants as marks
 use Rattle.reincarnate.specs.Marking.{uses, awaits, marks_after}
-use Rattle.reincarnate.specs.Questions.{FetchingState, asked, any_asked, mark_asked, after_answer, noted, any_heard}
+use Rattle.reincarnate.specs.Questions.{FetchingState, asked, any_asked, mark_asked, after_answer, noted, any_received}
 use Rattle.server_node.specs.FetchStage.{UsesNone, of_log}
-use Rattle.server_node.proofs.FetchAnswer.{IsSame, heard_same}
+use Rattle.server_node.proofs.FetchAnswer.{IsSame, received_same}
 use Rattle.reincarnate.specs.Refinement.{StandsFetching, StandsSoFar, AnswerLeads, AnyLeads, fetched_then}
 
 none_awaited : (code : Marks) → UsesNone code → awaits code ≡ false
@@ -43,10 +43,10 @@ noted_same : {S : Type 0} (s : FetchingState S) (code : Marks) → code ≡ s.ma
 noted_same s code e = ap (λ m. noted m s) e
 
 pub answer_of_log : {S : Type 0} (started : ℕ → S) (after : S → List ℕ → Served S) (greeting : S → List ℕ) (state_of : ℕ → List ℕ → Option S) (message : Message) (s t : FetchingState S) (fits : Bool) → UsesNone s.marks
-    → MatchOption (any_heard started after greeting state_of (Of_log message) s) ((fits ≡ false) × (t ≡ s)) (λ x. (fits ≡ true) × (t ≡ x))
+    → MatchOption (any_received started after greeting state_of (Of_log message) s) ((fits ≡ false) × (t ≡ s)) (λ x. (fits ≡ true) × (t ≡ x))
     → MatchOption (after_answer started after greeting message s) ((fits ≡ false) × (t ≡ s)) (λ x. (fits ≡ true) × (t ≡ x))
 answer_of_log {S} started after greeting state_of message s t fits unused m =
-    go (after_answer started after greeting message s) (heard_same started after greeting message s)
+    go (after_answer started after greeting message s) (received_same started after greeting message s)
     (subst (λ a. MatchOption (if a then None else option_map (noted (marks_after s.marks message.body)) (after_answer started after greeting message s)) ((fits ≡ false) × (t ≡ s))
     (λ x. (fits ≡ true) × (t ≡ x))) (none_awaited s.marks unused) m)
   where

@@ -57,9 +57,9 @@ marked_input_of grammar (input.Message bytes) = input_of (said_by grammar bytes.
 marked_input_of grammar input.Tick = Plain_comes Tick_comes
 
 -- the input for bytes that are no message of the log
-abbrev pub heard_of : Result MarkMessage BadMark → MarkedInput
-heard_of (Ok message) = Mark_comes message
-heard_of (Err bad) = Plain_comes Noise_comes
+abbrev pub received_of : Result MarkMessage BadMark → MarkedInput
+received_of (Ok message) = Mark_comes message
+received_of (Err bad) = Plain_comes Noise_comes
 
 abbrev pub input_of_any : AnyMessage → MarkedInput
 input_of_any (Of_log message) = Plain_comes (Message_comes message)
@@ -113,7 +113,7 @@ IsUnfencedMarked node (Plain_comes i) = fence node.plain i ≡ None
 IsUnfencedMarked node (Mark_comes message) = Unit {0}
 
 -- the node corresponds to a state to which this law leads, having restored these entries if it serves then, and sends what the law says
-pub record GoesOn {S : Type 0} (by : Marker S) (who : Identity) (restored : List Fetched) (Goes : List Outgoing → MarkedNode
+pub record Proceeds {S : Type 0} (by : Marker S) (who : Identity) (restored : List Fetched) (Goes : List Outgoing → MarkedNode
     → Type 0) (now : Marked S) (lent : List Wire) : Type 0 where
   pub standing : law_stage
   pub awaits : Bool
@@ -127,11 +127,11 @@ pub record GoesOn {S : Type 0} (by : Marker S) (who : Identity) (restored : List
 -- .. by the law of this input, or of what is fetched so far
 abbrev pub TurnsOn : {S : Type 0} → Marker S → Identity → (bytes lengths : List ℕ) → MarkedNode → MarkedInput → (now : Marked S) → (lent : List Wire) → Type 0
 TurnsOn by who bytes lengths node i now lent =
-    GoesOn by who (fetched_by_marked by bytes lengths node node.plain.stage i) (InputTurn by bytes lengths node i) now lent
+    Proceeds by who (fetched_by_marked by bytes lengths node node.plain.stage i) (InputTurn by bytes lengths node i) now lent
 
 abbrev pub FetchesOn : {S : Type 0} → Marker S → Identity → MarkedNode → (count : ℕ) → FetchedSoFar → (Key → Marking) → (now : Marked S)
     → (lent : List Wire) → Type 0
-FetchesOn by who node count so_far marking now lent = GoesOn by who so_far.entries (FetchesMarked by node count so_far marking) now lent
+FetchesOn by who node count so_far marking now lent = Proceeds by who so_far.entries (FetchesMarked by node count so_far marking) now lent
 
 -- what is stored of the marks once a message is taken
 abbrev pub marking_noted : MarkBody → KeyMarks → KeyMarks → Type 0
@@ -166,7 +166,7 @@ module _ {S : Type 0} (s : Ghosts S) (v : Saving S) (who : Identity) where
       → TurnsOn (marker_of s v who every) who bytes lengths (node_at who standing awaits marking) i now sent
 
   abbrev pub BytesTurnMarked : Result MarkMessage BadMark → (was now : Marked S) → (sent : List Wire) → Type 0
-  BytesTurnMarked read was now sent = MarkedTurns (heard_of read) was now sent
+  BytesTurnMarked read was now sent = MarkedTurns (received_of read) was now sent
 
   -- what is missing is asked for. Once nothing is, the log is restored
   abbrev pub FetchesOnMarked : (was : FetchingState S) → KeyMarks → (now : Marked S) → (sent : List Wire) → Type 0

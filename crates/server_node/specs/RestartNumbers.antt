@@ -20,13 +20,13 @@ use Rattle.node_serving.specs.Loan.{conn_in}
 
 -- the inner TCP has this initial sequence number i, and delta is the difference from it to the number that the client knows for the unit of output at which
 -- the entry continues: sisn + u - i, modulo 2^32
-pub record GoesOnUnder {S : Type 0} (service : Machine S) (e : Entry) (i : ℕ) (c : ConnState S) : Type 0 where
+pub record ProceedsUnder {S : Type 0} (service : Machine S) (e : Entry) (i : ℕ) (c : ConnState S) : Type 0 where
   pub number : c.endpoint.sending.iss ≡ i
   pub delta : c.south.delta ≡ delta_from service e i
 
 -- there is a connection, and it continues so
 abbrev pub IsNumbered : {S : Type 0} → Machine S → Entry → (i : ℕ) → Option (ConnState S) → Type 0
-IsNumbered service e i (Some c) = GoesOnUnder service e i c
+IsNumbered service e i (Some c) = ProceedsUnder service e i c
 IsNumbered service e i None = ⊥
 
 -- of these entries, the newest first, each that isn't done continues with the next initial sequence number after those of the earlier ones

@@ -6,7 +6,7 @@ use Rattle.seq_arith.specs.declared.kinds.Grammar.{Grammar}
 use Rattle.seq_arith.specs.Message.{Message}
 use Rattle.server_trait.specs.Service.{Machine}
 use Rattle.tcp_rules.specs.Profile.{grammar_of}
-use Rattle.ft_model.specs.Lawful.{Revives, restored, asked, count_told, fetched_then}
+use Rattle.ft_model.specs.Lawful.{Revives, restored, asked, count_reported, fetched_then}
 use Rattle.ft_model.specs.Network.{Packet}
 use Rattle.ft_model.specs.Node.{Node, Place, Input}
 use Rattle.ft_model.specs.Node.Input.{Packet_comes, Message_comes, Noise_comes, Tick_comes}
@@ -43,11 +43,11 @@ IsForFetched grammar fetched wire = (key : Key) × (is_fetched key fetched ≡ t
 
 -- these entries have had their first turn, each by itself, and no other key has a slot or a packet. The node knows the clients of these entries
 pub record RestoredAlone {S : Type 0} (service : Machine S) (node : Node) (fetched : List Fetched) (now : Serving S) (old new : List Wire) : Type 0 where
-  pub told : List Wire
-  pub put : new ≡ old ++ told
-  pub each : AllByRecursion (λ f. IsRestorable service f → KeyRevives service node f (slot_of f.head.key now) told) fetched
+  pub reported : List Wire
+  pub put : new ≡ old ++ reported
+  pub each : AllByRecursion (λ f. IsRestorable service f → KeyRevives service node f (slot_of f.head.key now) reported) fetched
   pub others : (key : Key) → is_fetched key fetched ≡ false → slot_of key now ≡ None
-  pub whose : AllByRecursion (IsForFetched (grammar_of node.profile) fetched) told
+  pub whose : AllByRecursion (IsForFetched (grammar_of node.profile) fetched) reported
   pub known : Knows node (clients_restored fetched) now
 
 -- the restart asks for what is missing next
@@ -72,7 +72,7 @@ AnswerGoes service node message count fetched f now old new =
 -- a message, while the logger is asked how many entries it has, or while those are fetched
 abbrev pub MessageRestarts : {S : Type 0} → Machine S → Node → Message → (was now : Stage S) → List Wire → Type 0
 MessageRestarts service node message stage.Asking now sent =
-    MatchOption (count_told node message) ((now ≡ stage.Asking) × (sent ≡ [])) (λ count. RestartGoes service node count [] now [] sent)
+    MatchOption (count_reported node message) ((now ≡ stage.Asking) × (sent ≡ [])) (λ count. RestartGoes service node count [] now [] sent)
 MessageRestarts service node message (stage.Fetching f) now sent =
     (count : ℕ) (fetched : List Fetched) → FetchingStands service count fetched f → AnswerGoes service node message count fetched f now [] sent
 MessageRestarts service node message (stage.Serving s) now sent = Unit {0}

@@ -14,7 +14,7 @@ ghost use Rattle.node_serving.specs.Alone.{slot_of, StandsFor};
 ghost use Rattle.server_node.specs.StageAlone.{slot_in};
 ghost use Rattle.node_serving.specs.Conn.{IsOursAt};
 ghost use Rattle.node_serving.specs.Loan.{place_in};
-ghost use Rattle.node_serving.specs.LentConn.{TellsItsPoint};
+ghost use Rattle.node_serving.specs.LentConn.{ReportsItsPoint};
 ghost use Rattle.server_node.specs.Runs.{Turned, AreTurns, AreNearFor, RunsAlone};
 ghost use Rattle.server_node.specs.Stages.{StageStands};
 
@@ -23,9 +23,9 @@ use server_trait::Service;
 /// The connection that `Node::conn` returns shows its point. `inside` returns the point's numbers, and the south wrapper's delta and stable number and the
 /// north wrapper's counts agree with it. Until the connection is over or reset, its TCP is neither CLOSED nor reset, and its SND.NXT and SND.UNA are the
 /// point's, each minus delta.
-pub fn lent_connections_tell_their_point<S: Service>()
+pub fn lent_connections_show_their_point<S: Service>()
     ensures { (fresh : S) (server : Addr) (boot : ℕ) (p : Point) (c : ConnState S) → IsSound c → IsOursAt (machine fresh S.after S.greeting) server boot c p
-        → TellsItsPoint (machine fresh S.after S.greeting) p c }
+        → ReportsItsPoint (machine fresh S.after S.greeting) p c }
 {}
 
 /// If a node corresponds to the model's, so does each key: its slot corresponds to its place there, or it has neither slot nor place.

@@ -24,7 +24,7 @@ ghost use Rattle.mark_laws.specs.MarkedNode.{Marker, MarkedNode, outgoing};
 ghost use Rattle.node_serving.specs.Markers.{saving};
 ghost use Rattle.conn_marks.specs.MarkSends.{AreOut};
 ghost use Rattle.server_node.specs.MarkedApart.{MarkedTurnsApart};
-ghost use Rattle.server_node.specs.MarkedTurns.{heard_of, MarkedTurns, MarkedStands, BytesTurnMarked, FetchesOnMarked, Notes, SendsQuestion};
+ghost use Rattle.server_node.specs.MarkedTurns.{received_of, MarkedTurns, MarkedStands, BytesTurnMarked, FetchesOnMarked, Notes, SendsQuestion};
 ghost use Rattle.server_node.specs.MarkedTurns.{IsPartBytes, input_of_any};
 ghost use Rattle.server_node.specs.StageTurns.{IsUnfenced};
 
@@ -194,7 +194,7 @@ pub(crate) fn receive_bytes<S: Saved>(
     requires empty { turn.old.sent.items ≡ [] }
     ensures turn { IfOk result (λ after. BytesTurnMarked S.Service (saving S.form S.state_of S.is_savable) who
         (mark_reading bytes.now) node after turn.new.sent.items) }
-    ensures apart { IfOk result (λ after. MarkedTurnsApart S.Service who (heard_of (mark_reading bytes.now)) node after turn.new.sent.items) }
+    ensures apart { IfOk result (λ after. MarkedTurnsApart S.Service who (received_of (mark_reading bytes.now)) node after turn.new.sent.items) }
     ensures sound { IfOk result (λ after. IsSoundMarked who after) }
 {
     apart_in(&node.stage);

@@ -20,7 +20,7 @@ use server_trait::Saved;
 use std::mem;
 
 /// Handles a message that the codec has read. A Stale of this boot that names a larger boot number ends the node.
-fn hear<S: Saved>(
+fn receive<S: Saved>(
     who: Identity,
     serving: &mut Serving<S>,
     m: &Msg<'_>,
@@ -81,7 +81,7 @@ fn serve<S: Saved>(
             Err(_) => Ok(()),
         },
         Input::Message(bytes) => match read_message(who, bytes) {
-            Ok(m) => hear(who, serving, &m, turn),
+            Ok(m) => receive(who, serving, &m, turn),
             Err(_) => Ok(()),
         },
     }

@@ -7,7 +7,7 @@ ghost use Rattle.seq_arith.specs.MessageGrammar.{reading_by};
 ghost use Rattle.segment_codec.specs.Value.{segment_of};
 ghost use Rattle.server_trait.specs.Service.{Machine};
 ghost use Rattle.logger_wire.specs.Value.{body_of, message_of, seen, IsSendableBy};
-ghost use Rattle.ft_model.specs.Connection.{told_by};
+ghost use Rattle.ft_model.specs.Connection.{reported_by};
 ghost use Rattle.ft_model.specs.Node.{Node, Stage as Standing};
 ghost use Rattle.ft_model.specs.Node.Input.{Packet_comes, Message_comes, Tick_comes};
 ghost use Rattle.ft_model.specs.Lawful.{fence, newer_than, summary_count};
@@ -23,7 +23,7 @@ ghost use Rattle.conn_marks.specs.KeyMarks.{every_for};
 ghost use Rattle.mark_laws.specs.MarkedNode.{Marker, MarkedNode};
 ghost use Rattle.mark_laws.specs.MarkedNode.MarkedInput.{Plain_comes};
 ghost use Rattle.node_serving.specs.Markers.{saving};
-ghost use Rattle.server_node.specs.MarkedTurns.{IsTurnMarked, NodeStandsAt, HasSlotsApart, marked_input_of, heard_of};
+ghost use Rattle.server_node.specs.MarkedTurns.{IsTurnMarked, NodeStandsAt, HasSlotsApart, marked_input_of, received_of};
 ghost use Rattle.server_node.specs.RestartTurns.{SummaryRestarts};
 ghost use Rattle.node_serving.specs.Turns.{Sends};
 ghost use Rattle.server_node.specs.StageTurns.{StageTurns, IsUnfenced, IsFenceOf};
@@ -80,7 +80,7 @@ impl<S: Saved> Stage<S> {
 /// Asks the logger how many entries it has.
 pub(crate) fn send_hello(who: Identity, turn: &mut Turn) -> Result<(), NoMemory>
     requires { 1 ≤ who.boot }
-    ensures { OnOk result (Sends (grammar_in who) (told_by who.boot HelloMsg ∷ []) turn.old turn.new) }
+    ensures { OnOk result (Sends (grammar_in who) (reported_by who.boot HelloMsg ∷ []) turn.old turn.new) }
 {
     let message = Msg {
         boot: who.boot,
@@ -246,7 +246,7 @@ fn receive_about_mark<S: Saved>(
     requires empty { turn.old.sent.items ≡ [] }
     ensures plain { IfOk result (λ after. is_marked stage ≡ false → (after ≡ stage) × (turn.new.sent.items ≡ turn.old.sent.items)) }
     ensures marked { IfOk result (λ after. IsTurnMarked S.Service (saving S.form S.state_of S.is_savable) who
-        (heard_of (mark_reading bytes.now)) stage after turn.new.sent.items) }
+        (received_of (mark_reading bytes.now)) stage after turn.new.sent.items) }
     ensures sound { IfOk result (λ after. IsSoundStage who after) }
 {
     match stage {

@@ -80,7 +80,7 @@ nth (suc n) (packet ∷ packets) = nth n packets
 -- what happens
 happens_11 : Follows first.moment_10 first.moment_11
 unfolding laws IsLe
-happens_11 = record { client = first.open_client; segment = segment_in first.packet_8; later = first.told_client; is_there = refl; move = record { move = Text 0 5; window = 65535; may = refl; fits = refl; timestamps = None; carries = refl; segment_is = refl; after_is = refl }; sent_is = refl; after_is = refl }
+happens_11 = record { client = first.open_client; segment = segment_in first.packet_8; later = first.reported_client; is_there = refl; move = record { move = Text 0 5; window = 65535; may = refl; fits = refl; timestamps = None; carries = refl; segment_is = refl; after_is = refl }; sent_is = refl; after_is = refl }
 
 happens_12 : Follows first.moment_11 first.moment_12
 unfolding laws IsLe
@@ -140,7 +140,7 @@ happens_25 = (nth 0 run.moment_24.sent, refl, (refl, refl))
 
 happens_26 : Follows run.moment_25 run.moment_26
 unfolding laws IsLe
-happens_26 = record { client = run.heard; segment = turn.room; later = run.heard; is_there = refl; move = record { move = Acknowledge; window = 65535; may = refl; fits = refl; timestamps = None; carries = refl; segment_is = refl; after_is = refl }; sent_is = refl; after_is = refl }
+happens_26 = record { client = run.receipt; segment = turn.room; later = run.receipt; is_there = refl; move = record { move = Acknowledge; window = 65535; may = refl; fits = refl; timestamps = None; carries = refl; segment_is = refl; after_is = refl }; sent_is = refl; after_is = refl }
 
 happens_27 : Follows run.moment_26 run.moment_27
 unfolding laws IsLe
@@ -166,7 +166,7 @@ allowed_11 : IsAllowed first.moment_10.world first.moment_11
 allowed_11 = record { allowed = refl; scripted = scripted first.moment_10.world first.moment_11.event first.open_client (Text 0 5) 1 first.moment_11.world refl refl refl }
 
 allowed_26 : IsAllowed run.moment_25.world run.moment_26
-allowed_26 = record { allowed = refl; scripted = scripted run.moment_25.world run.moment_26.event run.heard Acknowledge 1 run.moment_26.world refl refl refl }
+allowed_26 = record { allowed = refl; scripted = scripted run.moment_25.world run.moment_26.event run.receipt Acknowledge 1 run.moment_26.world refl refl refl }
 
 allowed_29 : IsAllowed run.moment_28.world run.moment_29
 allowed_29 = record { allowed = refl; scripted = scripted run.moment_28.world run.moment_29.event run.echoed Acknowledge 1 run.moment_29.world refl refl refl }

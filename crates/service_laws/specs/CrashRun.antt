@@ -11,7 +11,7 @@ use Rattle.ft_model.specs.Node.{booted}
 use Rattle.ft_model.specs.Network.Packet.{To_server}
 use Rattle.ft_model.specs.World.{Moment}
 use Rattle.ft_model.specs.WorkedRuns.Common.{server, key, hello_text, client_segment, to_log, from_log, kept_with, part_with, serving_at}
-use Rattle.ft_model.specs.WorkedRuns.FirstPath.{moment, log_with, read_entry, told_client, moment_11, moment_12, moment_13, opening_trace}
+use Rattle.ft_model.specs.WorkedRuns.FirstPath.{moment, log_with, read_entry, reported_client, moment_11, moment_12, moment_13, opening_trace}
 use Rattle.ft_model.specs.WorkedRuns.CrashAfterLogged.{room, restart_5}
 use Rattle.ft_model.specs.WorkedRuns.RestartFromHello.{head, acknowledged, asks_entry, asks_lengths, asks_bytes, serves_again}
 use Rattle.ft_model.specs.declared.event.Event.TheVariants.{Boot, Crash, Deliver, Begin, Send, Ack}
@@ -38,11 +38,11 @@ abbrev pub second_log : Log
 second_log = record (log_with (read_entry ∷ [])) { boot = 2 }
 
 -- the client once its text is acknowledged, once it has the echo, and once it has acknowledged that
-abbrev pub heard : Client
-heard = record told_client { acknowledged = 5 }
+abbrev pub receipt : Client
+receipt = record reported_client { acknowledged = 5 }
 
 abbrev pub echoed : Client
-echoed = record heard { accepted = hello_text }
+echoed = record receipt { accepted = hello_text }
 
 abbrev pub served : Client
 served = record echoed { edge = 65540 }
@@ -88,7 +88,7 @@ abbrev pub moment_24 : Moment
 moment_24 = moment (Deliver 21) serves_again.sent (record moment_23.world { node = Some serves_again.node })
 
 abbrev pub moment_25 : Moment
-moment_25 = moment (Deliver 22) [] (record moment_24.world { clients = heard ∷ [] })
+moment_25 = moment (Deliver 22) [] (record moment_24.world { clients = receipt ∷ [] })
 
 -- the client advertises room, and the output is sent
 abbrev pub moment_26 : Moment

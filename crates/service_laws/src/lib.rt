@@ -14,5 +14,5 @@ ghost use Rattle.service_laws.specs.CrashRun;
 pub fn crash_run_is_legal()
     ensures legal { Legal any_machine CrashRun.schedule CrashRun.trace }
     ensures served { (world_after (start_of CrashRun.schedule) CrashRun.trace).clients ≡ CrashRun.served ∷ [] }
-    ensures told { report CrashRun.schedule CrashRun.trace ≡ concat CrashRun.report_lines }
+    ensures reported { report CrashRun.schedule CrashRun.trace ≡ concat CrashRun.report_lines }
 {}

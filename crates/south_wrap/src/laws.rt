@@ -13,7 +13,7 @@ ghost use Rattle.south_wrap.specs.Translation.{repeats_syn, copied, is_timely, w
 ghost use Rattle.south_wrap.specs.SouthPoint.{south_at};
 
 /// It acknowledges and advertises what the laws Acknowledgement and Window say.
-pub fn it_tells_what_the_laws_say()
+pub fn it_reports_what_the_laws_say()
     ensures acknowledgement { (delta : ℕ) (p : Point) → acknowledged (south_at delta p) ≡ acknowledgement p }
     ensures window { (delta : ℕ) (p : Point) → window (south_at delta p) ≡ window_by_law p }
 {}
@@ -37,7 +37,7 @@ pub fn it_knows_what_was_never_sent()
 {}
 
 /// What is known to be logged rises as the law Answered says.
-pub fn it_hears_what_is_logged()
+pub fn it_receives_what_is_logged()
     ensures { (delta : ℕ) (p : Point) (units : ℕ) → with_stable units (south_at delta p) ≡ south_at delta (record p { answered = max p.answered units }) }
 {}
 

@@ -48,10 +48,10 @@ impl South {
         if has(head.flags, RST) {
             return false;
         }
-        let told = self.ack_now();
+        let reported = self.ack_now();
         change_seq(packet, head.seq.add(self.delta()));
-        change_ack(packet, told.ack);
-        change_window(packet, told.window);
+        change_ack(packet, reported.ack);
+        change_window(packet, reported.window);
         true
     }
 }

@@ -208,9 +208,9 @@ impl South {
         requires { length ≤ longest_stream }
         ensures state { self.new ≡ with_stable (length + one_if fin) self.old }
         ensures none { IfNone result (length + one_if fin ≤ self.old.answered) }
-        ensures some { IfSome result (λ told. self.old.answered < length + one_if fin) }
-        ensures ack { IfSome result (λ told. told.ack.0 ≡ number_at self.new.cisn (acknowledged self.new)) }
-        ensures window { IfSome result (λ told. told.window ≡ window self.new) }
+        ensures some { IfSome result (λ reported. self.old.answered < length + one_if fin) }
+        ensures ack { IfSome result (λ reported. reported.ack.0 ≡ number_at self.new.cisn (acknowledged self.new)) }
+        ensures window { IfSome result (λ reported. reported.window ≡ window self.new) }
     {
         let units = length + u32::from(fin);
         if units <= self.answered {

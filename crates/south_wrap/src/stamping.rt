@@ -77,11 +77,11 @@ impl South {
     fn outward_head(&self, head: &Head) -> Head
         ensures { (payload : List ℕ) → record { head = said result; payload = payload } ≡ outward self.now (record { head = said head.now; payload = payload }) }
     {
-        let told = self.ack_now();
+        let reported = self.ack_now();
         Head {
             seq: head.seq.add(self.delta()),
-            ack: told.ack,
-            window: told.window,
+            ack: reported.ack,
+            window: reported.window,
             timestamps: self.carried(head.timestamps),
             ..*head
         }

@@ -1,4 +1,4 @@
-pub mod NumbersTell
+pub mod NumbersShow
 pub mod Outstanding
 pub mod Overwrites
 pub mod Marked

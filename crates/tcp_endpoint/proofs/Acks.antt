@@ -13,7 +13,7 @@ use Rattle.tcp_buffers.specs.declared.send_state.AckKind.TheVariants.{New, Old, 
 use Rattle.tcp_buffers.specs.declared.send_state.SendState.{SendState}
 use Rattle.tcp_buffers.specs.SendNumbers.{acks_new, acks_beyond, kind_of, una_by, interval_by, left_by, is_window_used, edge_of, congestion_of, congestion_by, segment_of, IsUsed}
 use Rattle.tcp_buffers.specs.Near.{is_ahead}
-use Rattle.tcp_buffers.proofs.NumbersTell.{ahead_is, WasSent, sent_by, from_is, up_to_is, new_is}
+use Rattle.tcp_buffers.proofs.NumbersShow.{ahead_is, WasSent, sent_by, from_is, up_to_is, new_is}
 use Rattle.tcp_endpoint.specs.SendHalf.{Sending, own, sending_of, moves_edge, acknowledged, units_of, was_sent, repeats, acks_part, is_duplicate, is_third_duplicate, is_partial_ack, shows_loss, duplicated, untimed_if, answered_by, NumbersFit, IsShort}
 use Rattle.tcp_endpoint.specs.SendHalf.{timing_by, interval_computed, rest_computed, restarted}
 use Rattle.ft_io.proofs.Booleans.{left_true, and_when, second_of_three, first_of_three, second_of_four}

@@ -45,6 +45,6 @@ delayed_leaves e =
 pub delayed_ends : (e : Tcb) → flushed (with_ack_delayed e) ≡ flushed e
 unfolding flushed with_turn_ended with_advertised after_full with_timed with_probe with_text_sent with_fin_out with_ack_delayed
 delayed_ends e =
-    ap₂ (λ told edge. record (flushed e) { last_ack_sent = told; last_advertised_edge = edge })
+    ap₂ (λ reported edge. record (flushed e) { last_ack_sent = reported; last_advertised_edge = edge })
     (noted_once (has_begun e.name) (next e.receiving) e.last_ack_sent)
     (noted_once (has_begun e.name) (advertised_edge e.receiving) e.last_advertised_edge)

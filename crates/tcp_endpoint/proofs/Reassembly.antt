@@ -213,9 +213,9 @@ pub text_ends : (v r : Receiving) (first : ℤ) (text : List ℕ) (q : Queue) �
     → Makes r first text false (record v { unread = q.unread; early = record { text = q.early; fin = None }; fin = true })
 text_ends v r first text q same k p t = makes v r _ first text false same k (with_held_fin v first text q p.is p.queue t)
 
-pub text_goes_on : (v r : Receiving) (first : ℤ) (text : List ℕ) (q : Queue) → v ≡ r → KeepsOf v → IsPut v first text q → stands_at (v.read + length q.unread) v.early.fin ≡ false
+pub text_proceeds : (v r : Receiving) (first : ℤ) (text : List ℕ) (q : Queue) → v ≡ r → KeepsOf v → IsPut v first text q → stands_at (v.read + length q.unread) v.early.fin ≡ false
     → Makes r first text false (record v { unread = q.unread; early = record v.early { text = q.early } })
-text_goes_on v r first text q same k p t = makes v r _ first text false same k (without_held_fin v first text q p.is p.queue t)
+text_proceeds v r first text q same k p t = makes v r _ first text false same k (without_held_fin v first text q p.is p.queue t)
 
 -- a FIN that isn't taken or held changes nothing, ..
 not_standing : (held : Option ℕ) (n edge : ℕ) (places : List (Option ℕ))

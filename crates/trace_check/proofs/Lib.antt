@@ -6,6 +6,6 @@ pub mod AfterLines
 pub mod JudgedTurns
 pub mod ManyLines
 pub mod SentLines
-pub mod ToldTurns
+pub mod ReportedTurns
 pub mod TurnWalk
 pub mod WalkEnds

@@ -14,7 +14,7 @@ use Rattle.report_laws.specs.Transitions.{IsPacketLine, clients_in}
 use Rattle.report_laws.specs.Transitions.Position.{InTurn}
 use Rattle.report_laws.proofs.Accepted.{lines_more}
 use Rattle.trace_check.specs.Leads.{Leads}
-use Rattle.trace_check.specs.Turn.{TellsPackets, EndsTurn, with_events}
+use Rattle.trace_check.specs.Turn.{ReportsPackets, EndsTurn, with_events}
 use Rattle.trace_check.proofs.HeaderLines.{leads_on, front_grows}
 use Rattle.trace_check.proofs.TextLines.{nothing_after}
 
@@ -29,14 +29,14 @@ with_other_events schedule events n packet line is = record { readable = is.read
 
 module _ {State : Type 0} (service : ℕ → Machine State) where
   pub turn_begins : (text : List ℕ) (schedule : Schedule) (trace : List Moment) (event : Event) (at lines : ℕ) → at ≤ length text
-      → Leads service text (InTurn schedule trace event []) (drop at text) lines → TellsPackets service text schedule trace event at at lines 0
+      → Leads service text (InTurn schedule trace event []) (drop at text) lines → ReportsPackets service text schedule trace event at at lines 0
   turn_begins text schedule trace event at lines within l =
       let size : length (take at text) ≡ at = length-take-le at text within in
-      record { sent = []; count_is = refl; told = drop_all at (take at text) (omega (arith, size)); leads = l }
+      record { sent = []; count_is = refl; reported = drop_all at (take at text) (omega (arith, size)); leads = l }
 
   pub turn_grows : (text : List ℕ) (schedule : Schedule) (trace : List Moment) (event : Event) (packet : Packet) (from at end lines count : ℕ) → from ≤ at → at < end → end ≤ length text
       → lines_in (drop at text) ≡ drop at (take end text) ∷ lines_in (drop end text) → IsPacketLine schedule (packet_count trace + count + 1) packet (drop at (take end text))
-      → TellsPackets service text schedule trace event from at lines count → TellsPackets service text schedule trace event from end (lines + 1) (count + 1)
+      → ReportsPackets service text schedule trace event from at lines count → ReportsPackets service text schedule trace event from end (lines + 1) (count + 1)
   turn_grows text schedule trace event packet from at end lines count first more within cut is t =
       let clients : List Client = clients_in schedule in
       let n : ℕ = packet_count trace in
@@ -49,35 +49,35 @@ module _ {State : Type 0} (service : ℕ → Machine State) where
       record {
         sent = t.sent ++ packet ∷ [];
         count_is = omega (arith, longer, same);
-        told = between_grows text from at end first (omega (arith, more)) within ∙ (ap₂ ◌++◌ t.told last ∙ sym (lines_more clients (n + 1) t.sent packet));
+        reported = between_grows text from at end first (omega (arith, more)) within ∙ (ap₂ ◌++◌ t.reported last ∙ sym (lines_more clients (n + 1) t.sent packet));
         leads = leads_on service text (drop at (take end text)) (drop at text) (drop end text) (InTurn schedule trace event t.sent) (InTurn schedule trace event (t.sent ++ packet ∷ [])) lines
             t.leads cut (inl (packet, (drop at (take end text), refl, here), refl));
       }
 
   -- the same, for every trace that the packets told so far may be of
-  pub all_begin : (text : List ℕ) (schedule : Schedule) (at told : ℕ) → at ≤ length text → (events : List Event) (trace : List Moment) (event : Event) (lines : ℕ) → packet_count trace ≡ told
+  pub all_begin : (text : List ℕ) (schedule : Schedule) (at reported : ℕ) → at ≤ length text → (events : List Event) (trace : List Moment) (event : Event) (lines : ℕ) → packet_count trace ≡ reported
       → Leads service text (InTurn (with_events schedule events) trace event []) (drop at text) lines
-      → TellsPackets service text (with_events schedule events) trace event at at (lines + 0) 0
-  all_begin text schedule at told within events trace event lines e l =
+      → ReportsPackets service text (with_events schedule events) trace event at at (lines + 0) 0
+  all_begin text schedule at reported within events trace event lines e l =
       let same : lines ≡ lines + 0 = omega arith in
-      subst (λ k. TellsPackets service text (with_events schedule events) trace event at at k 0) same (turn_begins text (with_events schedule events) trace event at lines within l)
+      subst (λ k. ReportsPackets service text (with_events schedule events) trace event at at k 0) same (turn_begins text (with_events schedule events) trace event at lines within l)
 
-  pub all_grow : (text : List ℕ) (schedule : Schedule) (from at end told count : ℕ) (test : Bool) → from ≤ at → at < end → end ≤ length text
+  pub all_grow : (text : List ℕ) (schedule : Schedule) (from at end reported count : ℕ) (test : Bool) → from ≤ at → at < end → end ≤ length text
       → lines_in (drop at text) ≡ drop at (take end text) ∷ lines_in (drop end text)
-      → (IsTrue test ↔ ((packet : Packet) × IsPacketLine schedule (told + count + 1) packet (drop at (take end text)))) → test ≡ true
-      → ((events : List Event) (trace : List Moment) (event : Event) (lines : ℕ) → packet_count trace ≡ told
+      → (IsTrue test ↔ ((packet : Packet) × IsPacketLine schedule (reported + count + 1) packet (drop at (take end text)))) → test ≡ true
+      → ((events : List Event) (trace : List Moment) (event : Event) (lines : ℕ) → packet_count trace ≡ reported
       → Leads service text (InTurn (with_events schedule events) trace event []) (drop from text) lines
-      → TellsPackets service text (with_events schedule events) trace event from at (lines + count) count)
-      → (events : List Event) (trace : List Moment) (event : Event) (lines : ℕ) → packet_count trace ≡ told
+      → ReportsPackets service text (with_events schedule events) trace event from at (lines + count) count)
+      → (events : List Event) (trace : List Moment) (event : Event) (lines : ℕ) → packet_count trace ≡ reported
       → Leads service text (InTurn (with_events schedule events) trace event []) (drop from text) lines
-      → TellsPackets service text (with_events schedule events) trace event from end (lines + (count + 1)) (count + 1)
-  all_grow text schedule from at end told count test first more within cut iff true_so so_far events trace event lines e l =
-      let found : (packet : Packet) × IsPacketLine schedule (told + count + 1) packet (drop at (take end text)) = iff.0 true_so in
+      → ReportsPackets service text (with_events schedule events) trace event from end (lines + (count + 1)) (count + 1)
+  all_grow text schedule from at end reported count test first more within cut iff true_so so_far events trace event lines e l =
+      let found : (packet : Packet) × IsPacketLine schedule (reported + count + 1) packet (drop at (take end text)) = iff.0 true_so in
       let here : IsPacketLine (with_events schedule events) (packet_count trace + count + 1) found.0 (drop at (take end text)) =
       with_other_events schedule events (packet_count trace + count + 1) found.0 (drop at (take end text))
       (subst (λ k. IsPacketLine schedule (k + count + 1) found.0 (drop at (take end text))) (sym e) found.1) in
       let same : (lines + count) + 1 ≡ lines + (count + 1) = omega arith in
-      subst (λ k. TellsPackets service text (with_events schedule events) trace event from end k (count + 1)) same
+      subst (λ k. ReportsPackets service text (with_events schedule events) trace event from end k (count + 1)) same
       (turn_grows text (with_events schedule events) trace event found.0 from at end (lines + count) count first more within cut here (so_far events trace event lines e l))
 
 pub few_packets : (schedule : Schedule) (n : ℕ) (line : List ℕ) (test : Bool) → (IsTrue test ↔ ((packet : Packet) × IsPacketLine schedule n packet line)) → test ≡ true → n ≤ 200000

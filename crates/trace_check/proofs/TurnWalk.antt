@@ -46,7 +46,7 @@ use Rattle.trace_check.specs.declared.walk.Place.{Place}
 use Rattle.trace_check.specs.After.{ReadsEvent, is_refused}
 use Rattle.trace_check.specs.Leads.{Leads}
 use Rattle.trace_check.specs.SentLines.{actor_along}
-use Rattle.trace_check.specs.Turn.{AreSent, EndsTurn, IsChecked, TellsPackets, TellsTurn, with_events}
+use Rattle.trace_check.specs.Turn.{AreSent, EndsTurn, IsChecked, ReportsPackets, ReportsTurn, with_events}
 use Rattle.trace_check.specs.Walk.{IsPlayed, IsWalked}
 use Rattle.trace_check.proofs.HeaderLines.{front_grows, leads_on}
 use Rattle.trace_check.proofs.JudgedTurns.{legal_turn_leads, other_turn_decides}
@@ -177,19 +177,19 @@ module _ {State : Type 0} (service : ℕ → Machine State) where
       → take from text ≡ report_with_turn (schedule_through schedule (moment ∷ trace)) trace moment.event []
       → drop from (take end text) ≡ packet_lines (clients_in schedule) (packet_count trace + 1) moment.sent
       → take end text ≡ report_so_far (schedule_through schedule (moment ∷ trace)) (moment ∷ trace)
-  turn_text text schedule trace moment from end more is told =
+  turn_text text schedule trace moment from end more is reported =
       let s : Schedule = schedule_through schedule (moment ∷ trace) in
       let before : List ℕ = report_so_far s trace in
       let e : List ℕ = event_line (length trace + 1) moment.event in
       let ps : List ℕ = packet_lines (clients_in schedule) (packet_count trace + 1) moment.sent in
       let whole : take end text ≡ before ++ (e ++ ps) =
-      front_grows text from end more ∙ (ap₂ ◌++◌ is told
+      front_grows text from end more ∙ (ap₂ ◌++◌ is reported
       ∙ (append_assoc before (e ++ []) ps ∙ ap (λ l. before ++ (l ++ ps)) (append-nil e))) in
       whole_turn s trace moment.event moment.sent moment.world (take end text) whole
 
   -- a turn that is told as it was played
   pub turn_leads : AllReadable → (text : List ℕ) (schedule : Schedule) (trace : List Moment) (moment : Moment) (place after : Place) (before count : ℕ) (turn : Law) (world : WorldState State)
-      → IsPlayed service text schedule trace moment place before turn world → TellsTurn text schedule place.at after.at (before + 1) moment.sent
+      → IsPlayed service text schedule trace moment place before turn world → ReportsTurn text schedule place.at after.at (before + 1) moment.sent
       → before + count ≡ length world.packets → after.lines ≡ place.lines + count → after.size ≡ place.size
       → IsWalked service text schedule (moment ∷ trace) after world
   turn_leads readable text schedule trace moment place after before count turn world p t counted lines size =
@@ -201,12 +201,12 @@ module _ {State : Type 0} (service : ℕ → Machine State) where
       let same : count ≡ m = omega (arith, counted, all) in
       let few : packet_count trace + length {A = Packet} [] + m ≤ 200000 = omega (arith, known, most) in
       let first : before + 1 ≡ packet_count trace + length {A = Packet} [] + 1 = omega (arith, known) in
-      let told : drop place.at (take after.at text) ≡ packet_lines (clients_in schedule) (before + 1) moment.sent = t.is.told in
+      let reported : drop place.at (take after.at text) ≡ packet_lines (clients_in schedule) (before + 1) moment.sent = t.is.reported in
       let size_of : length (take after.at text) ≡ after.at = length-take-le after.at text t.is.within in
       let behind : drop place.at text ≡ packet_lines (clients_in schedule) (packet_count trace + length {A = Packet} [] + 1) moment.sent ++ drop after.at text =
       ap (drop place.at) (sym (take-append-drop after.at text))
       ∙ (drop-append-le place.at (take after.at text) (drop after.at text) (omega (arith, size_of, t.is.begins))
-      ∙ ap (λ l. l ++ drop after.at text) (told ∙ ap (λ k. packet_lines (clients_in schedule) k moment.sent) first)) in
+      ∙ ap (λ l. l ++ drop after.at text) (reported ∙ ap (λ k. packet_lines (clients_in schedule) k moment.sent) first)) in
       let on : Leads service text (InTurn s trace moment.event moment.sent) (drop after.at text) (place.lines + m) =
       packets_lead text s trace moment.event [] moment.sent (drop place.at text) (drop after.at text) place.lines few
       (sent_readable readable text schedule trace moment place before turn world p) (sent_written readable text schedule trace moment place before turn world p) behind p.leads in
@@ -223,7 +223,7 @@ module _ {State : Type 0} (service : ℕ → Machine State) where
         size_is = p.size_is ∙ sym size;
         sent = omega (arith, all, known);
         few = omega (arith, known, most);
-        text_is = turn_text text schedule trace moment place.at after.at t.is.begins p.text_is (told ∙ ap (λ k. packet_lines (clients_in schedule) (k + 1) moment.sent) known);
+        text_is = turn_text text schedule trace moment place.at after.at t.is.begins p.text_is (reported ∙ ap (λ k. packet_lines (clients_in schedule) (k + 1) moment.sent) known);
       }
 
   -- no legal trace has other packets in the turn that was played
@@ -235,42 +235,42 @@ module _ {State : Type 0} (service : ℕ → Machine State) where
       sent_first (m ∷ ms) = m.sent
 
   pub no_other_turn : OneTrace → (text : List ℕ) (schedule : Schedule) (trace : List Moment) (moment : Moment) (place : Place) (before : ℕ) (turn : Law) (world : WorldState State)
-      → IsPlayed service text schedule trace moment place before turn world → ((end : ℕ) → TellsTurn text schedule place.at end (before + 1) moment.sent → ⊥)
-      → (sent : List Packet) (w : World) (end : ℕ) → TellsTurn text schedule place.at end (before + 1) sent
+      → IsPlayed service text schedule trace moment place before turn world → ((end : ℕ) → ReportsTurn text schedule place.at end (before + 1) moment.sent → ⊥)
+      → (sent : List Packet) (w : World) (end : ℕ) → ReportsTurn text schedule place.at end (before + 1) sent
       → IsLegalFor service (with_events schedule (events_of trace ++ moment.event ∷ [])) (events_of trace ++ moment.event ∷ []) (record { event = moment.event; sent = sent; world = w } ∷ trace) → ⊥
   no_other_turn one text schedule trace moment place before turn world p never sent w end t legal =
       let other : Moment = record { event = moment.event; sent = sent; world = w } in
       let same : (other ∷ trace) ≡ (moment ∷ trace) = one (schedule_through schedule (moment ∷ trace)) (other ∷ trace) (moment ∷ trace) legal (legal_so schedule (moment ∷ trace) world p.stands) in
-      never end (subst (TellsTurn text schedule place.at end (before + 1)) (same_sent trace trace other moment same) t)
+      never end (subst (ReportsTurn text schedule place.at end (before + 1)) (same_sent trace trace other moment same) t)
 
   -- the packet lines of a turn are told up to the first line that isn't one
-  pub turn_is_rejected : (text : List ℕ) (schedule : Schedule) (at lines told end count : ℕ) (turn : Law)
-      → at ≤ end → end ≤ length text → told + count ≤ 200000
-      → ((events : List Event) (trace : List Moment) (event : Event) (n : ℕ) → packet_count trace ≡ told
+  pub turn_is_rejected : (text : List ℕ) (schedule : Schedule) (at lines reported end count : ℕ) (turn : Law)
+      → at ≤ end → end ≤ length text → reported + count ≤ 200000
+      → ((events : List Event) (trace : List Moment) (event : Event) (n : ℕ) → packet_count trace ≡ reported
       → Leads service text (InTurn (with_events schedule events) trace event []) (drop at text) n
-      → TellsPackets service text (with_events schedule events) trace event at end (n + count) count)
-      → EndsTurn schedule (told + count + 1) (lines_in (drop end text))
-      → (trace : List Moment) (event : Event) → packet_count trace ≡ told → turn ≡ actor (world_after (start_of schedule) trace) event
+      → ReportsPackets service text (with_events schedule events) trace event at end (n + count) count)
+      → EndsTurn schedule (reported + count + 1) (lines_in (drop end text))
+      → (trace : List Moment) (event : Event) → packet_count trace ≡ reported → turn ≡ actor (world_after (start_of schedule) trace) event
       → Leads service text (InTurn (with_events schedule (events_of trace ++ event ∷ [])) trace event []) (drop at text) lines
-      → ((sent : List Packet) (w : World) (to : ℕ) → TellsTurn text schedule at to (told + 1) sent
+      → ((sent : List Packet) (w : World) (to : ℕ) → ReportsTurn text schedule at to (reported + 1) sent
       → IsLegalFor service (with_events schedule (events_of trace ++ event ∷ [])) (events_of trace ++ event ∷ []) (record { event = event; sent = sent; world = w } ∷ trace) → ⊥)
       → IsRejected service text (lines + count + 1) turn
-  turn_is_rejected text schedule at lines told end count turn more within few tells ends trace event known law leads never =
+  turn_is_rejected text schedule at lines reported end count turn more within few reports ends trace event known law leads never =
       let s : Schedule = with_events schedule (events_of trace ++ event ∷ []) in
-      let t : TellsPackets service text s trace event at end (lines + count) count = tells (events_of trace ++ event ∷ []) trace event lines known leads in
-      let number : told + count + 1 ≡ (told + 1) + length t.sent = omega (arith, t.count_is) in
-      let next : told + count + 1 ≡ packet_count trace + length t.sent + 1 = omega (arith, t.count_is, known) in
-      let here : TellsTurn text schedule at end (told + 1) t.sent = record {
+      let t : ReportsPackets service text s trace event at end (lines + count) count = reports (events_of trace ++ event ∷ []) trace event lines known leads in
+      let number : reported + count + 1 ≡ (reported + 1) + length t.sent = omega (arith, t.count_is) in
+      let next : reported + count + 1 ≡ packet_count trace + length t.sent + 1 = omega (arith, t.count_is, known) in
+      let here : ReportsTurn text schedule at end (reported + 1) t.sent = record {
         is = record {
           begins = more;
           within = within;
-          told = t.told ∙ ap (λ k. packet_lines (clients_in schedule) (k + 1) t.sent) known;
+          reported = t.reported ∙ ap (λ k. packet_lines (clients_in schedule) (k + 1) t.sent) known;
           ends = subst (λ k. EndsTurn schedule k (lines_in (drop end text))) number ends;
         };
         few = omega (arith, number, few);
       } in
       let last : EndsTurn s (packet_count trace + length t.sent + 1) (lines_in (drop end text)) =
-      subst (λ k. EndsTurn s k (lines_in (drop end text))) next (any_events schedule (events_of trace ++ event ∷ []) (told + count + 1) (lines_in (drop end text)) ends) in
+      subst (λ k. EndsTurn s k (lines_in (drop end text))) next (any_events schedule (events_of trace ++ event ∷ []) (reported + count + 1) (lines_in (drop end text)) ends) in
       subst (IsRejected service text (lines + count + 1)) (sym law)
       (other_turn_decides service text (drop end text) s trace event t.sent (lines + count) t.leads last (λ w legal. never t.sent w end here legal))
 

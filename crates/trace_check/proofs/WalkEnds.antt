@@ -13,7 +13,7 @@ use Rattle.ft_model.specs.World.{World, Moment, Joint, world_after, with_client}
 use Rattle.ft_model.specs.declared.line.Draft.TheVariants.{Begun}
 use Rattle.ft_model.specs.declared.schedule.Schedule.{Schedule}
 use Rattle.ft_model.proofs.Happened.{Happened, holds_after}
-use Rattle.ft_model.proofs.Happened.Happened.{log_heard, client_heard, client_moved, server_turned, server_booted, server_down}
+use Rattle.ft_model.proofs.Happened.Happened.{log_received, client_received, client_moved, server_turned, server_booted, server_down}
 use Rattle.ft_model.proofs.PlayableLemmas.{playable}
 use Rattle.line_check.specs.HeaderText.{header_so_far}
 use Rattle.line_check.proofs.HeaderLines.{header_is}
@@ -28,7 +28,7 @@ use Rattle.trace_check.specs.declared.walk.Place.{Place}
 use Rattle.trace_check.specs.After.{IsAfter}
 use Rattle.trace_check.specs.Leads.{IsReadTo}
 use Rattle.trace_check.specs.Turn.{IsChecked}
-use Rattle.trace_check.specs.Walk.{IsPlaceIn, IsWalked, Tells}
+use Rattle.trace_check.specs.Walk.{IsPlaceIn, IsWalked, Reports}
 
 -- a schedule has as many clients after a trace as before
 abbrev HasAll : World → World → Type 0
@@ -41,8 +41,8 @@ changes : (start before after : World) (key : Key) (change : Client → Client) 
 changes start before after key change e h = ap length e ∙ (length-map before.clients _ ∙ h)
 
 one_more : {State : Type 0} (service : Machine State) (start before : World) (sent : List Packet) (after : World) → HasAll start before → Happened service before sent after → HasAll start after
-one_more service start before sent after h (log_heard message under t e) = stays start before after (ap (λ w. w.clients) e) h
-one_more service start before sent after h (client_heard segment under t e) = changes start before after (destination_of segment) (λ c. received c segment) (ap (λ w. w.clients) e) h
+one_more service start before sent after h (log_received message under t e) = stays start before after (ap (λ w. w.clients) e) h
+one_more service start before sent after h (client_received segment under t e) = changes start before after (destination_of segment) (λ c. received c segment) (ap (λ w. w.clients) e) h
 one_more service start before sent after h (client_moved number m) = changes start before after m.client.key (λ _. m.later) (ap (λ w. w.clients) m.after_is) h
 one_more service start before sent after h (server_turned input node later brought is turn e) = stays start before after (ap (λ w. w.clients) e) h
 one_more service start before sent after h (server_booted boot isn is_down larger t e) = stays start before after (ap (λ w. w.clients) e) h
@@ -126,16 +126,16 @@ module _ {State : Type 0} (service : ℕ → Machine State) where
       e ∙ ap₂ ◌++◌ (ap (client_lines 1) w.stands.represents.clients)
       (ap₂ ◌++◌ (ap (λ log. flat_map log_line log.entries) w.stands.represents.log) (ap end_line w.stands.turns))
 
-  pub walk_tells : (text : List ℕ) (schedule : Schedule) (trace : List Moment) (place : Place) (world : WorldState State) (counts : Yes) (due : List ℕ)
+  pub walk_reports : (text : List ℕ) (schedule : Schedule) (trace : List Moment) (place : Place) (world : WorldState State) (counts : Yes) (due : List ℕ)
       → IsWalked service text schedule trace place world → due ≡ client_lines 1 world.clients ++ (flat_map log_line world.log.entries ++ end_line world.turns)
-      → drop place.at text ≡ due → counts.events ≡ world.turns → counts.packets ≡ length world.packets → Tells service text counts
-  walk_tells text schedule trace place world counts due w e rest events packets =
+      → drop place.at text ≡ due → counts.events ≡ world.turns → counts.packets ≡ length world.packets → Reports service text counts
+  walk_reports text schedule trace place world counts due w e rest events packets =
       let s : Schedule = schedule_through schedule trace in
       let closing : List ℕ = closing_lines (world_after (start_of schedule) trace) (length trace) in
       let whole : text ≡ report s trace =
       sym (take-append-drop place.at text)
       ∙ (ap₂ ◌++◌ w.text_is (rest ∙ closing_is_due text schedule trace place world due w e) ∙ append_assoc (header s) (event_lines (clients_in schedule) trace) closing) in
-      let told : IsReport service text = record {
+      let reported : IsReport service text = record {
         schedule = s;
         trace = trace;
         within = w.limits;
@@ -143,4 +143,4 @@ module _ {State : Type 0} (service : ℕ → Machine State) where
         packets = w.few;
         text_is = whole;
       } in
-      (told, events ∙ w.stands.turns, packets ∙ w.sent)
+      (reported, events ∙ w.stands.turns, packets ∙ w.sent)

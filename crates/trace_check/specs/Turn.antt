@@ -20,11 +20,11 @@ abbrev pub with_events : Schedule → List Event → Schedule
 with_events schedule events = record schedule { events = events }
 
 -- the lines between two places are those of `count` packets, and lead on in the turn
-pub record TellsPackets {State : Type 0} (service : ℕ
+pub record ReportsPackets {State : Type 0} (service : ℕ
     → Machine State) (text : List ℕ) (schedule : Schedule) (trace : List Moment) (event : Event) (from at lines count : ℕ) : Type 0 where
   pub sent : List Packet
   pub count_is : length sent ≡ count
-  pub told : drop from (take at text) ≡ packet_lines (clients_in schedule) (packet_count trace + 1) sent
+  pub reported : drop from (take at text) ≡ packet_lines (clients_in schedule) (packet_count trace + 1) sent
   pub leads : Leads service text (InTurn schedule trace event sent) (drop at text) lines
 
 -- the next of these lines isn't that of packet n
@@ -33,15 +33,15 @@ EndsTurn schedule n [] = Unit {0}
 EndsTurn schedule n (line ∷ lines) = (packet : Packet) → IsPacketLine schedule n packet line → ⊥
 
 -- the text between two places is `due`, and the next line isn't that of packet n
-pub record IsTold (text : List ℕ) (schedule : Schedule) (from end n : ℕ) (due : List ℕ) : Type 0 where
+pub record IsReported (text : List ℕ) (schedule : Schedule) (from end n : ℕ) (due : List ℕ) : Type 0 where
   pub begins : from ≤ end
   pub within : end ≤ length text
-  pub told : drop from (take end text) ≡ due
+  pub reported : drop from (take end text) ≡ due
   pub ends : EndsTurn schedule n (lines_in (drop end text))
 
 -- .. where `due` is the lines of all packets of a turn, numbered from `first`
-pub record TellsTurn (text : List ℕ) (schedule : Schedule) (from end first : ℕ) (sent : List Packet) : Type 0 where
-  pub is : IsTold text schedule from end (first + length sent) (packet_lines (clients_in schedule) first sent)
+pub record ReportsTurn (text : List ℕ) (schedule : Schedule) (from end first : ℕ) (sent : List Packet) : Type 0 where
+  pub is : IsReported text schedule from end (first + length sent) (packet_lines (clients_in schedule) first sent)
   pub few : first + length sent ≤ 200001
 
 -- the kept wires after the first `before` ones are those of these packets

@@ -49,5 +49,5 @@ pub record IsPlayed {State : Type 0} (service : ℕ
   pub text_is : take place.at text ≡ report_with_turn (schedule_through schedule (moment ∷ trace)) trace moment.event []
 
 -- the text is the report of a legal trace with these counts
-abbrev pub Tells : {State : Type 0} → (ℕ → Machine State) → List ℕ → Yes → Type 0
-Tells service text counts = (r : IsReport service text) × (counts.events ≡ length r.trace) × (counts.packets ≡ packet_count r.trace)
+abbrev pub Reports : {State : Type 0} → (ℕ → Machine State) → List ℕ → Yes → Type 0
+Reports service text counts = (r : IsReport service text) × (counts.events ≡ length r.trace) × (counts.packets ≡ packet_count r.trace)

@@ -11,7 +11,7 @@ ghost use Rattle.report_laws.specs.Transitions.Position.{InClosing};
 ghost use Rattle.trace_check.specs.After.{IsAfter};
 ghost use Rattle.trace_check.specs.Leads.{IsReadTo, IsRejection, Leads};
 ghost use Rattle.trace_check.specs.Turn.{IsChecked};
-ghost use Rattle.trace_check.specs.Walk.{IsPlaceIn, IsWalked, Tells};
+ghost use Rattle.trace_check.specs.Walk.{IsPlaceIn, IsWalked, Reports};
 
 use crate::closing::{check_closing, write_closing};
 use crate::end::CheckEnd;
@@ -47,7 +47,7 @@ fn close<S: Service>(
     requires within { IsPlaceIn text.now place × (length text.now ≤ 2 ^ 28) }
     requires walked { (trace : List Moment) × IsWalked (machines S.started S.after S.greeting) text.now schedule.now trace place world.now
         × Leads (machines S.started S.after S.greeting) text.now (InClosing (closing_of schedule.now trace)) (drop place.at text.now) place.lines }
-    ensures legal { IfOk result (Tells (machines S.started S.after S.greeting) text.now) }
+    ensures legal { IfOk result (Reports (machines S.started S.after S.greeting) text.now) }
     ensures rejected { IfErr result (IsRejection (machines S.started S.after S.greeting) text.now) }
 {
     let mut due = Vec::new(alloc);
@@ -74,7 +74,7 @@ fn check_turns<S: Service>(
     requires schedule { IsChecked schedule.now }
     requires within { IsPlaceIn text.now start × (length text.now ≤ 2 ^ 28) × (world.old.turns ≤ 100000) }
     requires walked { (trace : List Moment) × IsWalked (machines S.started S.after S.greeting) text.now schedule.now trace start world.old }
-    ensures legal { IfOk result (Tells (machines S.started S.after S.greeting) text.now) }
+    ensures legal { IfOk result (Reports (machines S.started S.after S.greeting) text.now) }
     ensures rejected { IfErr result (IsRejection (machines S.started S.after S.greeting) text.now) }
 {
     let end = walk(alloc, schedule, text, start, world)?;
@@ -87,7 +87,7 @@ fn check_after<S: Service>(alloc: Global, header: &Header, text: &[u8]) -> Resul
     requires read { IsReadTo (machines S.started S.after S.greeting) text.now (Begun header.now.schedule) header.now.bytes header.now.lines }
     requires after { IsAfter (machines S.started S.after S.greeting) text.now header.now.schedule [] (drop header.now.bytes text.now) header.now.lines }
     requires size { length (schedule_bytes (Begun header.now.schedule)) + 11 ≡ header.now.bytes }
-    ensures legal { IfOk result (Tells (machines S.started S.after S.greeting) text.now) }
+    ensures legal { IfOk result (Reports (machines S.started S.after S.greeting) text.now) }
     ensures rejected { IfErr result (IsRejection (machines S.started S.after S.greeting) text.now) }
 {
     let Ok(mut world) = PlainWorld::<S>::new(alloc, &header.schedule) else {

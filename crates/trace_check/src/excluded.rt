@@ -16,7 +16,7 @@ ghost use Rattle.trace_check.specs.Leads.{Leads};
 ghost use Rattle.trace_check.specs.Turn.{EndsTurn, IsChecked, with_events};
 
 use crate::closing::is_same;
-use crate::turn::{PacketLines, read_packet_lines, told_end};
+use crate::turn::{PacketLines, read_packet_lines, reported_end};
 use crate::walk::is_refused;
 use ft_model::{Event, Schedule};
 use plain_world::PlainWorld;
@@ -29,7 +29,7 @@ fn a_closing_line_is_not_compared() -> bool
     is_same(&[b' '; 100], b"end 0\n")
 }
 
-/// Where a turn's packet lines end, no line of the next packet follows, whatever its number: the contract of `told_end`.
+/// Where a turn's packet lines end, no line of the next packet follows, whatever its number: the contract of `reported_end`.
 fn a_further_packet_line_passes(
     schedule: &Schedule,
     text: &[u8],
@@ -40,23 +40,23 @@ fn a_further_packet_line_passes(
     requires schedule { IsChecked schedule.now }
     ensures { IfSome result (λ end. EndsTurn schedule.now 1000 (lines_in (drop end text.now))) }
 {
-    told_end(schedule, text, from, due, 1000)
+    reported_end(schedule, text, from, due, 1000)
 }
 
 /// The packet lines of a turn are numbered on from those before it: the clause `packets` of `read_packet_lines`.
-fn a_packet_is_told_twice<S: Service>(
+fn a_packet_is_reported_twice<S: Service>(
     schedule: &Schedule,
     text: &[u8],
     at: usize,
-    told: u32,
+    reported: u32,
 ) -> PacketLines
-    requires within { (at ≤ length text.now) × (told ≤ 200000) }
+    requires within { (at ≤ length text.now) × (reported ≤ 200000) }
     requires schedule { IsChecked schedule.now }
-    ensures { (events : List Asked) (trace : List Moment) (event : Asked) (lines : ℕ) → packet_count trace ≡ told
+    ensures { (events : List Asked) (trace : List Moment) (event : Asked) (lines : ℕ) → packet_count trace ≡ reported
         → Leads (machines S.started S.after S.greeting) text.now (InTurn (with_events schedule.now events) trace event []) (drop at text.now) lines
         → (sent : List Packet) × (drop at (take result.end text.now) ≡ packet_lines (clients_in schedule.now) (packet_count trace + 1) sent) }
 {
-    read_packet_lines::<S>(schedule, text, at, told)
+    read_packet_lines::<S>(schedule, text, at, reported)
 }
 
 /// An event that may not happen then is refused, however few came before it: the contract of `is_refused`.

@@ -9,7 +9,7 @@ ghost use Rattle.ft_model.specs.declared.event.Event.{Event};
 ghost use Rattle.report_laws.specs.Lines.{lines_in};
 ghost use Rattle.report_laws.specs.Transitions.Position.{InTurn};
 ghost use Rattle.trace_check.specs.Leads.{Leads};
-ghost use Rattle.trace_check.specs.Turn.{AreSent, EndsTurn, IsChecked, IsTold, TellsPackets, TellsTurn, with_events};
+ghost use Rattle.trace_check.specs.Turn.{AreSent, EndsTurn, IsChecked, IsReported, ReportsPackets, ReportsTurn, with_events};
 
 use crate::lines::{between, line_end};
 use crate::sent::write_wires;
@@ -33,28 +33,28 @@ pub struct PacketLines {
     pub count: u32,
 }
 
-/// Reads the packet lines after the first `at` bytes of a text; those of `told` packets come before. The line after them is not that of the next packet.
+/// Reads the packet lines after the first `at` bytes of a text; those of `reported` packets come before. The line after them is not that of the next packet.
 #[tactic(auto, using(crate::proofs::TurnLines::all_begin, crate::proofs::TurnLines::all_grow, crate::proofs::TurnLines::few_packets, crate::proofs::TurnLines::turn_ends_with_text, crate::proofs::TurnLines::turn_ends_before))]
 pub fn read_packet_lines<S: Service>(
     schedule: &Schedule,
     text: &[u8],
     at: usize,
-    told: u32,
+    reported: u32,
 ) -> PacketLines
-    requires within { (at ≤ length text.now) × (told ≤ 200000) }
+    requires within { (at ≤ length text.now) × (reported ≤ 200000) }
     requires schedule { IsChecked schedule.now }
-    ensures within { (at ≤ result.end) × (result.end ≤ length text.now) × (told + result.count ≤ 200000) }
-    ensures packets { (events : List Event) (trace : List Moment) (event : Event) (lines : ℕ) → packet_count trace ≡ told
+    ensures within { (at ≤ result.end) × (result.end ≤ length text.now) × (reported + result.count ≤ 200000) }
+    ensures packets { (events : List Event) (trace : List Moment) (event : Event) (lines : ℕ) → packet_count trace ≡ reported
         → Leads (machines S.started S.after S.greeting) text.now (InTurn (with_events schedule.now events) trace event []) (drop at text.now) lines
-        → TellsPackets (machines S.started S.after S.greeting) text.now (with_events schedule.now events) trace event at result.end
+        → ReportsPackets (machines S.started S.after S.greeting) text.now (with_events schedule.now events) trace event at result.end
         (lines + result.count) result.count }
-    ensures complete { EndsTurn schedule.now (told + result.count + 1) (lines_in (drop result.end text.now)) }
+    ensures complete { EndsTurn schedule.now (reported + result.count + 1) (lines_in (drop result.end text.now)) }
 {
     let mut end = at;
     let mut count = 0;
     while end < text.len() {
         let next = line_end(text, end);
-        if !is_packet_line(schedule, told + count + 1, between(text, end, next)) {
+        if !is_packet_line(schedule, reported + count + 1, between(text, end, next)) {
             return PacketLines { end, count };
         }
         end = next;
@@ -64,7 +64,7 @@ pub fn read_packet_lines<S: Service>(
 }
 
 /// Returns whether the line of packet `n` follows the first `at` bytes of a text.
-#[tactic(auto, using(crate::proofs::ToldTurns::no_packet_begins, crate::proofs::TurnLines::turn_ends_before, crate::proofs::ToldTurns::packet_follows, std::proofs::lemmas::List::take_rest))]
+#[tactic(auto, using(crate::proofs::ReportedTurns::no_packet_begins, crate::proofs::TurnLines::turn_ends_before, crate::proofs::ReportedTurns::packet_follows, std::proofs::lemmas::List::take_rest))]
 fn another_follows(schedule: &Schedule, text: &[u8], at: usize, n: u32) -> bool
     requires within { at ≤ length text.now }
     requires schedule { IsChecked schedule.now }
@@ -79,8 +79,8 @@ fn another_follows(schedule: &Schedule, text: &[u8], at: usize, n: u32) -> bool
 }
 
 /// Returns where `due` ends, if it follows the first `from` bytes of a text, and is not followed by the line of packet `n`.
-#[tactic(auto, using(crate::proofs::ToldTurns::due_is_told, crate::proofs::ToldTurns::other_is_due, crate::proofs::ToldTurns::more_is_due, std::proofs::lemmas::List::take_rest))]
-pub(crate) fn told_end(
+#[tactic(auto, using(crate::proofs::ReportedTurns::due_is_reported, crate::proofs::ReportedTurns::other_is_due, crate::proofs::ReportedTurns::more_is_due, std::proofs::lemmas::List::take_rest))]
+pub(crate) fn reported_end(
     schedule: &Schedule,
     text: &[u8],
     from: usize,
@@ -89,7 +89,7 @@ pub(crate) fn told_end(
 ) -> Option<usize>
     requires within { from ≤ length text.now }
     requires schedule { IsChecked schedule.now }
-    ensures { MatchOption result ((end : ℕ) → IsTold text.now schedule.now from end n due.now → ⊥) (λ end. IsTold text.now schedule.now from end n due.now) }
+    ensures { MatchOption result ((end : ℕ) → IsReported text.now schedule.now from end n due.now → ⊥) (λ end. IsReported text.now schedule.now from end n due.now) }
 {
     if !text[from..].starts_with(due) {
         return None;
@@ -116,9 +116,9 @@ pub(crate) fn read_sent(
     requires sent { (sent : List Packet) × AreSent packets.now played.before sent }
     ensures within { IfOk result (λ read. IfSome read (λ p. (played.place.at + p.count ≤ p.end) × (p.end ≤ length text.now)
         × (played.before + p.count ≡ length packets.now) × (played.before + p.count ≤ 200000))) }
-    ensures told { IfOk result (λ read. (sent : List Packet) → AreSent packets.now played.before sent
-        → MatchOption read ((end : ℕ) → TellsTurn text.now schedule.now played.place.at end (played.before + 1) sent → ⊥)
-        (λ p. TellsTurn text.now schedule.now played.place.at p.end (played.before + 1) sent)) }
+    ensures reported { IfOk result (λ read. (sent : List Packet) → AreSent packets.now played.before sent
+        → MatchOption read ((end : ℕ) → ReportsTurn text.now schedule.now played.place.at end (played.before + 1) sent → ⊥)
+        (λ p. ReportsTurn text.now schedule.now played.place.at p.end (played.before + 1) sent)) }
 {
     let before = played.before;
     let all = packets.as_slice();
@@ -127,7 +127,7 @@ pub(crate) fn read_sent(
     }
     due.clear();
     write_wires(alloc, schedule, before as u32 + 1, &all[before..], due)?;
-    match told_end(schedule, text, played.place.at, due, all.len() as u32 + 1) {
+    match reported_end(schedule, text, played.place.at, due, all.len() as u32 + 1) {
         Some(end) => Ok(Some(PacketLines {
             end,
             count: (all.len() - before) as u32,

@@ -13,7 +13,7 @@ ghost use Rattle.report_laws.specs.Transitions.Position.{InClosing, InTurn};
 ghost use Rattle.report_laws.specs.TurnLines.{schedule_through};
 ghost use Rattle.trace_check.specs.After.{ReadsEvent, is_refused as refused_lem};
 ghost use Rattle.trace_check.specs.Leads.{IsRejection, Leads};
-ghost use Rattle.trace_check.specs.Turn.{IsChecked, TellsTurn, with_events};
+ghost use Rattle.trace_check.specs.Turn.{IsChecked, ReportsTurn, with_events};
 ghost use Rattle.trace_check.specs.Walk.{IsPlaceIn, IsPlayed, IsWalked};
 
 use crate::end::CheckEnd;
@@ -72,20 +72,20 @@ fn reject_turn<S: Service>(
     schedule: &Schedule,
     text: &[u8],
     place: Place,
-    told: u32,
+    reported: u32,
     law: Law,
 ) -> CheckEnd
     requires schedule { IsChecked schedule.now }
-    requires within { IsPlaceIn text.now place × (length text.now ≤ 2 ^ 28) × (told ≤ 200000) }
-    ensures { (trace : List Moment) (event : Asked) → packet_count trace ≡ told → law ≡ actor_lem (world_after (start_of schedule.now) trace) event
+    requires within { IsPlaceIn text.now place × (length text.now ≤ 2 ^ 28) × (reported ≤ 200000) }
+    ensures { (trace : List Moment) (event : Asked) → packet_count trace ≡ reported → law ≡ actor_lem (world_after (start_of schedule.now) trace) event
         → Leads (machines S.started S.after S.greeting) text.now (InTurn (with_events schedule.now (events_of trace ++ event ∷ [])) trace event [])
         (drop place.at text.now) place.lines
-        → ((sent : List Packet) (w : World) (end : ℕ) → TellsTurn text.now schedule.now place.at end (told + 1) sent
+        → ((sent : List Packet) (w : World) (end : ℕ) → ReportsTurn text.now schedule.now place.at end (reported + 1) sent
         → IsLegalFor (machines S.started S.after S.greeting) (with_events schedule.now (events_of trace ++ event ∷ [])) (events_of trace ++ event ∷ [])
         (record { event = event; sent = sent; world = w } ∷ trace) → ⊥)
         → IsRejection (machines S.started S.after S.greeting) text.now result }
 {
-    let read = read_packet_lines::<S>(schedule, text, place.at, told);
+    let read = read_packet_lines::<S>(schedule, text, place.at, reported);
     CheckEnd::Reject {
         line: place.lines + read.count + 1,
         law,

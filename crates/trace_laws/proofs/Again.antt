@@ -156,9 +156,9 @@ body_by boot after message =
     if is_answer message.body then None
     else (if nat_lt message.boot boot then Some (StaleMsg boot) else (if is_hello message.body || message.boot == boot then answer_from message.body after else None))
 
-hello_told : (boot : ℕ) (after : Log) (message : Message) → boot ≤ message.boot → is_hello message.body ≡ true
+hello_reported : (boot : ℕ) (after : Log) (message : Message) → boot ≤ message.boot → is_hello message.body ≡ true
     → body_by boot after message ≡ (if is_answer message.body then None else answer_from message.body after)
-hello_told boot after message le hello =
+hello_reported boot after message le hello =
     let current : nat_lt message.boot boot ≡ false = grind (arith, nat_tests, le) in
     ap {A = Option Body} (λ o. if is_answer message.body then None else o)
     (if_false (nat_lt message.boot boot) (Some (StaleMsg boot)) (if is_hello message.body || message.boot == boot then answer_from message.body after else None) current
@@ -168,7 +168,7 @@ same_body : (log : Log) (message : Message) (after : Log) → LogWent log messag
 same_body log message after (ignored e) = ap (λ (l : Log). body_by l.boot after message) e
 same_body log message after (raised hello le e) =
     let boot : after.boot ≡ message.boot = ap (λ (l : Log). l.boot) e in
-    hello_told after.boot after message (omega (arith, boot)) hello ∙ sym (hello_told log.boot after message le hello)
+    hello_reported after.boot after message (omega (arith, boot)) hello ∙ sym (hello_reported log.boot after message le hello)
 same_body log message after (changed boot e) = ap (λ (b : ℕ). body_by b after message) (ap (λ (l : Log). l.boot) e ∙ kept_boot message.body log)
 
 pub answered_again : (log : Log) (message : Message) → answer_to (log_after log message) message ≡ answer_to log message

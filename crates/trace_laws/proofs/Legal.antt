@@ -22,7 +22,7 @@ use Rattle.ft_model.specs.declared.schedule.Schedule.{Schedule}
 use Rattle.ft_model.proofs.Lists.{all_weaker, all_append, none_is_some}
 use Rattle.ft_model.proofs.LogAnswers.{all_answers}
 use Rattle.ft_model.proofs.LogOver.{log_over}
-use Rattle.ft_model.proofs.OneTrace.{goes_on}
+use Rattle.ft_model.proofs.OneTrace.{proceeds}
 use Rattle.ft_model.proofs.Happened.{all_sent, flip_is_quiet}
 use Rattle.ft_model.proofs.StageTurns.{stage_went}
 use Rattle.ft_model.proofs.Fenced.{IsOurs, turn_ours}
@@ -143,7 +143,7 @@ legal_own : {State : Type 0} (service : Machine State) → HasSmallOutputs servi
 legal_own service small start [] j a = subst (AllByRecursion (OwnNear (isn_of start))) (sym j.packets) tt
 legal_own service small start (moment ∷ earlier) j a =
     let before : World = world_after start earlier in
-    subst (AllByRecursion (OwnNear (isn_of start))) (sym (goes_on service moment.event before moment.world moment.sent j.1))
+    subst (AllByRecursion (OwnNear (isn_of start))) (sym (proceeds service moment.event before moment.world moment.sent j.1))
     (all_append (OwnNear (isn_of start)) before.packets moment.sent (legal_own service small start earlier j.0 a.0)
     (moment_own service start before moment.event moment.sent moment.world (near_after service small start earlier j.0) j.1 a.1.allowed a.1.scripted))
 

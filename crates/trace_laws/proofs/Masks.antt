@@ -6,14 +6,14 @@ use Rattle.server_trait.specs.Service.{Machine}
 use Rattle.ft_model.specs.Network.{Packet}
 use Rattle.ft_model.specs.Network.Packet.{To_server, To_client, To_logger, From_logger}
 use Rattle.ft_model.specs.Node.{Node, points_at}
-use Rattle.ft_model.specs.Masked.{SeesFront, AcknowledgesLogged, RestartIsExact, AllAreTold, IsToldLast, last_told, told_to, or_before}
+use Rattle.ft_model.specs.Masked.{SeesFront, AcknowledgesLogged, RestartIsExact, AllAreReported, IsReportedLast, last_reported, reported_to, or_before}
 use Rattle.ft_model.specs.World.{World, Moment, Happens, Joint}
 use Rattle.ft_model.specs.declared.event.Event.{Event}
 use Rattle.ft_model.proofs.Lists.{all_weaker}
 use Rattle.ft_model.proofs.Running.{HasSmallOutputs}
-use Rattle.ft_model.proofs.OneTrace.{goes_on}
-use Rattle.ft_model.proofs.ToldLast.{or_none}
-use Rattle.ft_model.proofs.ToldOver.{told_after}
+use Rattle.ft_model.proofs.OneTrace.{proceeds}
+use Rattle.ft_model.proofs.ReportedLast.{or_none}
+use Rattle.ft_model.proofs.ReportedOver.{reported_after}
 use Rattle.ft_model.proofs.Acknowledged.{acknowledged_after}
 use Rattle.ft_model.proofs.Exact.{exact_after, same_exact}
 use Rattle.ft_model.proofs.JointMasked.{sees_front}
@@ -22,41 +22,41 @@ use Rattle.trace_laws.specs.Deaths.Step.{Calm, Dies}
 use Rattle.trace_laws.proofs.Refined.{beside, happens_beside, shown_calm, all_shown}
 
 -- answers of the logger tell no client anything
-tells_none : (key : Key) (packet : Packet) → IsAnswer packet → told_to key packet ≡ None
-tells_none key (From_logger message) a = refl
-tells_none key (To_server segment) a = absurd a
-tells_none key (To_client segment) a = absurd a
-tells_none key (To_logger message) a = absurd a
+reports_none : (key : Key) (packet : Packet) → IsAnswer packet → reported_to key packet ≡ None
+reports_none key (From_logger message) a = refl
+reports_none key (To_server segment) a = absurd a
+reports_none key (To_client segment) a = absurd a
+reports_none key (To_logger message) a = absurd a
 
-last_within : (key : Key) (xs ys : List Packet) → IsWithin xs ys → last_told key xs ≡ last_told key ys
-last_within key xs [] w = ap (last_told key) w
-last_within key xs (one ∷ ys) (inl (rest, is, w)) = ap (last_told key) is ∙ ap (λ o. or_before o (told_to key one)) (last_within key rest ys w)
+last_within : (key : Key) (xs ys : List Packet) → IsWithin xs ys → last_reported key xs ≡ last_reported key ys
+last_within key xs [] w = ap (last_reported key) w
+last_within key xs (one ∷ ys) (inl (rest, is, w)) = ap (last_reported key) is ∙ ap (λ o. or_before o (reported_to key one)) (last_within key rest ys w)
 last_within key xs (one ∷ ys) (inr (answer, w)) =
-    last_within key xs ys w ∙ or_none (last_told key ys) ∙ ap (or_before (last_told key ys)) (sym (tells_none key one answer))
+    last_within key xs ys w ∙ or_none (last_reported key ys) ∙ ap (or_before (last_reported key ys)) (sym (reports_none key one answer))
 
-told_within : (xs ys : List Packet) (node : Option Node) → IsWithin xs ys → AllAreTold ys node → AllAreTold xs node
-told_within xs ys None w t = tt
-told_within xs ys (Some node) w t =
-    all_weaker (IsToldLast ys) (IsToldLast xs) (points_at node.stage) (λ p told unreset. last_within p.key xs ys w ∙ told unreset) t
+reported_within : (xs ys : List Packet) (node : Option Node) → IsWithin xs ys → AllAreReported ys node → AllAreReported xs node
+reported_within xs ys None w t = tt
+reported_within xs ys (Some node) w t =
+    all_weaker (IsReportedLast ys) (IsReportedLast xs) (points_at node.stage) (λ p reported unreset. last_within p.key xs ys w ∙ reported unreset) t
 
 module _ {State : Type 0} (service : Machine State) (small : HasSmallOutputs service) (start : World) where
   clients_see : (w : World) → IsShown service start w → AllByRecursion (SeesFront service w.log) w.clients
   clients_see w shown = subst (λ v. AllByRecursion (SeesFront service v.log) v.clients) shown.same (sees_front service small start shown.trace shown.joint)
 
-  are_told : (w : World) → IsShown service start w → AllAreTold w.packets w.node
-  are_told w shown =
-      told_within w.packets shown.packets w.node shown.within (subst (λ v. AllAreTold v.packets v.node) shown.same (told_after service start shown.trace shown.joint))
+  are_reported : (w : World) → IsShown service start w → AllAreReported w.packets w.node
+  are_reported w shown =
+      reported_within w.packets shown.packets w.node shown.within (subst (λ v. AllAreReported v.packets v.node) shown.same (reported_after service start shown.trace shown.joint))
 
   calm : (before after : World) (event : Event) (sent : List Packet) → IsShown service start before → Happens service before event sent after → IsUnseen service before sent after
   calm before after event sent shown h =
-      let grown = goes_on service event before after sent h in
+      let grown = proceeds service event before after sent h in
       let now : IsShown service start after = shown_calm service start before after event sent shown h grown in
-      let also = all_but_told before after event sent shown h in
-      record { clients = clients_see after now; acknowledged = also.0; restart = also.1; told = are_told after now }
+      let also = all_but_reported before after event sent shown h in
+      record { clients = clients_see after now; acknowledged = also.0; restart = also.1; reported = are_reported after now }
     where
-      all_but_told : (before after : World) (event : Event) (sent : List Packet) → IsShown service start before → Happens service before event sent after
+      all_but_reported : (before after : World) (event : Event) (sent : List Packet) → IsShown service start before → Happens service before event sent after
           → AllByRecursion (AcknowledgesLogged after.log after.clients) sent × RestartIsExact service after.log before.node after.node
-      all_but_told before after event sent shown h = by_moment (happens_beside service before after event sent shown.packets shown.within h)
+      all_but_reported before after event sent shown h = by_moment (happens_beside service before after event sent shown.packets shown.within h)
         where
           by_moment : (same : Event) × Happens service (beside before shown.packets) same sent (beside after (shown.packets ++ sent))
               → AllByRecursion (AcknowledgesLogged after.log after.clients) sent × RestartIsExact service after.log before.node after.node
@@ -83,5 +83,5 @@ module _ {State : Type 0} (service : Machine State) (small : HasSmallOutputs ser
             clients = clients_see moment.world now;
             acknowledged = subst (AllByRecursion (AcknowledgesLogged moment.world.log moment.world.clients)) (sym h.2) tt;
             restart = subst (λ n. RestartIsExact service moment.world.log then_.node n) (sym (ap (λ w. w.node) h.3)) (same_exact service moment.world.log then_.node);
-            told = are_told moment.world now;
+            reported = are_reported moment.world now;
           }

@@ -27,7 +27,7 @@ use Rattle.ft_model.proofs.Lists.{all_of, all_weaker, all_append, same_key, some
 use Rattle.ft_model.proofs.Grows.{log_grows, found_later}
 use Rattle.ft_model.proofs.LogAnswers.{all_answers}
 use Rattle.ft_model.proofs.Happened.{Happened, all_sent, holds_after}
-use Rattle.ft_model.proofs.Happened.Happened.{log_heard, client_heard, client_moved, server_turned, server_booted, server_down}
+use Rattle.ft_model.proofs.Happened.Happened.{log_received, client_received, client_moved, server_turned, server_booted, server_down}
 use Rattle.ft_model.proofs.StageTurns.{stage_went}
 use Rattle.ft_model.proofs.Fenced.{IsOurs, turn_ours}
 use Rattle.ft_model.proofs.Services.{prefix_length}
@@ -212,9 +212,9 @@ moved_near service start w number sent after o n m =
 more_near : (isn : Key → ℕ) (w : World) (sent : List Packet) → SendsNear isn w → AllByRecursion (PacketNear isn w.log) sent → AllByRecursion (PacketNear isn w.log) (w.packets ++ sent)
 more_near isn w sent n a = all_append (PacketNear isn w.log) w.packets sent n.packets a
 
-pub near_goes_on : {State : Type 0} (service : Machine State) (start before : World) (sent : List Packet) (after : World) → masked.JointInvariant service start before → SendsNear (isn_of start) before
+pub near_proceeds : {State : Type 0} (service : Machine State) (start before : World) (sent : List Packet) (after : World) → masked.JointInvariant service start before → SendsNear (isn_of start) before
     → Happened service before sent after → SendsNear (isn_of start) after
-near_goes_on service start before sent after o n (log_heard message under s e) =
+near_proceeds service start before sent after o n (log_received message under s e) =
     let isn : Key → ℕ = isn_of start in
     let later : Log = log_after before.log message in
     subst (SendsNear isn) (sym (e ∙ ap (λ x. record before { log = log_after before.log message; packets = before.packets ++ x }) s))
@@ -223,24 +223,24 @@ near_goes_on service start before sent after o n (log_heard message under s e) =
       packets = all_append (PacketNear isn later) before.packets _ (all_weaker (PacketNear isn before.log) _ before.packets (near_later isn before.log later (log_grows before.log message)) n.packets)
           (all_answers (PacketNear isn later) before.log message (λ body a. tt));
     })
-near_goes_on service start before sent after o n (client_heard segment under s e) =
+near_proceeds service start before sent after o n (client_received segment under s e) =
     subst (SendsNear (isn_of start)) (sym e)
     (record {
       clients = clients_fit SentWithin (destination_of segment) (λ c. received c segment) before.clients (λ c k g. received_within c segment g) n.clients;
       packets = more_near (isn_of start) before sent n (subst (AllByRecursion (PacketNear (isn_of start) before.log)) (sym s) tt);
     })
-near_goes_on service start before sent after o n (client_moved number m) = moved_near service start before number sent after o n m
-near_goes_on service start before sent after o n (server_turned input node later brought is turn e) =
+near_proceeds service start before sent after o n (client_moved number m) = moved_near service start before number sent after o n m
+near_proceeds service start before sent after o n (server_turned input node later brought is turn e) =
     subst (SendsNear (isn_of start)) (sym e)
     (record {
       clients = n.clients;
       packets = more_near (isn_of start) before sent n
           (all_weaker (IsOurs node.boot) _ sent (ours_near (isn_of start) before.log node.boot) (turn_ours service node input sent later.stage (stage_went service node later input sent turn)));
     })
-near_goes_on service start before sent after o n (server_booted boot isn down larger s e) =
+near_proceeds service start before sent after o n (server_booted boot isn down larger s e) =
     subst (SendsNear (isn_of start)) (sym e)
     (record { clients = n.clients; packets = more_near (isn_of start) before sent n (subst (AllByRecursion (PacketNear (isn_of start) before.log)) (sym s) (tt, tt)) })
-near_goes_on service start before sent after o n (server_down s e) =
+near_proceeds service start before sent after o n (server_down s e) =
     subst (SendsNear (isn_of start)) (sym e)
     (record { clients = n.clients; packets = more_near (isn_of start) before sent n (subst (AllByRecursion (PacketNear (isn_of start) before.log)) (sym s) tt) })
 
@@ -257,7 +257,7 @@ pub near_after : {State : Type 0} (service : Machine State) → HasSmallOutputs 
 near_after service small start trace j =
     let s : IsStart start = start_is service start trace j in
     holds_after service (KeptNear service start) start (λ x. (masked.start_sound service small start x, start_near (isn_of start) start x))
-    (λ before sent after o h. (masked.sound_goes_on service small start before sent after s o.0 h, near_goes_on service start before sent after o.0 o.1 h)) trace j
+    (λ before sent after o h. (masked.sound_proceeds service small start before sent after s o.0 h, near_proceeds service start before sent after o.0 o.1 h)) trace j
 
 -- .. to each live connection
 near_to : (server : Addr) (script : Key → List ℕ) (isn : Key → ℕ) (log : Log) (segment : Segment) → FirstNear isn segment → (has_ack segment ≡ true → AckNear log (source_of segment) segment)

@@ -7,7 +7,7 @@ use Rattle.ft_model.specs.Growth.{LogGrows}
 use Rattle.ft_model.specs.World.{World}
 use Rattle.ft_model.proofs.Grows.{log_refl, log_grows, log_trans}
 use Rattle.ft_model.proofs.Happened.{happened}
-use Rattle.ft_model.proofs.LogOver.{log_goes_on}
+use Rattle.ft_model.proofs.LogOver.{log_proceeds}
 use Rattle.trace_laws.specs.Deaths.{Step, ComesBack, MayHappen, MortalMoment, mortal_after, MortalJoint}
 use Rattle.trace_laws.specs.Deaths.Step.{Calm, Dies}
 
@@ -18,7 +18,7 @@ comes_back_grown packets (number ∷ numbers) before after back =
 
 step_grows : {State : Type 0} (service : Machine State) (before after : World) (step : Step) (sent : List Packet) → MayHappen service before step sent after → LogGrows before.log after.log
 step_grows service before after (Calm event) sent h =
-    ⊎_elim (log_goes_on service before sent after) (λ q. subst (λ w. LogGrows before.log w.log) (sym q.1) (log_refl before.log)) (happened service before event sent after h)
+    ⊎_elim (log_proceeds service before sent after) (λ q. subst (λ w. LogGrows before.log w.log) (sym q.1) (log_refl before.log)) (happened service before event sent after h)
 step_grows service before after (Dies numbers) sent h =
     subst (λ w. LogGrows before.log w.log) (sym h.3) (comes_back_grown before.packets numbers before.log h.0 h.1)
 

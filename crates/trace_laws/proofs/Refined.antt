@@ -20,7 +20,7 @@ use Rattle.ft_model.specs.World.{World, Happens, Delivered, DeliveredAs, Flipped
 use Rattle.ft_model.specs.declared.event.Event.{Event}
 use Rattle.ft_model.specs.declared.event.Event.TheVariants as events
 use Rattle.ft_model.proofs.Lists.{none_is_some}
-use Rattle.ft_model.proofs.OneTrace.{goes_on}
+use Rattle.ft_model.proofs.OneTrace.{proceeds}
 use Rattle.trace_laws.specs.Deaths.{Step, ComesBack, MayHappen, MortalMoment, mortal_after, MortalJoint, IsAnswer, IsWithin, IsShown}
 use Rattle.trace_laws.specs.Deaths.Step.{Calm, Dies}
 
@@ -146,10 +146,10 @@ shown_kept service start before number message shown is =
     let there : IsAt shown.packets (To_logger message) = within_at before.packets shown.packets number (To_logger message) shown.within is in
     let lost : List Packet = answers_to before.log message in
     let after : World = record before { log = log_after before.log message; packets = shown.packets ++ lost } in
-    let heard : Happens service (beside before shown.packets) (events.Deliver there.0) lost after = (To_logger message, there.1, (refl, refl)) in
+    let receipt : Happens service (beside before shown.packets) (events.Deliver there.0) lost after = (To_logger message, there.1, (refl, refl)) in
     record {
       trace = record { event = events.Deliver there.0; sent = lost; world = after } ∷ shown.trace;
-      joint = (shown.joint, subst (λ w. Happens service w (events.Deliver there.0) lost after) (sym shown.same) heard);
+      joint = (shown.joint, subst (λ w. Happens service w (events.Deliver there.0) lost after) (sym shown.same) receipt);
       packets = shown.packets ++ lost;
       same = refl;
       within = within_lost before.packets shown.packets lost (answered (answer_to before.log message)) shown.within;
@@ -163,7 +163,7 @@ shown_back service start before (number ∷ numbers) log shown back =
 
 pub shown_step : {State : Type 0} (service : Machine State) (start before after : World) (step : Step) (sent : List Packet) → IsShown service start before
     → MayHappen service before step sent after → IsShown service start after
-shown_step service start before after (Calm event) sent shown h = shown_calm service start before after event sent shown h (goes_on service event before after sent h)
+shown_step service start before after (Calm event) sent shown h = shown_calm service start before after event sent shown h (proceeds service event before after sent h)
 shown_step service start before after (Dies numbers) sent shown h = subst (IsShown service start) (sym h.3) (shown_back service start before numbers h.0 shown h.1)
 
 pub all_shown : {State : Type 0} (service : Machine State) (start : World) (trace : List MortalMoment) → MortalJoint service start trace → IsShown service start (mortal_after start trace)

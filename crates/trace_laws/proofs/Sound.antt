@@ -20,14 +20,14 @@ use Rattle.ft_model.specs.FetchedFronts.{IsFront, AreFetched}
 use Rattle.ft_model.proofs.Fetching.{whole_is}
 use Rattle.ft_model.proofs.Asked.{progress_agrees}
 use Rattle.ft_model.proofs.Scripts.{EntryFits}
-use Rattle.ft_model.proofs.Services.{reads_go_on, more_bytes, prefix_length}
+use Rattle.ft_model.proofs.Services.{reads_proceed, more_bytes, prefix_length}
 use Rattle.ft_model.proofs.Running.{HasSmallOutputs}
 use Rattle.ft_model.proofs.AuthorOver.{EntryOf}
 use Rattle.ft_model.proofs.FaithfulOver.{script_of, isn_of}
 use Rattle.ft_model.proofs.Acknowledged.{start_is, short_scripts}
 use Rattle.ft_model.proofs.JointMasked as masked
 use Rattle.trace_laws.specs.Premises.{IsSoundFront, HasSoundFronts}
-use Rattle.trace_laws.proofs.FinsBelow.{EntryBelow, FinsBelow, start_below, below_goes_on}
+use Rattle.trace_laws.proofs.FinsBelow.{EntryBelow, FinsBelow, start_below, below_proceeds}
 use Rattle.ft_io.proofs.Choices.{some_if}
 use Rattle.ft_model.proofs.Unfenced.{if_some}
 
@@ -40,8 +40,8 @@ kept_after service small start trace j =
     let s : IsStart start = start_is service start trace j in
     holds_after service (Kept service start) start (λ x. (masked.start_sound service small start x, start_below (script_of start) start x))
     (λ before sent after o h. (
-      masked.sound_goes_on service small start before sent after s o.0 h,
-      below_goes_on service (script_of start) (isn_of start) before sent after (short_scripts start s) o.0.asked o.0.faithful o.1 h,
+      masked.sound_proceeds service small start before sent after s o.0 h,
+      below_proceeds service (script_of start) (isn_of start) before sent after (short_scripts start s) o.0.asked o.0.faithful o.1 h,
     )) trace j
 
 -- an entry of one author, whose whole run is short
@@ -49,7 +49,7 @@ entry_sound : {State : Type 0} (service : Machine State) (script author : Key �
     → EntryFits (script e.key) isn e → EntryOf author e → EntryBelow script e → IsSoundEntry service e
 entry_sound service script author isn e short f g b = record {
   output = subst (λ r. length r.output ≤ 2 ^ 24) (more_bytes service e.bytes (script e.key) e.lengths f.front g.1)
-      (le_trans (prefix_length _ _ (reads_go_on service (script e.key) e.lengths (author e.key) g.0).output) (short e.key));
+      (le_trans (prefix_length _ _ (reads_proceed service (script e.key) e.lengths (author e.key) g.0).output) (short e.key));
   fin = λ k. let low : length (script e.key) < 2 ^ 24 = b k in let all : length e.bytes ≡ length (script e.key) = f.fin k in omega (arith, low, all);
 }
 
@@ -120,5 +120,5 @@ pub front_short : {State : Type 0} (service : Machine State) (f : Fetched) (leng
     → length (reference service f.bytes lengths).output ≤ 2 ^ 24
 front_short service f lengths s p enough =
     let e : Entry = s.entry in
-    let goes = reads_go_on service e.bytes lengths e.lengths (prefix_trans lengths f.lengths e.lengths p s.lengths) in
+    let goes = reads_proceed service e.bytes lengths e.lengths (prefix_trans lengths f.lengths e.lengths p s.lengths) in
     subst (λ r. length r.output ≤ 2 ^ 24) (more_bytes service f.bytes e.bytes lengths s.bytes enough) (le_trans (prefix_length _ _ goes.output) s.sound.output)

@@ -7,7 +7,7 @@ use Rattle.seq_arith.specs.Message.{Message}
 use Rattle.ft_model.specs.Log.{Log, log_after}
 use Rattle.ft_model.specs.Network.{Packet, packet_at}
 use Rattle.ft_model.specs.Network.Packet.{To_logger, From_logger}
-use Rattle.ft_model.specs.Masked.{SeesFront, AcknowledgesLogged, RestartIsExact, AllAreTold}
+use Rattle.ft_model.specs.Masked.{SeesFront, AcknowledgesLogged, RestartIsExact, AllAreReported}
 use Rattle.ft_model.specs.World.{World, Moment, Happens, IsStart, Joint, world_after}
 use Rattle.ft_model.specs.declared.event.Event.{Event}
 
@@ -66,7 +66,7 @@ pub record IsUnseen {State : Type 0} (service : Machine State) (before : World) 
   pub clients : AllByRecursion (SeesFront service after.log) after.clients
   pub acknowledged : AllByRecursion (AcknowledgesLogged after.log after.clients) sent
   pub restart : RestartIsExact service after.log before.node after.node
-  pub told : AllAreTold after.packets after.node
+  pub reported : AllAreReported after.packets after.node
 
 -- .. and after every moment of a trace
 abbrev pub Unseen : {State : Type 0} → Machine State → World → List MortalMoment → Type 0

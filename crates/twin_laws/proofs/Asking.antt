@@ -13,11 +13,11 @@ use Rattle.seq_arith.specs.Message.{Message, is_answer}
 use Rattle.seq_arith.specs.MessageGrammar as messages
 use Rattle.seq_arith.specs.TwinGrammar as twins
 use Rattle.seq_arith.proofs.MessageSpelling.{bounded, room}
-use Rattle.seq_arith.proofs.Refused.{goes_on}
+use Rattle.seq_arith.proofs.Refused.{proceeds}
 use Rattle.seq_arith.proofs.TwinSpelling.{twin_is_read}
 use Rattle.twin_laws.specs.Twin.{Request, from_other_logger, asked, forwarded_as, datagram_of, bytes_of}
 use Rattle.twin_laws.specs.Twin.Between.{Forward, Got}
-use Rattle.twin_laws.specs.Twin.Comes.{Tells}
+use Rattle.twin_laws.specs.Twin.Comes.{Reports}
 use Rattle.twin_laws.specs.TwinWorld.{CanBeSent}
 
 length_of : (grammar : Grammar) (kind : Option Kind) (bytes : List ℕ) → IsOk (messages.reading_if grammar kind bytes) → length bytes ≤ 1491
@@ -27,7 +27,7 @@ length_of grammar (Some kind) bytes ok =
     let other : Bool = not (nat_eq (word_at bytes 4) (length bytes))
     in let last : Result Message BadMsg = if not (messages.is_sound_in grammar kind bytes) then Err bad.Field else Ok (messages.message_in kind bytes)
     in let rest : Result Message BadMsg = if not (nat_eq (checksum bytes) 0) then Err bad.Sum else last
-    in let sized : other || not (messages.has_length kind (length bytes)) ≡ false = (goes_on (other || not (messages.has_length kind (length bytes))) bad.Length rest ok).0
+    in let sized : other || not (messages.has_length kind (length bytes)) ≡ false = (proceeds (other || not (messages.has_length kind (length bytes))) bad.Length rest ok).0
     in let has : messages.has_length kind (length bytes) ≡ true = not-false _ (right_false other (not (messages.has_length kind (length bytes))) sized)
     in omega (arith, (bounded kind (length bytes) has).1, room kind)
 
@@ -40,8 +40,8 @@ read_fits grammar bytes ok =
     in let last : Result Message BadMsg = messages.reading_if grammar (messages.kind_numbered (slice_index bytes 3)) bytes
     in let third : Result Message BadMsg = if version then Err bad.Version else last
     in let second : Result Message BadMsg = if magic then Err bad.Magic else third
-    in let long : (short ≡ false) × IsOk second = goes_on short bad.Short second ok
-    in (ltb-false (length bytes) 16 long.0, length_of grammar (messages.kind_numbered (slice_index bytes 3)) bytes (goes_on version bad.Version last (goes_on magic bad.Magic third long.1).1).1)
+    in let long : (short ≡ false) × IsOk second = proceeds short bad.Short second ok
+    in (ltb-false (length bytes) 16 long.0, length_of grammar (messages.kind_numbered (slice_index bytes 3)) bytes (proceeds version bad.Version last (proceeds magic bad.Magic third long.1).1).1)
 
 asking_is_read : (r : Result Message BadMsg) → twins.says_asking r ≡ true → IsOk r
 asking_is_read (Ok message) is = refl
@@ -66,7 +66,7 @@ pub got_spells : (grammar : Grammar) (number : ℕ) → 1 ≤ number → number 
 unfolding twins.is_sound_by twins.has_length
 got_spells grammar number some few = record { number = few; sound = le-leb 1 number some; size = refl }
 
-says : (grammar : Grammar) (number : ℕ) (r : Request) → messages.reading_by grammar r.bytes ≡ Ok r.message → forwarded_as number (asked r.bytes (messages.reading_by grammar r.bytes)) ≡ Tells (Forward number r)
+says : (grammar : Grammar) (number : ℕ) (r : Request) → messages.reading_by grammar r.bytes ≡ Ok r.message → forwarded_as number (asked r.bytes (messages.reading_by grammar r.bytes)) ≡ Reports (Forward number r)
 says grammar number r is = ap (λ x. forwarded_as number (asked r.bytes x)) is
 
 asks_so : (grammar : Grammar) (r : Request) → messages.reading_by grammar r.bytes ≡ Ok r.message → is_answer r.message.body ≡ false → twins.is_asking_by grammar r.bytes ≡ true
@@ -83,8 +83,8 @@ unfolding bytes_of
 got_is_sent grammar number some few = twin_is_read (datagram_of (Got number)) (got_spells grammar number some few)
 
 pub forward_is_read : (grammar : Grammar) (number : ℕ) (r : Request) → messages.reading_by grammar r.bytes ≡ Ok r.message → is_answer r.message.body ≡ false → 1 ≤ number → number < 2 ^ 64
-    → from_other_logger grammar (twins.reading_by grammar (bytes_of (Forward number r))) ≡ Tells (Forward number r)
+    → from_other_logger grammar (twins.reading_by grammar (bytes_of (Forward number r))) ≡ Reports (Forward number r)
 forward_is_read grammar number r is asking some few = ap (from_other_logger grammar) (forward_is_sent grammar number r is asking some few) ∙ says grammar number r is
 
-pub got_is_read : (grammar : Grammar) (number : ℕ) → 1 ≤ number → number < 2 ^ 64 → from_other_logger grammar (twins.reading_by grammar (bytes_of (Got number))) ≡ Tells (Got number)
+pub got_is_read : (grammar : Grammar) (number : ℕ) → 1 ≤ number → number < 2 ^ 64 → from_other_logger grammar (twins.reading_by grammar (bytes_of (Got number))) ≡ Reports (Got number)
 got_is_read grammar number some few = ap (from_other_logger grammar) (got_is_sent grammar number some few)

@@ -17,7 +17,7 @@ use Rattle.ft_model.specs.declared.event.Event.TheVariants as events
 use Rattle.ft_model.proofs.Lists.{all_append, all_slice_get, none_is_some}
 use Rattle.twin_laws.specs.Twin.{Request, Between, Comes, Head, Tail, Does, head_does, tail_does, with_taken, waiting, head_paired, head_alone, tail_alone, tail_applies, nothing, has_room, confirmed_to, sends_waiting, applies_next, confirms_again, from_other_logger, asked, datagram_of, bytes_of}
 use Rattle.twin_laws.specs.Twin.Between.{Forward, Got}
-use Rattle.twin_laws.specs.Twin.Comes.{Asks, Tells, Is_noise}
+use Rattle.twin_laws.specs.Twin.Comes.{Asks, Reports, Is_noise}
 use Rattle.twin_laws.specs.Pair.{Pair, head_has, tail_has, stopped_by, log_over}
 use Rattle.twin_laws.specs.declared.part.Part.{Part}
 use Rattle.twin_laws.specs.declared.part.Part.TheVariants as parts
@@ -34,7 +34,7 @@ use Rattle.twin_laws.proofs.Noise.{flipped_is_noise, asked_nothing}
 use Rattle.seq_arith.specs.TwinGrammar as twins
 use Rattle.seq_arith.specs.MessageGrammar as messages
 use Rattle.seq_arith.specs.Damage.{flipped}
-use Rattle.ft_model.specs.Wire.{CanBeToldBy}
+use Rattle.ft_model.specs.Wire.{CanBeWrittenBy}
 use Rattle.ft_model.proofs.Happened.{nothing_read, message_bit_changed}
 
 -- what goes between the loggers is true of them
@@ -267,24 +267,24 @@ unmoved service first w now name f s same taken applied stands =
 gots : {State : Type 0} (service : Machine State) (first before : TwinWorld) (hs ts : Bool) (head : Head) (tail : Tail) (fh ft : List Between) (answers : List Message) (given : List Request)
     → let p : Pair = pair_of hs ts head tail fh ft answers given in let w : TwinWorld = record before { pair = p } in
     (name : TwinEvent) (k : ℕ) (f : Flat) → k ≤ tail.applied → Flattens service first w f
-    → let sent : List Parcel = if hs then [] else sent_by (head_does (Tells (Got k)) head) in
-    Flattens service first (with_pair w (head_has (Tells (Got k)) p) sent) (left_out (moment_of name sent (with_pair w (head_has (Tells (Got k)) p) sent)) f)
+    → let sent : List Parcel = if hs then [] else sent_by (head_does (Reports (Got k)) head) in
+    Flattens service first (with_pair w (head_has (Reports (Got k)) p) sent) (left_out (moment_of name sent (with_pair w (head_has (Reports (Got k)) p) sent)) f)
 gots service first before true ts head tail fh ft answers given name k f few s =
     let p : Pair = pair_of true ts head tail fh ft answers given in
     unmoved service first (record before { pair = p }) p name f s refl refl refl s.pair
 gots service first before false true head tail fh ft answers given name k f few s =
     let p : Pair = pair_of false true head tail fh ft answers given in
     let w : TwinWorld = record before { pair = p } in
-    let does : head_does (Tells (Got k)) head ≡ nothing head = if_true head.alone (nothing head) (nothing (confirmed_to k head)) s.pair.head_alone in
-    subst (λ x. Flattens service first (with_pair w (head_has (Tells (Got k)) p) x) (left_out (moment_of name x (with_pair w (head_has (Tells (Got k)) p) x)) f)) (sym (ap sent_by does))
-    (unmoved service first w (head_has (Tells (Got k)) p) name f s (ap (λ d. d.next.log) does) (ap (λ d. d.next.taken) does) refl (got false true head tail fh ft answers given k few s.pair))
+    let does : head_does (Reports (Got k)) head ≡ nothing head = if_true head.alone (nothing head) (nothing (confirmed_to k head)) s.pair.head_alone in
+    subst (λ x. Flattens service first (with_pair w (head_has (Reports (Got k)) p) x) (left_out (moment_of name x (with_pair w (head_has (Reports (Got k)) p) x)) f)) (sym (ap sent_by does))
+    (unmoved service first w (head_has (Reports (Got k)) p) name f s (ap (λ d. d.next.log) does) (ap (λ d. d.next.taken) does) refl (got false true head tail fh ft answers given k few s.pair))
 gots service first before false false head tail fh ft answers given name k f few s =
     let p : Pair = pair_of false false head tail fh ft answers given in
     let w : TwinWorld = record before { pair = p } in
-    let does : head_does (Tells (Got k)) head ≡ nothing (confirmed_to k head) = if_false head.alone (nothing head) (nothing (confirmed_to k head)) s.pair.head_alone in
+    let does : head_does (Reports (Got k)) head ≡ nothing (confirmed_to k head) = if_false head.alone (nothing head) (nothing (confirmed_to k head)) s.pair.head_alone in
     let taken : (confirmed_to k head).taken ≡ head.taken = holds_if (λ h. h.taken ≡ head.taken) (nat_lt head.confirmed k && nat_le k (length head.taken)) (record head { confirmed = k }) head (λ r. refl) (λ r. refl) in
-    subst (λ x. Flattens service first (with_pair w (head_has (Tells (Got k)) p) x) (left_out (moment_of name x (with_pair w (head_has (Tells (Got k)) p) x)) f)) (sym (ap sent_by does))
-    (unmoved service first w (head_has (Tells (Got k)) p) name f s refl (ap (λ d. d.next.taken) does ∙ taken) refl (got false false head tail fh ft answers given k few s.pair))
+    subst (λ x. Flattens service first (with_pair w (head_has (Reports (Got k)) p) x) (left_out (moment_of name x (with_pair w (head_has (Reports (Got k)) p) x)) f)) (sym (ap sent_by does))
+    (unmoved service first w (head_has (Reports (Got k)) p) name f s refl (ap (λ d. d.next.taken) does ∙ taken) refl (got false false head tail fh ft answers given k few s.pair))
 
 -- a Forward comes to the tail of a pair
 paired_forward : {State : Type 0} (service : Machine State) (first before : TwinWorld) (head : Head) (tail : Tail) (fh ft : List Between) (answers : List Message) (given : List Request)
@@ -331,8 +331,8 @@ paired_forward service first before head tail fh ft answers given name k r f fal
 forwards : {State : Type 0} (service : Machine State) (first before : TwinWorld) (hs ts : Bool) (head : Head) (tail : Tail) (fh ft : List Between) (answers : List Message) (given : List Request)
     → let p : Pair = pair_of hs ts head tail fh ft answers given in let w : TwinWorld = record before { pair = p } in
     (name : TwinEvent) (k : ℕ) (r : Request) (f : Flat) → IsForwarded head.taken (Forward k r) → Flattens service first w f
-    → let sent : List Parcel = if ts then [] else sent_by (tail_does (Tells (Forward k r)) tail) in
-    Flattens service first (with_pair w (tail_has (Tells (Forward k r)) p) sent) (forwarded_flat w k (moment_of name sent (with_pair w (tail_has (Tells (Forward k r)) p) sent)) f)
+    → let sent : List Parcel = if ts then [] else sent_by (tail_does (Reports (Forward k r)) tail) in
+    Flattens service first (with_pair w (tail_has (Reports (Forward k r)) p) sent) (forwarded_flat w k (moment_of name sent (with_pair w (tail_has (Reports (Forward k r)) p) sent)) f)
 forwards service first before true true head tail fh ft answers given name k r f t s = absurd (true≢false s.pair.one)
 forwards service first before false true head tail fh ft answers given name k r f t s =
     let p : Pair = pair_of false true head tail fh ft answers given in
@@ -340,9 +340,9 @@ forwards service first before false true head tail fh ft answers given name k r 
 forwards service first before true false head tail fh ft answers given name k r f t s =
     let p : Pair = pair_of true false head tail fh ft answers given in
     let w : TwinWorld = record before { pair = p } in
-    let does : tail_does (Tells (Forward k r)) tail ≡ nothing tail = if_true tail.alone (nothing tail) (tail_applies k r tail) s.pair.tail_alone in
-    subst (λ x. Flattens service first (with_pair w (tail_has (Tells (Forward k r)) p) x) (left_out (moment_of name x (with_pair w (tail_has (Tells (Forward k r)) p) x)) f)) (sym (ap sent_by does))
-    (unmoved service first w (tail_has (Tells (Forward k r)) p) name f s (ap (λ d. d.next.log) does) refl (ap (λ d. d.next.applied) does) (forward true false head tail fh ft answers given k r t s.pair))
+    let does : tail_does (Reports (Forward k r)) tail ≡ nothing tail = if_true tail.alone (nothing tail) (tail_applies k r tail) s.pair.tail_alone in
+    subst (λ x. Flattens service first (with_pair w (tail_has (Reports (Forward k r)) p) x) (left_out (moment_of name x (with_pair w (tail_has (Reports (Forward k r)) p) x)) f)) (sym (ap sent_by does))
+    (unmoved service first w (tail_has (Reports (Forward k r)) p) name f s (ap (λ d. d.next.log) does) refl (ap (λ d. d.next.applied) does) (forward true false head tail fh ft answers given k r t s.pair))
 forwards service first before false false head tail fh ft answers given name k r f t s =
     paired_forward service first before head tail fh ft answers given name k r f tail.alone (k == tail.applied + 1) (nat_le k tail.applied) s.pair.tail_alone refl t s
     (forward false false head tail fh ft answers given k r t s.pair)
@@ -433,12 +433,12 @@ parcel_flat service first before after n (Outside (From_logger m)) sent f at s t
     comes service first before after n (From_logger m) sent f (λ w ps out u d. server_elsewhere service (Message_comes m) w ps out u d) at s h
 parcel_flat service first before after n (Inside (Forward k m)) sent f at s t h =
     subst (λ a. Flattens service first a (forwarded_flat before k (moment_of (Usual (Deliver n)) sent a) f)) (sym h.1)
-    (subst (λ x. Flattens service first (with_pair before (tail_has (Tells (Forward k m)) before.pair) x) (forwarded_flat before k (moment_of (Usual (Deliver n)) x (with_pair before (tail_has (Tells (Forward k m)) before.pair) x)) f)) (sym h.0)
+    (subst (λ x. Flattens service first (with_pair before (tail_has (Reports (Forward k m)) before.pair) x) (forwarded_flat before k (moment_of (Usual (Deliver n)) x (with_pair before (tail_has (Reports (Forward k m)) before.pair) x)) f)) (sym h.0)
     (forwards service first before before.pair.head_stopped before.pair.tail_stopped before.pair.head before.pair.tail before.pair.from_head before.pair.from_tail before.pair.answers before.pair.given
     (Usual (Deliver n)) k m f t s))
 parcel_flat service first before after n (Inside (Got k)) sent f at s t h =
     subst (λ a. Flattens service first a (left_out (moment_of (Usual (Deliver n)) sent a) f)) (sym h.1)
-    (subst (λ x. Flattens service first (with_pair before (head_has (Tells (Got k)) before.pair) x) (left_out (moment_of (Usual (Deliver n)) x (with_pair before (head_has (Tells (Got k)) before.pair) x)) f)) (sym h.0)
+    (subst (λ x. Flattens service first (with_pair before (head_has (Reports (Got k)) before.pair) x) (left_out (moment_of (Usual (Deliver n)) x (with_pair before (head_has (Reports (Got k)) before.pair) x)) f)) (sym h.0)
     (gots service first before before.pair.head_stopped before.pair.tail_stopped before.pair.head before.pair.tail before.pair.from_head before.pair.from_tail before.pair.answers before.pair.given
     (Usual (Deliver n)) k f t s))
 
@@ -496,7 +496,7 @@ tail_noise_left service first w name f s =
 
 -- .. and a flip of a message to a logger that is alone stays, as noise
 noise_stays : {State : Type 0} (service : Machine State) (first w : TwinWorld) (now : Pair) (name : TwinEvent) (q bit : ℕ) (m : Message) (f : Flat) → Flattens service first w f
-    → packet_at f.packets q ≡ Some (To_logger m) → CanBeToldBy (grammar_of w.profile) m → bit < 8 * length (messages.spelling_by (grammar_of w.profile) m) → serving now ≡ serving w.pair → now.head.taken ≡ w.pair.head.taken → now.tail.applied ≡ w.pair.tail.applied → PairInvariant now
+    → packet_at f.packets q ≡ Some (To_logger m) → CanBeWrittenBy (grammar_of w.profile) m → bit < 8 * length (messages.spelling_by (grammar_of w.profile) m) → serving now ≡ serving w.pair → now.head.taken ≡ w.pair.head.taken → now.tail.applied ≡ w.pair.tail.applied → PairInvariant now
     → Flattens service first (with_pair w now []) (kept_as (Flip q bit) (moment_of name [] (with_pair w now [])) f)
 noise_stays service first w now name q bit m f s at wire within same taken applied stands =
     let before : World = seen w f.packets in
@@ -511,7 +511,7 @@ noise_stays service first w now name q bit m f s at wire within same taken appli
 flip_logger : {State : Type 0} (service : Machine State) (first before : TwinWorld) (hs ts : Bool) (head : Head) (tail : Tail) (fh ft : List Between) (answers : List Message) (given : List Request)
     → let p : Pair = pair_of hs ts head tail fh ft answers given in let w : TwinWorld = record before { pair = p } in
     (n bit : ℕ) (m : Message) (c : Comes) (sent : List Parcel) (after : TwinWorld) (f : Flat) → Flattens service first w f → packet_at f.packets (new_number f n) ≡ Some (To_logger m)
-    → CanBeToldBy (grammar_of before.profile) m → bit < 8 * length (messages.spelling_by (grammar_of before.profile) m) → c ≡ Is_noise → LoggerHas hs c w sent after
+    → CanBeWrittenBy (grammar_of before.profile) m → bit < 8 * length (messages.spelling_by (grammar_of before.profile) m) → c ≡ Is_noise → LoggerHas hs c w sent after
     → Flattens service first after (kept_alone w (Flip (new_number f n) bit) (moment_of (Usual (Flip n bit)) sent after) (left_out (moment_of (Usual (Flip n bit)) sent after) f) f)
 flip_logger service first before true true head tail fh ft answers given n bit m c sent after f s at wire within noise d = absurd (true≢false s.pair.one)
 flip_logger service first before true false head tail fh ft answers given n bit m c sent after f s at wire within noise d =

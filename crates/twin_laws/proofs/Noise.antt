@@ -12,9 +12,9 @@ use Rattle.seq_arith.proofs.Flipped.{flipped_twin_is_refused_by}
 use Rattle.twin_laws.specs.Twin.{from_other_logger, asked}
 use Rattle.twin_laws.specs.Twin.Comes.{Is_noise}
 
-pub told_nothing : (grammar : Grammar) (r : Result TwinDatagram BadTwin) → IsErr r → from_other_logger grammar r ≡ Is_noise
-told_nothing grammar (Err why) refused = refl
-told_nothing grammar (Ok datagram) refused = absurd (true≢false (sym refused))
+pub reported_nothing : (grammar : Grammar) (r : Result TwinDatagram BadTwin) → IsErr r → from_other_logger grammar r ≡ Is_noise
+reported_nothing grammar (Err why) refused = refl
+reported_nothing grammar (Ok datagram) refused = absurd (true≢false (sym refused))
 
 pub asked_nothing : (bytes : List ℕ) (r : Result Message BadMsg) → IsErr r → asked bytes r ≡ Is_noise
 asked_nothing bytes (Err why) refused = refl
@@ -22,4 +22,4 @@ asked_nothing bytes (Ok message) refused = absurd (true≢false (sym refused))
 
 pub flipped_is_noise : (grammar : Grammar) (bit : ℕ) (bytes : List ℕ) (datagram : TwinDatagram) → reading_by grammar bytes ≡ Ok datagram → bit < 8 * length bytes
     → from_other_logger grammar (reading_by grammar (flipped bit bytes)) ≡ Is_noise
-flipped_is_noise grammar bit bytes datagram is within = told_nothing grammar (reading_by grammar (flipped bit bytes)) (flipped_twin_is_refused_by grammar bit bytes datagram is within)
+flipped_is_noise grammar bit bytes datagram is within = reported_nothing grammar (reading_by grammar (flipped bit bytes)) (flipped_twin_is_refused_by grammar bit bytes datagram is within)

@@ -13,7 +13,7 @@ use Rattle.twin_laws.specs.TwinWorld.{TwinWorld, TwinMoment, TwinHappens, TwinJo
 use Rattle.twin_laws.specs.TwinLegal.{twin_start, twin_refusal, twin_events_of, event_of, IsTwinAllowed, AllTwinAllowed, IsTwinLegalFor, twin_packets_sent}
 use Rattle.twin_laws.specs.TwinOutcome.{IsTwinWhole, IsTwinRefused, IsTwinPastPackets}
 use Rattle.twin_laws.proofs.OneTrace.{legal_once}
-use Rattle.twin_laws.proofs.OneTurn.{twin_once, named_once, twin_goes_on}
+use Rattle.twin_laws.proofs.OneTurn.{twin_once, named_once, twin_proceeds}
 
 -- an allowed event is done by scripted clients
 record Goes {State : Type 0} (service : Machine State) (before : TwinWorld) (event : Event) (after : TwinWorld) : Type 0 where
@@ -38,9 +38,9 @@ module _ {State : Type 0} (service : Machine State) where
       (subst (λ e. IsTwinAllowed before (record g.moment { event = e })) same g.allowed).scripted h.allowed.scripted
       ∙ h.ends)
 
-  goes_on : (event : Event) (before w : TwinWorld) → Goes service before event w → length before.parcels ≤ length w.parcels
-  goes_on event before w g =
-      let grown : w.parcels ≡ before.parcels ++ g.moment.sent = ap (λ v. v.parcels) (sym g.ends) ∙ twin_goes_on service g.moment.event before g.moment.world g.moment.sent g.happens in
+  proceeds : (event : Event) (before w : TwinWorld) → Goes service before event w → length before.parcels ≤ length w.parcels
+  proceeds event before w g =
+      let grown : w.parcels ≡ before.parcels ++ g.moment.sent = ap (λ v. v.parcels) (sym g.ends) ∙ twin_proceeds service g.moment.event before g.moment.world g.moment.sent g.happens in
       let long : length w.parcels ≡ length before.parcels + length g.moment.sent = ap length grown ∙ length-append before.parcels g.moment.sent in
       omega arith
 
@@ -49,7 +49,7 @@ module _ {State : Type 0} (service : Machine State) where
 
   runs_on : (events : List Event) (before w : TwinWorld) → Runs service before events w → length before.parcels ≤ length w.parcels
   runs_on [] before w r = subst (λ v. length before.parcels ≤ length v.parcels) (sym r) (omega arith)
-  runs_on (event ∷ events) before w r = omega (arith, goes_on event before r.0 r.1, runs_on events r.0 w r.2)
+  runs_on (event ∷ events) before w r = omega (arith, proceeds event before r.0 r.1, runs_on events r.0 w r.2)
 
   -- the longer run begins with the shorter one
   runs_split : (events more : List Event) (before w x : TwinWorld) → Runs service before events w → Runs service before (events ++ more) x → Runs service w more x

@@ -11,12 +11,12 @@ use Rattle.ft_model.specs.declared.event.Event.{Event}
 use Rattle.ft_model.specs.declared.schedule.Schedule.{Schedule}
 use Rattle.ft_model.proofs.Lists.{all_front}
 use Rattle.ft_model.proofs.ReportHeader.{IsSameHeader}
-use Rattle.ft_model.proofs.ReportTurns.{Telling, sent_in, lines_of}
-use Rattle.ft_model.proofs.ReportTells.{AreDetermined, its_clients, text_of, all_told, determined_told, same_schedule}
+use Rattle.ft_model.proofs.ReportTurns.{Reporting, sent_in, lines_of}
+use Rattle.ft_model.proofs.ReportDetermines.{AreDetermined, its_clients, text_of, all_reported, determined_reported, same_schedule}
 use Rattle.twin_laws.specs.TwinLegal.{twin_start, twin_events_of, event_of, IsTwinAllowed, AllTwinAllowed, IsTwinLegalFor, TwinLegal}
 use Rattle.twin_laws.specs.TwinReport.{parcel_lines, parcel_count, twin_event_lines, twin_report}
 use Rattle.twin_laws.specs.TwinWorld.{TwinWorld, TwinMoment, TwinHappens, TwinJoint, seen, twin_after}
-use Rattle.twin_laws.proofs.OneTurn.{twin_once, named_once, twin_goes_on}
+use Rattle.twin_laws.proofs.OneTurn.{twin_once, named_once, twin_proceeds}
 
 module _ {State : Type 0} (service : Machine State) where
   -- two moments that a schedule names alike, from one world on, are the same
@@ -29,7 +29,7 @@ module _ {State : Type 0} (service : Machine State) where
       let world : m.world ≡ n.world = twin_once service n.event before m.world n.world m.sent n.sent there q allowed.scripted b.scripted in
       let sent : m.sent ≡ n.sent =
       append_cancel_left before.parcels m.sent n.sent
-      (sym (twin_goes_on service n.event before m.world m.sent there) ∙ (ap (λ v. v.parcels) world ∙ twin_goes_on service n.event before n.world n.sent q)) in
+      (sym (twin_proceeds service n.event before m.world m.sent there) ∙ (ap (λ v. v.parcels) world ∙ twin_proceeds service n.event before n.world n.sent q)) in
       λ i. record { event = event i; sent = sent i; world = world i }
 
   traces_once : (start : TwinWorld) (trace other : List TwinMoment) → TwinJoint service start trace → TwinJoint service start other → AllTwinAllowed start trace → AllTwinAllowed start other
@@ -69,8 +69,8 @@ size m = length m.sent
 abbrev lines : List Client → ℕ → TwinMoment → List ℕ
 lines clients k m = parcel_lines clients k m.sent
 
-abbrev moments : List Client → Telling TwinMoment TwinMoment
-moments = all_told (λ m. event_of m.event) size lines
+abbrev moments : List Client → Reporting TwinMoment TwinMoment
+moments = all_reported (λ m. event_of m.event) size lines
 
 counted : (clients : List Client) (trace : List TwinMoment) → parcel_count trace ≡ sent_in (moments clients) trace
 counted clients [] = refl
@@ -91,14 +91,14 @@ played service schedule trace fits l = (l.joint, l.allowed, subst (AllByRecursio
 same_start : (schedule other : Schedule) → IsSameHeader schedule other → twin_start schedule ≡ twin_start other
 same_start schedule other h = λ i. twin_start (record { service = h.service i; server = h.server i; profile = h.profile i; twin = h.twin i; marks = h.marks i; lasting = h.lasting i; clients = h.clients i; events = schedule.events })
 
-pub legal_told : {State : Type 0} (service : ℕ → Machine State) (schedule other : Schedule) (trace also : List TwinMoment) → FitsSchedule schedule → FitsSchedule other
+pub legal_reported : {State : Type 0} (service : ℕ → Machine State) (schedule other : Schedule) (trace also : List TwinMoment) → FitsSchedule schedule → FitsSchedule other
     → TwinLegal service schedule trace → TwinLegal service other also → twin_report schedule trace ≡ twin_report other also → (schedule ≡ other) × (trace ≡ also)
-legal_told {State} service schedule other trace also fits too l k e =
+legal_reported {State} service schedule other trace also fits too l k e =
     let start : TwinWorld = twin_start schedule in
     let runs : Machine State = service (kind_of schedule.service) in
     let same : IsSameHeader schedule other → IsPlayed runs start also =
     λ h. subst₂ (λ name w. IsPlayed (service (kind_of name)) w also) (sym h.service) (sym (same_start schedule other h)) (played service other also too k) in
     let texts = sym (report_is schedule trace) ∙ (e ∙ report_is other also) in
-    let all = determined_told (λ (m : TwinMoment). event_of m.event) twin_events_of size lines schedule other (IsPlayed runs start) fits too (played_determined runs start)
+    let all = determined_reported (λ (m : TwinMoment). event_of m.event) twin_events_of size lines schedule other (IsPlayed runs start) fits too (played_determined runs start)
     trace also (seen (twin_after start trace) []) (seen (twin_after (twin_start other) also) []) (played service schedule trace fits l) same texts in
     (same_schedule schedule other all.0 (sym l.events_are ∙ (ap twin_events_of all.1 ∙ k.events_are)), all.1)

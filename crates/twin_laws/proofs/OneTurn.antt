@@ -18,7 +18,7 @@ use Rattle.ft_model.proofs.OneTrace.{happens_once}
 use Rattle.twin_laws.specs.declared.part.Part.{Part}
 use Rattle.twin_laws.specs.declared.part.Part.TheVariants as parts
 use Rattle.twin_laws.specs.Twin.{Comes, from_other_logger, bytes_of}
-use Rattle.twin_laws.specs.Twin.Comes.{Asks, Tells}
+use Rattle.twin_laws.specs.Twin.Comes.{Asks, Reports}
 use Rattle.twin_laws.specs.Twin.Between.{Forward, Got}
 use Rattle.twin_laws.specs.Flat.{outside}
 use Rattle.twin_laws.specs.Pair.{stopped_by, head_has, tail_has}
@@ -88,8 +88,8 @@ module _ {State : Type 0} (service : Machine State) where
       elsewhere_once (λ v. Delivered service v (From_logger message)) alone before w x s t
       (λ ps qs a b c d. brought_once (From_logger message) (seen before []) (seen w ps) (seen x qs) ps qs
       (server_elsewhere service _ (seen before []) alone ps (seen w ps) c) (server_elsewhere service _ (seen before []) alone qs (seen x qs) d)) p q
-  parcel_once (Inside (Forward number request)) before w x s t p q = tail_once (Tells (Forward number request)) before w x s t p q
-  parcel_once (Inside (Got number)) before w x s t p q = head_once (Tells (Got number)) before w x s t p q
+  parcel_once (Inside (Forward number request)) before w x s t p q = tail_once (Reports (Forward number request)) before w x s t p q
+  parcel_once (Inside (Got number)) before w x s t p q = head_once (Reports (Got number)) before w x s t p q
 
   flip_once : (parcel : Parcel) (bit : ℕ) (before w x : TwinWorld) (s t : List Parcel) → ParcelFlipped service parcel bit before s w → ParcelFlipped service parcel bit before t x → w ≡ x
   flip_once (Outside (To_logger message)) bit before w x s t p q = logger_once before.pair.head_stopped _ before w x s t p.2 q.2
@@ -181,16 +181,16 @@ module _ {State : Type 0} (service : Machine State) where
   flip_on (Inside (Forward number request)) bit before w s p = ap (λ v. v.parcels) p.2.1
   flip_on (Inside (Got number)) bit before w s p = ap (λ v. v.parcels) p.2.1
 
-  pub twin_goes_on : (event : TwinEvent) (before w : TwinWorld) (s : List Parcel) → TwinHappens service before event s w → w.parcels ≡ before.parcels ++ s
-  twin_goes_on (Usual (Deliver number)) before w s p = parcel_on p.0 before w s p.2
-  twin_goes_on (Usual (Flip number bit)) before w s p = flip_on p.0 bit before w s p.2
-  twin_goes_on (Usual (Boot boot isn)) before w s p = p.4
-  twin_goes_on (Usual Crash) before w s p = p.4
-  twin_goes_on (Usual Tick) before w s p = p.4
-  twin_goes_on (Usual (Begin client window)) before w s p = p.4
-  twin_goes_on (Usual (Send client from len)) before w s p = p.4
-  twin_goes_on (Usual (Fin client)) before w s p = p.4
-  twin_goes_on (Usual (Ack client window)) before w s p = p.4
-  twin_goes_on (Usual (Reset client)) before w s p = p.4
-  twin_goes_on (Usual (events.Stop part)) before w s p = p.4
-  twin_goes_on (Stop part) before w s p = ap (λ v. v.parcels) p.3
+  pub twin_proceeds : (event : TwinEvent) (before w : TwinWorld) (s : List Parcel) → TwinHappens service before event s w → w.parcels ≡ before.parcels ++ s
+  twin_proceeds (Usual (Deliver number)) before w s p = parcel_on p.0 before w s p.2
+  twin_proceeds (Usual (Flip number bit)) before w s p = flip_on p.0 bit before w s p.2
+  twin_proceeds (Usual (Boot boot isn)) before w s p = p.4
+  twin_proceeds (Usual Crash) before w s p = p.4
+  twin_proceeds (Usual Tick) before w s p = p.4
+  twin_proceeds (Usual (Begin client window)) before w s p = p.4
+  twin_proceeds (Usual (Send client from len)) before w s p = p.4
+  twin_proceeds (Usual (Fin client)) before w s p = p.4
+  twin_proceeds (Usual (Ack client window)) before w s p = p.4
+  twin_proceeds (Usual (Reset client)) before w s p = p.4
+  twin_proceeds (Usual (events.Stop part)) before w s p = p.4
+  twin_proceeds (Stop part) before w s p = ap (λ v. v.parcels) p.3

@@ -7,12 +7,12 @@ use Rattle.ft_io.proofs.Choices.{holds_if}
 use Rattle.ft_model.specs.Log.{log_after, answer_to}
 use Rattle.ft_model.proofs.Lists.{all_append, all_weaker, all_slice_get, none_is_some}
 use Rattle.twin_laws.specs.Twin.{Request, Between, Head, Tail, Does, head_takes, with_taken, waiting, numbered, confirmed_to, tail_applies, has_room, head_paired, head_alone, tail_alone, nothing, sends_waiting, applies_next, confirms_again}
-use Rattle.twin_laws.specs.Twin.Comes.{Asks, Tells, Is_noise}
+use Rattle.twin_laws.specs.Twin.Comes.{Asks, Reports, Is_noise}
 use Rattle.twin_laws.specs.Twin.Between.{Forward, Got}
-use Rattle.twin_laws.specs.Pair.{Pair, Delivery, new_pair, told_by, head_has, tail_has, pair_after, pair_over, ActsAsOne}
+use Rattle.twin_laws.specs.Pair.{Pair, Delivery, new_pair, reported_by, head_has, tail_has, pair_after, pair_over, ActsAsOne}
 use Rattle.twin_laws.specs.declared.part.Part.{Part}
 use Rattle.twin_laws.specs.declared.part.Part.TheVariants as parts
-use Rattle.twin_laws.specs.Pair.Delivery.{Server_asks, Other_tells, Noise_comes_to, Stops}
+use Rattle.twin_laws.specs.Pair.Delivery.{Server_asks, Other_reports, Noise_comes_to, Stops}
 use Rattle.twin_laws.proofs.Holding.{Holds, Paired, paired_from, holds_from, took, applies, tail_given, head_given, head_stops, tail_stops}
 
 -- a Forward that was sent has a message of the head's at its number
@@ -199,7 +199,7 @@ got_confirms p k few hs ts s = record {
 }
 
 pub got : (hs ts : Bool) (head : Head) (tail : Tail) (fh ft : List Between) (answers : List Message) (given : List Request) (k : ℕ) → k ≤ tail.applied
-    → PairInvariant (pair_of hs ts head tail fh ft answers given) → PairInvariant (head_has (Tells (Got k)) (pair_of hs ts head tail fh ft answers given))
+    → PairInvariant (pair_of hs ts head tail fh ft answers given) → PairInvariant (head_has (Reports (Got k)) (pair_of hs ts head tail fh ft answers given))
 got true ts head tail fh ft answers given k few s = s
 got false true head tail fh ft answers given k few s =
     let p : Pair = pair_of false true head tail fh ft answers given in
@@ -214,10 +214,10 @@ got false false head tail fh ft answers given k few s =
     (λ rises. quiet_head (record p { head = record head { confirmed = k } }) (got_confirms p k few refl refl s))
     (λ stays. quiet_head p s))
 
-pub other_tells_head : (p : Pair) (o : Option Between) → ((b : Between) → o ≡ Some b → IsGotten p.tail.applied b) → PairInvariant p → PairInvariant (head_has (told_by o) p)
-other_tells_head p None f s = head_passes p.head_stopped p.tail_stopped p.head p.tail p.from_head p.from_tail p.answers p.given s
-other_tells_head p (Some (Got k)) f s = got p.head_stopped p.tail_stopped p.head p.tail p.from_head p.from_tail p.answers p.given k (f (Got k) refl) s
-other_tells_head p (Some (Forward k r)) f s = absurd (f (Forward k r) refl)
+pub other_reports_head : (p : Pair) (o : Option Between) → ((b : Between) → o ≡ Some b → IsGotten p.tail.applied b) → PairInvariant p → PairInvariant (head_has (reported_by o) p)
+other_reports_head p None f s = head_passes p.head_stopped p.tail_stopped p.head p.tail p.from_head p.from_tail p.answers p.given s
+other_reports_head p (Some (Got k)) f s = got p.head_stopped p.tail_stopped p.head p.tail p.from_head p.from_tail p.answers p.given k (f (Got k) refl) s
+other_reports_head p (Some (Forward k r)) f s = absurd (f (Forward k r) refl)
 
 -- the tail applies what the head forwarded next
 next_applied : (p : Pair) (k : ℕ) (r : Request) → p.head_stopped ≡ false → p.tail_stopped ≡ false → k ≡ p.tail.applied + 1 → IsForwarded p.head.taken (Forward k r) → PairInvariant p
@@ -247,8 +247,8 @@ next_applied p k r hs ts e f s =
     still_gotten n (Forward k r) g = g
     still_gotten n (Got k) g = omega (arith, g)
 
-tells_again : (p : Pair) → PairInvariant p → PairInvariant (with_tail p p.given (confirms_again p.tail))
-tells_again p s =
+reports_again : (p : Pair) → PairInvariant p → PairInvariant (with_tail p p.given (confirms_again p.tail))
+reports_again p s =
     subst (λ a. PairInvariant (record p { from_tail = p.from_tail ++ Got p.tail.applied ∷ []; answers = a })) (sym (append-nil p.answers))
     (record {
       holds = s.holds;
@@ -264,7 +264,7 @@ abbrev pub TailStands : Pair → List Request → Does Tail → Type 0
 TailStands p given d = PairInvariant (with_tail p given d)
 
 pub forward : (hs ts : Bool) (head : Head) (tail : Tail) (fh ft : List Between) (answers : List Message) (given : List Request) (k : ℕ) (r : Request) → IsForwarded head.taken (Forward k r)
-    → PairInvariant (pair_of hs ts head tail fh ft answers given) → PairInvariant (tail_has (Tells (Forward k r)) (pair_of hs ts head tail fh ft answers given))
+    → PairInvariant (pair_of hs ts head tail fh ft answers given) → PairInvariant (tail_has (Reports (Forward k r)) (pair_of hs ts head tail fh ft answers given))
 forward hs true head tail fh ft answers given k r f s = s
 forward true false head tail fh ft answers given k r f s =
     let p : Pair = pair_of true false head tail fh ft answers given in
@@ -280,12 +280,12 @@ forward false false head tail fh ft answers given k r f s =
     (if nat_le k tail.applied then confirms_again tail else nothing tail)
     (λ next. next_applied p k r refl refl (eqb-true k (tail.applied + 1) next) f s)
     (λ other. holds_if (TailStands p given) (nat_le k tail.applied) (confirms_again tail) (nothing tail)
-    (λ had. tells_again p s) (λ gap. quiet_tail p s)))
+    (λ had. reports_again p s) (λ gap. quiet_tail p s)))
 
-other_tells_tail : (p : Pair) (o : Option Between) → ((b : Between) → o ≡ Some b → IsForwarded p.head.taken b) → PairInvariant p → PairInvariant (tail_has (told_by o) p)
-other_tells_tail p None f s = tail_passes p.head_stopped p.tail_stopped p.head p.tail p.from_head p.from_tail p.answers p.given s
-other_tells_tail p (Some (Forward k r)) f s = forward p.head_stopped p.tail_stopped p.head p.tail p.from_head p.from_tail p.answers p.given k r (f (Forward k r) refl) s
-other_tells_tail p (Some (Got k)) f s = absurd (f (Got k) refl)
+other_reports_tail : (p : Pair) (o : Option Between) → ((b : Between) → o ≡ Some b → IsForwarded p.head.taken b) → PairInvariant p → PairInvariant (tail_has (reported_by o) p)
+other_reports_tail p None f s = tail_passes p.head_stopped p.tail_stopped p.head p.tail p.from_head p.from_tail p.answers p.given s
+other_reports_tail p (Some (Forward k r)) f s = forward p.head_stopped p.tail_stopped p.head p.tail p.from_head p.from_tail p.answers p.given k r (f (Forward k r) refl) s
+other_reports_tail p (Some (Got k)) f s = absurd (f (Got k) refl)
 
 pub asks_tail : (hs ts : Bool) (head : Head) (tail : Tail) (fh ft : List Between) (answers : List Message) (given : List Request) (r : Request)
     → PairInvariant (pair_of hs ts head tail fh ft answers given) → PairInvariant (tail_has (Asks r) (pair_of hs ts head tail fh ft answers given))
@@ -334,10 +334,10 @@ stops false false head tail fh ft answers given parts.Tail s = record {
 stands_on : (p : Pair) (d : Delivery) → PairInvariant p → PairInvariant (pair_after p d)
 stands_on p (Server_asks parts.Head r) s = asks_head p.head_stopped p.tail_stopped p.head p.tail p.from_head p.from_tail p.answers p.given r s
 stands_on p (Server_asks parts.Tail r) s = asks_tail p.head_stopped p.tail_stopped p.head p.tail p.from_head p.from_tail p.answers p.given r s
-stands_on p (Other_tells parts.Head place) s =
-    other_tells_head p (slice_get p.from_tail place) (λ b e. all_slice_get (IsGotten p.tail.applied) p.from_tail place b s.gots e) s
-stands_on p (Other_tells parts.Tail place) s =
-    other_tells_tail p (slice_get p.from_head place) (λ b e. all_slice_get (IsForwarded p.head.taken) p.from_head place b s.forwards e) s
+stands_on p (Other_reports parts.Head place) s =
+    other_reports_head p (slice_get p.from_tail place) (λ b e. all_slice_get (IsGotten p.tail.applied) p.from_tail place b s.gots e) s
+stands_on p (Other_reports parts.Tail place) s =
+    other_reports_tail p (slice_get p.from_head place) (λ b e. all_slice_get (IsForwarded p.head.taken) p.from_head place b s.forwards e) s
 stands_on p (Noise_comes_to parts.Head) s = head_passes p.head_stopped p.tail_stopped p.head p.tail p.from_head p.from_tail p.answers p.given s
 stands_on p (Noise_comes_to parts.Tail) s = tail_passes p.head_stopped p.tail_stopped p.head p.tail p.from_head p.from_tail p.answers p.given s
 stands_on p (Stops part) s = stops p.head_stopped p.tail_stopped p.head p.tail p.from_head p.from_tail p.answers p.given part s

@@ -10,7 +10,7 @@ use Rattle.twin_laws.specs.declared.part.Side.{Side}
 use Rattle.twin_laws.specs.declared.part.Side.TheVariants as sides
 use Rattle.twin_laws.specs.Twin.{Request, Comes, Head, Tail, head_does, tail_does, head_takes, with_taken, may_take, numbered, waiting, sends_waiting, confirmed_to, applies_next, confirms_again, nothing, bytes_of}
 use Rattle.twin_laws.specs.Twin.Between.{Forward, Got}
-use Rattle.twin_laws.specs.Twin.Comes.{Asks, Tells, Is_noise}
+use Rattle.twin_laws.specs.Twin.Comes.{Asks, Reports, Is_noise}
 use Rattle.twin_laws.specs.StoredState.{Kept, KeptDoes, kept_head, kept_tail, comes_from, does_of, kept_does, in_bytes, forwards_sent, sent_to_other, answers_sent, sends_kept, sends_nothing, keeps_too, keeps_request, kept_confirmed, applies_kept}
 
 abbrev head_of : Bool → Log → List Request → ℕ → Head
@@ -86,31 +86,31 @@ head_keeps : (grammar : Grammar) (comes : Comes) (alone : Bool) (log : Log) (tak
 head_keeps grammar (Asks r) true log taken c few =
     ap (kept_does_with (kept_head grammar (head_of true (log_after log r.message) taken c))) (sym (append-nil (answers_sent grammar (answer_to log r.message))))
 head_keeps grammar (Asks r) false log taken c few = asks grammar (is_answer r.message.body) r (head_of false log taken c) few
-head_keeps grammar (Tells (Got number)) true log taken c few = refl
-head_keeps grammar (Tells (Got number)) false log taken c few = gots grammar number (head_of false log taken c) few
-head_keeps grammar (Tells (Forward number r)) true log taken c few = refl
-head_keeps grammar (Tells (Forward number r)) false log taken c few = refl
+head_keeps grammar (Reports (Got number)) true log taken c few = refl
+head_keeps grammar (Reports (Got number)) false log taken c few = gots grammar number (head_of false log taken c) few
+head_keeps grammar (Reports (Forward number r)) true log taken c few = refl
+head_keeps grammar (Reports (Forward number r)) false log taken c few = refl
 head_keeps grammar Is_noise true log taken c few = refl
 head_keeps grammar Is_noise false log taken c few = refl
 
 abbrev tail_of : Bool → Log → ℕ → Tail
 tail_of alone log applied = record { log = log; applied = applied; alone = alone }
 
-forwards_told : (grammar : Grammar) (next had : Bool) (r : Request) (log : Log) (n : ℕ) → let t : Tail = tail_of false log n in
+forwards_reported : (grammar : Grammar) (next had : Bool) (r : Request) (log : Log) (n : ℕ) → let t : Tail = tail_of false log n in
     (if next then applies_kept r.message (kept_tail grammar t) else (if had then kept_does_with (kept_tail grammar t) (sent_to_other (Got n ∷ [])) else sends_nothing (kept_tail grammar t)))
     ≡ in_bytes (kept_tail grammar) (if next then applies_next r t else (if had then confirms_again t else nothing t))
-forwards_told grammar true had r log n = refl
-forwards_told grammar false true r log n = refl
-forwards_told grammar false false r log n = refl
+forwards_reported grammar true had r log n = refl
+forwards_reported grammar false true r log n = refl
+forwards_reported grammar false false r log n = refl
 
 tail_keeps : (grammar : Grammar) (comes : Comes) (alone : Bool) (log : Log) (n : ℕ)
     → does_of comes (kept_tail grammar (tail_of alone log n)) ≡ in_bytes (kept_tail grammar) (tail_does comes (tail_of alone log n))
 tail_keeps grammar (Asks r) true log n = ap (kept_does_with (kept_tail grammar (tail_of true (log_after log r.message) n))) (sym (append-nil (answers_sent grammar (answer_to log r.message))))
 tail_keeps grammar (Asks r) false log n = refl
-tail_keeps grammar (Tells (Got number)) true log n = refl
-tail_keeps grammar (Tells (Got number)) false log n = refl
-tail_keeps grammar (Tells (Forward number r)) true log n = refl
-tail_keeps grammar (Tells (Forward number r)) false log n = forwards_told grammar (number == n + 1) (nat_le number n) r log n
+tail_keeps grammar (Reports (Got number)) true log n = refl
+tail_keeps grammar (Reports (Got number)) false log n = refl
+tail_keeps grammar (Reports (Forward number r)) true log n = refl
+tail_keeps grammar (Reports (Forward number r)) false log n = forwards_reported grammar (number == n + 1) (nat_le number n) r log n
 tail_keeps grammar Is_noise true log n = refl
 tail_keeps grammar Is_noise false log n = refl
 

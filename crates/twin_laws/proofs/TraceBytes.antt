@@ -15,7 +15,7 @@ use Rattle.seq_arith.specs.declared.kinds.Grammar.{Grammar}
 use Rattle.tcp_rules.specs.Profile.{Profile, grammar_of}
 use Rattle.ft_model.specs.Network.{Packet, packet_at}
 use Rattle.ft_model.specs.Network.Packet.{To_server, To_client, To_logger, From_logger}
-use Rattle.ft_model.specs.Wire.{HasWireBy, CanBeToldBy}
+use Rattle.ft_model.specs.Wire.{HasWireBy, CanBeWrittenBy}
 use Rattle.ft_model.specs.World.{World, Moment, WasSent, Delivered, Flipped, Happens, Joint, world_after}
 use Rattle.ft_model.specs.declared.event.Event.TheVariants.{Boot, Crash, Tick, Deliver, Flip, Begin, Send, Fin, Ack, Reset}
 use Rattle.ft_model.specs.declared.event.Event.TheVariants as events
@@ -26,7 +26,7 @@ use Rattle.twin_laws.specs.declared.part.Part.{Part}
 use Rattle.twin_laws.specs.declared.part.Part.TheVariants as parts
 use Rattle.twin_laws.specs.Twin.{Request, Between, Comes, Head, Tail, Does, nothing, has_room, with_taken, head_takes, numbered, sends_waiting, head_paired, head_alone, confirmed_to, head_does, tail_alone, applies_next, confirms_again, tail_applies, tail_does, from_other_logger, asked, bytes_of, datagram_of}
 use Rattle.twin_laws.specs.Twin.Between.{Forward, Got}
-use Rattle.twin_laws.specs.Twin.Comes.{Asks, Tells, Is_noise}
+use Rattle.twin_laws.specs.Twin.Comes.{Asks, Reports, Is_noise}
 use Rattle.twin_laws.specs.Pair.{Pair, IsPaired, head_has, tail_has, stopped_by}
 use Rattle.twin_laws.specs.TwinWorld.{Parcel, TwinWorld, TwinEvent, TwinMoment, TwinHappens, TwinJoint, Elsewhere, HeadHas, TailHas, LoggerHas, ParcelComes, ParcelFlipped, seen, sent_by, request_of, parcel_at, twin_after}
 use Rattle.twin_laws.specs.TwinWorld.Parcel.{Outside, Inside}
@@ -71,7 +71,7 @@ IsRealParcel (Inside between) = IsReal between
 -- a request comes in its spelling, and a forwarded one with a number
 abbrev IsGood : Grammar → Comes → Type 0
 IsGood grammar (Asks r) = r.bytes ≡ messages.spelling_by grammar r.message
-IsGood grammar (Tells (Forward number r)) = 1 ≤ number
+IsGood grammar (Reports (Forward number r)) = 1 ≤ number
 IsGood grammar _ = Unit {0}
 
 room_left : (h : Head) (r : Request) → has_room h ≡ true → length (h.taken ++ r ∷ []) < 2 ^ 64
@@ -86,10 +86,10 @@ head_takes_so grammar (Asks r) h good t =
     (λ paired. holds_if (λ d. Takes grammar d.next) (is_answer r.message.body) (nothing h) (sends_waiting (head_takes r h)) (λ answers. t)
     (λ asks. holds_if (Takes grammar) (has_room h) (with_taken r h) h
     (λ room. (all_append (IsTaken grammar) h.taken (r ∷ []) t.0 ((good, asks), tt), room_left h r room)) (λ full. t)))
-head_takes_so grammar (Tells (Got number)) h good t =
+head_takes_so grammar (Reports (Got number)) h good t =
     holds_either_way (λ d. Takes grammar d.next) h.alone (nothing h) (nothing (confirmed_to number h)) t
     (holds_either_way (Takes grammar) (nat_lt h.confirmed number && nat_le number (length h.taken)) (record h { confirmed = number }) h t t)
-head_takes_so grammar (Tells (Forward number r)) h good t = t
+head_takes_so grammar (Reports (Forward number r)) h good t = t
 head_takes_so grammar Is_noise h good t = t
 
 -- what is sent
@@ -105,18 +105,18 @@ head_sends_real (Asks r) h =
     holds_either_way (λ d. SendsReal d) h.alone (head_alone r h) (head_paired r h) tt
     (holds_either_way (λ d. SendsReal d) (is_answer r.message.body) (nothing h) (sends_waiting (head_takes r h)) tt
     (numbered_real (head_takes r h).confirmed (drop (head_takes r h).confirmed (head_takes r h).taken)))
-head_sends_real (Tells (Got number)) h = holds_either_way (λ d. SendsReal d) h.alone (nothing h) (nothing (confirmed_to number h)) tt tt
-head_sends_real (Tells (Forward number r)) h = tt
+head_sends_real (Reports (Got number)) h = holds_either_way (λ d. SendsReal d) h.alone (nothing h) (nothing (confirmed_to number h)) tt tt
+head_sends_real (Reports (Forward number r)) h = tt
 head_sends_real Is_noise h = tt
 
 tail_sends_real : (grammar : Grammar) (c : Comes) (t : Tail) → IsGood grammar c → SendsReal (tail_does c t)
 tail_sends_real grammar (Asks r) t good = holds_either_way (λ d. SendsReal d) t.alone (tail_alone r t) (nothing t) tt tt
-tail_sends_real grammar (Tells (Forward number r)) t good =
+tail_sends_real grammar (Reports (Forward number r)) t good =
     holds_either_way (λ d. SendsReal d) t.alone (nothing t) (tail_applies number r t) tt
     (holds_either_way (λ d. SendsReal d) (number == t.applied + 1) (applies_next r t) _ (omega arith, tt)
     (holds_if (λ d. SendsReal d) (nat_le number t.applied) (confirms_again t) (nothing t)
     (λ had. let less : number ≤ t.applied = leb-true _ _ had in (omega (arith, less, good), tt)) (λ gap. tt)))
-tail_sends_real grammar (Tells (Got number)) t good = tt
+tail_sends_real grammar (Reports (Got number)) t good = tt
 tail_sends_real grammar Is_noise t good = tt
 
 real_parcels : {State : Type 0} (d : Does State) → SendsReal d → AllByRecursion IsRealParcel (sent_by d)
@@ -182,8 +182,8 @@ module _ {State : Type 0} (service : Machine State) (profile : Profile) where
   by_parcel before after (Outside (To_client s)) sent same true_ g h = by_others grammar (λ w. Delivered service w (To_client s)) before after sent g h
   by_parcel before after (Outside (From_logger m)) sent same true_ g h = by_others grammar (λ w. Delivered service w (From_logger m)) before after sent g h
   by_parcel before after (Inside (Forward number r)) sent same true_ g h =
-      by_tail grammar (Tells (Forward number r)) before after sent (number_real before.pair.head.taken number r true_) g h
-  by_parcel before after (Inside (Got number)) sent same true_ g h = by_head grammar (Tells (Got number)) before after sent tt g h
+      by_tail grammar (Reports (Forward number r)) before after sent (number_real before.pair.head.taken number r true_) g h
+  by_parcel before after (Inside (Got number)) sent same true_ g h = by_head grammar (Reports (Got number)) before after sent tt g h
 
   by_flip : (before after : TwinWorld) (x : Parcel) (bit : ℕ) (sent : List Parcel) → Good grammar before → ParcelFlipped service x bit before sent after → Good grammar after
   by_flip before after (Outside (To_logger m)) bit sent g h =
@@ -229,25 +229,25 @@ all_good service start (moment ∷ earlier) j =
     one_good service start.profile (twin_after start earlier) moment.world moment.event moment.sent same s.parcels (all_good service start earlier j.0) j.1
 
 -- what the head took can be written, since it was sent
-abbrev IsTold : Grammar → Request → Type 0
-IsTold grammar r = CanBeToldBy grammar r.message
+abbrev IsReported : Grammar → Request → Type 0
+IsReported grammar r = CanBeWrittenBy grammar r.message
 
 packet_has : (grammar : Grammar) (packets : List Packet) (q : ℕ) (p : Packet) → AllByRecursion (HasWireBy grammar) packets → packet_at packets q ≡ Some p → HasWireBy grammar p
 packet_has grammar packets zero p a e = none_is_some p e
 packet_has grammar packets (suc q) p a e = all_slice_get (HasWireBy grammar) packets q p a e
 
-all_told : (grammar : Grammar) (packets : List Packet) (qs : List ℕ) (rs : List Request) → AllByRecursion (HasWireBy grammar) packets → TakenBy packets qs rs → AllByRecursion (IsTold grammar) rs
-all_told grammar packets [] [] a t = tt
-all_told grammar packets [] (r ∷ rs) a t = absurd t
-all_told grammar packets (q ∷ qs) [] a t = absurd t
-all_told grammar packets (q ∷ qs) (r ∷ rs) a t = (packet_has grammar packets q (To_logger r.message) a t.0, all_told grammar packets qs rs a t.1)
+all_reported : (grammar : Grammar) (packets : List Packet) (qs : List ℕ) (rs : List Request) → AllByRecursion (HasWireBy grammar) packets → TakenBy packets qs rs → AllByRecursion (IsReported grammar) rs
+all_reported grammar packets [] [] a t = tt
+all_reported grammar packets [] (r ∷ rs) a t = absurd t
+all_reported grammar packets (q ∷ qs) [] a t = absurd t
+all_reported grammar packets (q ∷ qs) (r ∷ rs) a t = (packet_has grammar packets q (To_logger r.message) a t.0, all_reported grammar packets qs rs a t.1)
 
-forward_written : (grammar : Grammar) (taken : List Request) (number : ℕ) (r : Request) → AllByRecursion (IsTaken grammar) taken → AllByRecursion (IsTold grammar) taken → length taken < 2 ^ 64
+forward_written : (grammar : Grammar) (taken : List Request) (number : ℕ) (r : Request) → AllByRecursion (IsTaken grammar) taken → AllByRecursion (IsReported grammar) taken → length taken < 2 ^ 64
     → IsForwarded taken (Forward number r) → IsRead grammar (Forward number r)
-forward_written grammar taken number r takes told_ few f =
+forward_written grammar taken number r takes reported_ few f =
     let inside : f.0 < length taken = slice_get_within taken f.0 r f.2 in
     let is : IsTaken grammar r = all_slice_get (IsTaken grammar) taken f.0 r takes f.2 in
-    let can : CanBeToldBy grammar r.message = all_slice_get (IsTold grammar) taken f.0 r told_ f.2 in
+    let can : CanBeWrittenBy grammar r.message = all_slice_get (IsReported grammar) taken f.0 r reported_ f.2 in
     let read : messages.reading_by grammar r.bytes ≡ Ok r.message = ap (messages.reading_by grammar) is.0 ∙ message_is_read r.message can.0 in
     let some : 1 ≤ number = omega (arith, f.1) in
     let below : number < 2 ^ 64 = omega (arith, f.1, inside, few) in
@@ -259,16 +259,16 @@ got_written grammar applied number few some least =
     (got_is_sent grammar number some below, got_is_read grammar number some below)
 
 parcels_written : (grammar : Grammar) (packets : List Packet) (xs : List Parcel) (qs : List ℕ) (p : Pair) → AllByRecursion (HasWireBy grammar) packets → Named packets xs qs
-    → AllByRecursion (IsTrueOf p) xs → AllByRecursion IsRealParcel xs → Takes grammar p.head → AllByRecursion (IsTold grammar) p.head.taken → p.tail.applied ≤ length p.head.taken
+    → AllByRecursion (IsTrueOf p) xs → AllByRecursion IsRealParcel xs → Takes grammar p.head → AllByRecursion (IsReported grammar) p.head.taken → p.tail.applied ≤ length p.head.taken
     → AllByRecursion (IsWritten grammar) xs
-parcels_written grammar packets [] qs p a n t real takes told_ few = tt
-parcels_written grammar packets (x ∷ xs) [] p a n t real takes told_ few = absurd n
-parcels_written grammar packets (Outside packet ∷ xs) (q ∷ qs) p a n t real takes told_ few =
-    (packet_has grammar packets q packet a n.0, parcels_written grammar packets xs qs p a n.1 t.1 real.1 takes told_ few)
-parcels_written grammar packets (Inside (Forward number r) ∷ xs) (q ∷ qs) p a n t real takes told_ few =
-    (forward_written grammar p.head.taken number r takes.0 told_ takes.1 t.0, parcels_written grammar packets xs qs p a n t.1 real.1 takes told_ few)
-parcels_written grammar packets (Inside (Got number) ∷ xs) (q ∷ qs) p a n t real takes told_ few =
-    (got_written grammar p.tail.applied number (omega (arith, takes.1, few)) real.0 t.0, parcels_written grammar packets xs qs p a n t.1 real.1 takes told_ few)
+parcels_written grammar packets [] qs p a n t real takes reported_ few = tt
+parcels_written grammar packets (x ∷ xs) [] p a n t real takes reported_ few = absurd n
+parcels_written grammar packets (Outside packet ∷ xs) (q ∷ qs) p a n t real takes reported_ few =
+    (packet_has grammar packets q packet a n.0, parcels_written grammar packets xs qs p a n.1 t.1 real.1 takes reported_ few)
+parcels_written grammar packets (Inside (Forward number r) ∷ xs) (q ∷ qs) p a n t real takes reported_ few =
+    (forward_written grammar p.head.taken number r takes.0 reported_ takes.1 t.0, parcels_written grammar packets xs qs p a n t.1 real.1 takes reported_ few)
+parcels_written grammar packets (Inside (Got number) ∷ xs) (q ∷ qs) p a n t real takes reported_ few =
+    (got_written grammar p.tail.applied number (omega (arith, takes.1, few)) real.0 t.0, parcels_written grammar packets xs qs p a n t.1 real.1 takes reported_ few)
 
 pub all_written : {State : Type 0} (service : Machine State)
     → ((start : World) (trace : List Moment) → Joint service start trace → AllByRecursion (HasWireBy (grammar_of start.profile)) (world_after start trace).packets)
@@ -279,4 +279,4 @@ all_written service wires start trace j =
     let have : AllByRecursion (HasWireBy (grammar_of start.profile)) (flat start trace).packets =
     subst (λ w. AllByRecursion (HasWireBy (grammar_of start.profile)) w.packets) s.world (wires (seen start []) (flat start trace).trace s.joint) in
     parcels_written (grammar_of start.profile) (flat start trace).packets (twin_after start trace).parcels (flat start trace).numbers (twin_after start trace).pair have s.named s.parcels g.real g.takes
-    (all_told (grammar_of start.profile) (flat start trace).packets (flat start trace).origins (twin_after start trace).pair.head.taken have s.taken) (acts (twin_after start trace).pair s.pair).applied
+    (all_reported (grammar_of start.profile) (flat start trace).packets (flat start trace).origins (twin_after start trace).pair.head.taken have s.taken) (acts (twin_after start trace).pair s.pair).applied

@@ -25,7 +25,7 @@ use Rattle.twin_laws.specs.declared.part.Part.{Part}
 use Rattle.twin_laws.specs.Flat.{flat, outside}
 use Rattle.twin_laws.specs.Twin.{Comes, Does, Head, nothing, sends_waiting, head_takes, head_alone, head_paired, head_does}
 use Rattle.twin_laws.specs.Twin.Between.{Forward, Got}
-use Rattle.twin_laws.specs.Twin.Comes.{Asks, Tells, Is_noise}
+use Rattle.twin_laws.specs.Twin.Comes.{Asks, Reports, Is_noise}
 use Rattle.twin_laws.specs.TwinLegal.{twin_start, event_of, twin_refusal, IsTwinAllowed, AllTwinAllowed, TwinLegal}
 use Rattle.twin_laws.specs.TwinWorld.{TwinWorld, TwinMoment, TwinJoint, TwinHappens, IsTwinStart, ParcelComes, seen}
 use Rattle.twin_laws.specs.TwinWorld.Parcel.{Outside, Inside}
@@ -153,8 +153,8 @@ pub says_nothing : (head : Head) (comes : Comes) → head.alone ≡ false → (h
 says_nothing head (Asks request) paired =
     ap (λ (d : Does Head). d.to_server) (if_false head.alone (head_alone request head) (head_paired request head) paired)
     ∙ holds_either_way (λ (d : Does Head). d.to_server ≡ []) (is_answer request.message.body) (nothing head) (sends_waiting (head_takes request head)) refl refl
-says_nothing head (Tells (Got number)) paired = holds_either_way (λ (d : Does Head). d.to_server ≡ []) head.alone (nothing head) _ refl refl
-says_nothing head (Tells (Forward number request)) paired = refl
+says_nothing head (Reports (Got number)) paired = holds_either_way (λ (d : Does Head). d.to_server ≡ []) head.alone (nothing head) _ refl refl
+says_nothing head (Reports (Forward number request)) paired = refl
 says_nothing head Is_noise paired = refl
 
 pub no_answer : {State : Type 0} (service : Machine State) (after : TwinWorld) → TwinHappens service run.moment_7.world (Usual (events.Deliver 6)) run.answers_itself after → ⊥

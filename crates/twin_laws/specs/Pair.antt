@@ -6,7 +6,7 @@ use Rattle.ft_model.specs.Log.{Log, empty_log, log_after, answer_to}
 use Rattle.twin_laws.specs.declared.part.Part.{Part}
 use Rattle.twin_laws.specs.declared.part.Part.TheVariants as parts
 use Rattle.twin_laws.specs.Twin.{Request, Between, Comes, Head, Tail, new_head, new_tail, head_does, tail_does}
-use Rattle.twin_laws.specs.Twin.Comes.{Asks, Tells, Is_noise}
+use Rattle.twin_laws.specs.Twin.Comes.{Asks, Reports, Is_noise}
 
 -- The two loggers, with their histories
 pub record Pair : Type 0 where
@@ -26,17 +26,17 @@ new_pair = record { head = new_head; tail = new_tail; from_head = []; from_tail 
 -- Any request of the server may arrive at either
 pub data Delivery : Type 0 where
   Server_asks : Part → Request → Delivery
-  Other_tells : Part → (place : ℕ) → Delivery
+  Other_reports : Part → (place : ℕ) → Delivery
   Noise_comes_to : Part → Delivery
   Stops : Part → Delivery
 
 -- what was sent at a place; noise where nothing was
-abbrev pub told_by : Option Between → Comes
-told_by None = Is_noise
-told_by (Some between) = Tells between
+abbrev pub reported_by : Option Between → Comes
+reported_by None = Is_noise
+reported_by (Some between) = Reports between
 
-abbrev pub told_at : List Between → ℕ → Comes
-told_at sent place = told_by (slice_get sent place)
+abbrev pub reported_at : List Between → ℕ → Comes
+reported_at sent place = reported_by (slice_get sent place)
 
 abbrev pub asked_in : Comes → List Request
 asked_in (Asks request) = request ∷ []
@@ -74,8 +74,8 @@ stopped_by parts.Tail p = record p { tail_stopped = true; head = record p.head {
 abbrev pub pair_after : Pair → Delivery → Pair
 pair_after p (Server_asks parts.Head request) = head_has (Asks request) p
 pair_after p (Server_asks parts.Tail request) = tail_has (Asks request) p
-pair_after p (Other_tells parts.Head place) = head_has (told_at p.from_tail place) p
-pair_after p (Other_tells parts.Tail place) = tail_has (told_at p.from_head place) p
+pair_after p (Other_reports parts.Head place) = head_has (reported_at p.from_tail place) p
+pair_after p (Other_reports parts.Tail place) = tail_has (reported_at p.from_head place) p
 pair_after p (Noise_comes_to parts.Head) = head_has Is_noise p
 pair_after p (Noise_comes_to parts.Tail) = tail_has Is_noise p
 pair_after p (Stops part) = if p.head_stopped then p else (if p.tail_stopped then p else stopped_by part p)

@@ -14,7 +14,7 @@ use Rattle.twin_laws.specs.declared.part.Side.{Side}
 use Rattle.twin_laws.specs.declared.part.Side.TheVariants as sides
 use Rattle.twin_laws.specs.Twin.{Request, Between, Comes, Head, Tail, Does, may_take, asked, from_other_logger, bytes_of}
 use Rattle.twin_laws.specs.Twin.Between.{Forward, Got}
-use Rattle.twin_laws.specs.Twin.Comes.{Asks, Tells}
+use Rattle.twin_laws.specs.Twin.Comes.{Asks, Reports}
 
 pub record Kept : Type 0 where
   pub grammar : Grammar  -- of the server's messages and the answers. It never changes
@@ -105,8 +105,8 @@ applies_kept message kept = record {
   sent = answers_sent kept.grammar (answer_to kept.log message) ++ sent_to_other (Got (kept.number + 1) ∷ []);
 }
 
-abbrev pub kept_tail_told : ℕ → Message → Kept → KeptDoes
-kept_tail_told number message kept =
+abbrev pub kept_tail_reported : ℕ → Message → Kept → KeptDoes
+kept_tail_reported number message kept =
     if number == kept.number + 1 then applies_kept message kept
     else (if nat_le number kept.number then record { next = kept; sent = sent_to_other (Got kept.number ∷ []) } else sends_nothing kept)
 
@@ -117,11 +117,11 @@ kept_alone_does _ kept = sends_nothing kept
 
 abbrev pub kept_head_does : Comes → Kept → KeptDoes
 kept_head_does (Asks request) kept = kept_head_asked request kept
-kept_head_does (Tells (Got number)) kept = sends_nothing (kept_confirmed number kept)
+kept_head_does (Reports (Got number)) kept = sends_nothing (kept_confirmed number kept)
 kept_head_does _ kept = sends_nothing kept
 
 abbrev pub kept_tail_does : Comes → Kept → KeptDoes
-kept_tail_does (Tells (Forward number request)) kept = kept_tail_told number request.message kept
+kept_tail_does (Reports (Forward number request)) kept = kept_tail_reported number request.message kept
 kept_tail_does _ kept = sends_nothing kept
 
 abbrev pub paired_does : Part → Comes → Kept → KeptDoes

@@ -25,7 +25,7 @@ pub data Between : Type 0 where
 -- what arrives at one of them: a request of the server, a datagram of the other, or anything else
 pub data Comes : Type 0 where
   Asks : Request → Comes
-  Tells : Between → Comes
+  Reports : Between → Comes
   Is_noise : Comes
 
 pub record Head : Type 0 where
@@ -99,7 +99,7 @@ tail_alone request tail =
 
 abbrev pub head_does : Comes → Head → Does Head
 head_does (Asks request) head = if head.alone then head_alone request head else head_paired request head
-head_does (Tells (Got number)) head = if head.alone then nothing head else nothing (confirmed_to number head)
+head_does (Reports (Got number)) head = if head.alone then nothing head else nothing (confirmed_to number head)
 head_does _ head = nothing head
 
 -- The tail applies the next request: it answers the server, and then confirms to the head. For a request that it has applied before, it only confirms all
@@ -120,7 +120,7 @@ tail_applies number request tail =
 
 abbrev pub tail_does : Comes → Tail → Does Tail
 tail_does (Asks request) tail = if tail.alone then tail_alone request tail else nothing tail
-tail_does (Tells (Forward number request)) tail = if tail.alone then nothing tail else tail_applies number request tail
+tail_does (Reports (Forward number request)) tail = if tail.alone then nothing tail else tail_applies number request tail
 tail_does _ tail = nothing tail
 
 -- what bytes of the server ask for
@@ -130,12 +130,12 @@ asked bytes (Err why) = Is_noise
 
 -- what bytes of the other logger say. A forwarded message is read as the server's messages are. An Alone is noise here
 abbrev pub forwarded_as : ℕ → Comes → Comes
-forwarded_as number (Asks request) = Tells (Forward number request)
+forwarded_as number (Asks request) = Reports (Forward number request)
 forwarded_as number _ = Is_noise
 
 abbrev pub from_other_logger : Grammar → Result TwinDatagram BadTwin → Comes
 from_other_logger grammar (Ok (datagrams.Forward number bytes)) = forwarded_as number (asked bytes (messages.reading_by grammar bytes))
-from_other_logger grammar (Ok (datagrams.Got number)) = Tells (Got number)
+from_other_logger grammar (Ok (datagrams.Got number)) = Reports (Got number)
 from_other_logger grammar _ = Is_noise
 
 -- the datagram that is sent, and its bytes. A forwarded message has the bytes in which it arrived

@@ -15,14 +15,14 @@ use Rattle.ft_model.specs.Log.{Log}
 use Rattle.ft_model.specs.Network.{Packet}
 use Rattle.ft_model.specs.Network.Packet.{To_logger, From_logger}
 use Rattle.ft_model.specs.Node.{Node}
-use Rattle.ft_model.specs.Wire.{CanBeToldBy}
+use Rattle.ft_model.specs.Wire.{CanBeWrittenBy}
 use Rattle.ft_model.specs.World.{World, Delivered, Flipped, Happens, IsStart}
 use Rattle.ft_model.specs.declared.event.Event.{Event}
 use Rattle.ft_model.specs.declared.event.Event.TheVariants.{Deliver, Flip}
 use Rattle.twin_laws.specs.declared.part.Part.{Part}
 use Rattle.twin_laws.specs.Twin.{Request, Between, Comes, Does, head_does, tail_does, from_other_logger, asked, datagram_of, bytes_of}
 use Rattle.twin_laws.specs.Twin.Between.{Forward, Got}
-use Rattle.twin_laws.specs.Twin.Comes.{Asks, Tells}
+use Rattle.twin_laws.specs.Twin.Comes.{Asks, Reports}
 use Rattle.twin_laws.specs.Pair.{Pair, new_pair, head_has, tail_has, stopped_by}
 
 -- What was sent: a packet as in the world with one logger, or a datagram between the two
@@ -91,8 +91,8 @@ abbrev pub ParcelComes : {State : Type 0} → Machine State → Parcel → TwinW
 ParcelComes service (Outside (To_logger message)) before sent after =
     LoggerHas before.pair.head_stopped (Asks (request_of (grammar_of before.profile) message)) before sent after
 ParcelComes service (Outside packet) before sent after = Elsewhere (λ w. Delivered service w packet) before sent after
-ParcelComes service (Inside (Forward number request)) before sent after = TailHas (Tells (Forward number request)) before sent after
-ParcelComes service (Inside (Got number)) before sent after = HeadHas (Tells (Got number)) before sent after
+ParcelComes service (Inside (Forward number request)) before sent after = TailHas (Reports (Forward number request)) before sent after
+ParcelComes service (Inside (Got number)) before sent after = HeadHas (Reports (Got number)) before sent after
 
 -- a datagram between the loggers can be read back as it was sent
 abbrev pub CanBeSent : Grammar → Between → Type 0
@@ -107,7 +107,7 @@ ChangedFor between bit Has before sent after =
 -- a parcel reaches its addressee with one bit changed
 abbrev pub ParcelFlipped : {State : Type 0} → Machine State → Parcel → ℕ → TwinWorld → List Parcel → TwinWorld → Type 0
 ParcelFlipped service (Outside (To_logger message)) bit before sent after =
-    CanBeToldBy (grammar_of before.profile) message × (bit < 8 * length (messages.spelling_by (grammar_of before.profile) message))
+    CanBeWrittenBy (grammar_of before.profile) message × (bit < 8 * length (messages.spelling_by (grammar_of before.profile) message))
     × LoggerHas before.pair.head_stopped
     (asked (flipped bit (messages.spelling_by (grammar_of before.profile) message))
     (messages.reading_by (grammar_of before.profile) (flipped bit (messages.spelling_by (grammar_of before.profile) message)))) before sent after

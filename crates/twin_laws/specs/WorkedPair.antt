@@ -11,7 +11,7 @@ use Rattle.ft_model.specs.World.{Moment}
 use Rattle.ft_model.specs.declared.event.Event.{Event}
 use Rattle.ft_model.specs.declared.event.Event.TheVariants.{Boot, Deliver}
 use Rattle.twin_laws.specs.Twin.Between.{Forward, Got}
-use Rattle.twin_laws.specs.Twin.Comes.{Asks, Tells}
+use Rattle.twin_laws.specs.Twin.Comes.{Asks, Reports}
 use Rattle.twin_laws.specs.Pair.{Pair, new_pair, head_has, tail_has}
 use Rattle.twin_laws.specs.TwinWorld.{Parcel, TwinWorld, TwinMoment, request_of}
 use Rattle.twin_laws.specs.TwinWorld.Parcel.{Outside, Inside}
@@ -53,7 +53,7 @@ third_sent = Outside (From_logger summary) ∷ Inside (Got 1) ∷ []
 
 abbrev pub applied_world : TwinWorld
 applied_world =
-    record taken_world { pair = tail_has (Tells (Forward 1 (request_of grammars.Plain hello))) taken_pair; parcels = (first_sent ++ second_sent) ++ third_sent }
+    record taken_world { pair = tail_has (Reports (Forward 1 (request_of grammars.Plain hello))) taken_pair; parcels = (first_sent ++ second_sent) ++ third_sent }
 
 abbrev pub worked : List TwinMoment
 worked =

@@ -19,7 +19,7 @@ use Rattle.ft_model.specs.declared.schedule.ServiceKind.TheVariants.{Echo}
 use Rattle.twin_laws.specs.declared.part.Part.TheVariants as parts
 use Rattle.twin_laws.specs.Twin.{Request}
 use Rattle.twin_laws.specs.Twin.Between.{Forward, Got}
-use Rattle.twin_laws.specs.Twin.Comes.{Asks, Tells}
+use Rattle.twin_laws.specs.Twin.Comes.{Asks, Reports}
 use Rattle.twin_laws.specs.Pair.{head_has, tail_has, stopped_by}
 use Rattle.twin_laws.specs.TwinLegal.{twin_start}
 use Rattle.twin_laws.specs.TwinWorld.{Parcel, TwinWorld, TwinEvent, TwinMoment, request_of}
@@ -62,13 +62,13 @@ moment_2 = moment (Usual (events.Deliver 1)) (Inside (Forward 1 hello) ∷ []) (
 abbrev pub moment_3 : TwinMoment
 moment_3 =
     moment (Usual (events.Deliver 2)) (Outside path.packet_2 ∷ Inside (Got 1) ∷ [])
-    (record moment_2.world { pair = tail_has (Tells (Forward 1 hello)) moment_2.world.pair })
+    (record moment_2.world { pair = tail_has (Reports (Forward 1 hello)) moment_2.world.pair })
 
 abbrev pub moment_4 : TwinMoment
 moment_4 = moment (Usual (events.Deliver 3)) [] (record moment_3.world { node = Some (path.node_at (Serving 0 [])) })
 
 abbrev pub moment_5 : TwinMoment
-moment_5 = moment (Usual (events.Deliver 4)) [] (record moment_4.world { pair = head_has (Tells (Got 1)) moment_4.world.pair })
+moment_5 = moment (Usual (events.Deliver 4)) [] (record moment_4.world { pair = head_has (Reports (Got 1)) moment_4.world.pair })
 
 -- the client opens, and the head takes and forwards the Open
 abbrev pub moment_6 : TwinMoment

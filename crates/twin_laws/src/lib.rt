@@ -29,7 +29,7 @@ ghost use Rattle.twin_laws.specs.StoredState.{kept_head, kept_tail, kept_does, c
 ghost use Rattle.twin_laws.specs.declared.part.Part.{Part};
 ghost use Rattle.twin_laws.specs.Twin.{Comes, Request, Head, Tail, head_does, tail_does, from_other_logger, bytes_of};
 ghost use Rattle.twin_laws.specs.Twin.Between.{Forward, Got};
-ghost use Rattle.twin_laws.specs.Twin.Comes.{Tells, Is_noise};
+ghost use Rattle.twin_laws.specs.Twin.Comes.{Reports, Is_noise};
 ghost use Rattle.twin_laws.specs.TwinLegal.{IsTwinLegalFor, TwinLegal, twin_start};
 ghost use Rattle.twin_laws.specs.TwinOutcome.{IsTwinWhole, IsTwinRefused, IsTwinPastPackets};
 ghost use Rattle.twin_laws.specs.TwinReport.{twin_report};
@@ -112,9 +112,9 @@ pub fn kept_loggers_do_as_defined()
 pub fn what_is_sent_is_read()
     ensures forward { (grammar : Grammar) (number : ℕ) (request : Request) → message_reading grammar request.bytes ≡ Ok request.message
         → is_answer request.message.body ≡ false → 1 ≤ number → number < 2 ^ 64
-        → from_other_logger grammar (reading_by grammar (bytes_of (Forward number request))) ≡ Tells (Forward number request) }
+        → from_other_logger grammar (reading_by grammar (bytes_of (Forward number request))) ≡ Reports (Forward number request) }
     ensures got { (grammar : Grammar) (number : ℕ) → 1 ≤ number → number < 2 ^ 64
-        → from_other_logger grammar (reading_by grammar (bytes_of (Got number))) ≡ Tells (Got number) }
+        → from_other_logger grammar (reading_by grammar (bytes_of (Got number))) ≡ Reports (Got number) }
 {}
 
 /// A worked run: the head forwards the server's Hello and the tail answers it. Made flat, it is the boot and one delivery.
@@ -167,7 +167,7 @@ pub fn legal_twin_traces_are_determined<S: Service>()
 
 /// A report with two loggers determines its schedule and its trace: two legal traces have the same report only where their schedules are the same, and the
 /// traces too.
-pub fn twin_reports_tell_their_traces<S: Service>()
+pub fn twin_reports_determine_their_traces<S: Service>()
     ensures { (schedule other : Schedule) (trace also : List TwinMoment) → FitsSchedule schedule → FitsSchedule other
         → TwinLegal (machines S.started S.after S.greeting) schedule trace → TwinLegal (machines S.started S.after S.greeting) other also
         → twin_report schedule trace ≡ twin_report other also → (schedule ≡ other) × (trace ≡ also) }

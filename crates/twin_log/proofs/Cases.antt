@@ -14,7 +14,7 @@ use Rattle.seq_arith.specs.TwinDatagram.{TwinDatagram as datagrams}
 use Rattle.twin_laws.specs.declared.part.Part.{Part}
 use Rattle.twin_laws.specs.declared.part.Part.TheVariants as parts
 use Rattle.twin_laws.specs.Twin.{Comes, from_other_logger, asked, forwarded_as}
-use Rattle.twin_laws.specs.Twin.Comes.{Asks, Tells, Is_noise}
+use Rattle.twin_laws.specs.Twin.Comes.{Asks, Reports, Is_noise}
 use Rattle.twin_laws.specs.declared.part.Side.TheVariants as sides
 use Rattle.twin_laws.specs.StoredState.{Kept, kept_alone_does, paired_does, does_of, kept_does, sends_nothing}
 
@@ -42,15 +42,15 @@ wide_is_noise kept plain =
 
 forwarded_alone : (number : ℕ) (comes : Comes) (kept : Kept) → kept_alone_does (forwarded_as number comes) kept ≡ sends_nothing kept
 forwarded_alone number (Asks request) kept = refl
-forwarded_alone number (Tells between) kept = refl
+forwarded_alone number (Reports between) kept = refl
 forwarded_alone number Is_noise kept = refl
 
 -- a logger that is alone passes over all that the other sent
-pub told_alone : (grammar : Grammar) (r : Result TwinDatagram BadTwin) (kept : Kept) → kept_alone_does (from_other_logger grammar r) kept ≡ sends_nothing kept
-told_alone grammar (Ok (datagrams.Forward number bytes)) kept = forwarded_alone number (asked bytes (messages.reading_by grammar bytes)) kept
-told_alone grammar (Ok (datagrams.Got number)) kept = refl
-told_alone grammar (Ok datagrams.Alone) kept = refl
-told_alone grammar (Err why) kept = refl
+pub reported_alone : (grammar : Grammar) (r : Result TwinDatagram BadTwin) (kept : Kept) → kept_alone_does (from_other_logger grammar r) kept ≡ sends_nothing kept
+reported_alone grammar (Ok (datagrams.Forward number bytes)) kept = forwarded_alone number (asked bytes (messages.reading_by grammar bytes)) kept
+reported_alone grammar (Ok (datagrams.Got number)) kept = refl
+reported_alone grammar (Ok datagrams.Alone) kept = refl
+reported_alone grammar (Err why) kept = refl
 
 -- the number of what is read as a Forward
 pub some_number : (grammar : Grammar) (number : ℕ) (message : List ℕ) → is_sound_by grammar kinds.Forward number message ≡ true → 1 ≤ number

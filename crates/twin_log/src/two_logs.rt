@@ -7,8 +7,8 @@ ghost use Rattle.seq_arith.specs.declared.kinds.Grammar.TheVariants.{Plain};
 ghost use Rattle.logger_wire.specs.Value.{message_of, IsSendableBy};
 ghost use Rattle.twin_laws.specs.Twin.{asked, forwarded_as, from_other_logger};
 ghost use Rattle.twin_laws.specs.Twin.Between.{Got};
-ghost use Rattle.twin_laws.specs.Twin.Comes.{Tells};
-ghost use Rattle.twin_laws.specs.StoredState.{kept_does, paired_does, new_kept, left_alone, serves_alone, kept_head_asked, kept_tail_told};
+ghost use Rattle.twin_laws.specs.Twin.Comes.{Reports};
+ghost use Rattle.twin_laws.specs.StoredState.{kept_does, paired_does, new_kept, left_alone, serves_alone, kept_head_asked, kept_tail_reported};
 ghost use Rattle.twin_laws.specs.StoredState.{keeps_request, keeps_too, has_kept_room, kept_confirmed, sends_kept, sent_to_other, applies_kept};
 ghost use Rattle.twin_laws.specs.declared.part.Side.TheVariants as sides;
 ghost use Rattle.twin_log.specs.Outbox.{answer_out, request_in};
@@ -151,7 +151,7 @@ impl TwinLog {
     }
 
     /// Takes a datagram of the other logger. A logger that serves alone ignores it.
-    #[tactic(auto, using(crate::proofs::Cases::told_alone), unfolding(twin_laws::specs::StoredState::kept_does))]
+    #[tactic(auto, using(crate::proofs::Cases::reported_alone), unfolding(twin_laws::specs::StoredState::kept_does))]
     fn on_other(&mut self, alloc: Global, bytes: &[u8], out: &mut TwinOut) -> Result<(), NoMemory>
         requires empty { out.old ≡ [] }
         ensures next { OnOk result (self.new ≡ (kept_does sides.Other bytes.now self.old).next) }
@@ -160,14 +160,14 @@ impl TwinLog {
         ensures empty { OnErr result (out.new ≡ []) }
     {
         if !self.alone {
-            return self.on_told(alloc, bytes, out);
+            return self.on_reported(alloc, bytes, out);
         }
         Ok(())
     }
 
     /// Takes a datagram of the other logger as one of a pair.
     #[tactic(auto, using(crate::proofs::Cases::noise_in_pair, crate::proofs::Cases::some_number))]
-    fn on_told(&mut self, alloc: Global, bytes: &[u8], out: &mut TwinOut) -> Result<(), NoMemory>
+    fn on_reported(&mut self, alloc: Global, bytes: &[u8], out: &mut TwinOut) -> Result<(), NoMemory>
         requires empty { out.old ≡ [] }
         ensures next { let comes = from_other_logger self.old.grammar (twin_reading self.old.grammar bytes.now)
             in OnOk result (self.new ≡ (paired_does self.old.part comes self.old).next) }
@@ -218,7 +218,7 @@ impl TwinLog {
 
     /// Takes a Got as one of a pair. The tail ignores it.
     fn on_got(&mut self, number: u64)
-        ensures { self.new ≡ (paired_does self.old.part (Tells (Got number)) self.old).next }
+        ensures { self.new ≡ (paired_does self.old.part (Reports (Got number)) self.old).next }
     {
         match self.part {
             Part::Head => self.confirm(number),
@@ -334,8 +334,8 @@ impl TwinLog {
         requires sendable { IsSendableBy self.old.grammar msg.now }
         requires some { 1 ≤ number }
         requires empty { out.old ≡ [] }
-        ensures next { OnOk result (self.new ≡ (kept_tail_told number (message_of msg.now) self.old).next) }
-        ensures sent { OnOk result (out.new ≡ (kept_tail_told number (message_of msg.now) self.old).sent) }
+        ensures next { OnOk result (self.new ≡ (kept_tail_reported number (message_of msg.now) self.old).next) }
+        ensures sent { OnOk result (out.new ≡ (kept_tail_reported number (message_of msg.now) self.old).sent) }
         ensures refused { OnErr result (self.new ≡ self.old) }
         ensures empty { OnErr result (out.new ≡ []) }
     {

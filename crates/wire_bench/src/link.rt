@@ -2,7 +2,7 @@
 //! after each send, and gives how many bytes came back.
 
 use anyhow::{Context, Result, bail, ensure};
-use ft_io::{Heard, Link};
+use ft_io::{Receipt, Link};
 use ft_system::UdpLink;
 use std::net::Net;
 use std::time::Clock;
@@ -35,11 +35,11 @@ fn exchange<L: Link>(link: &mut L, text: &[u8], rounds: u32) -> Result<u64> {
         if link.send(here, text).is_err() {
             continue;
         }
-        let mut heard = link.recv(&mut buf);
-        if let Ok(Heard::Nothing) = heard {
-            heard = link.recv(&mut buf);
+        let mut receipt = link.recv(&mut buf);
+        if let Ok(Receipt::Nothing) = receipt {
+            receipt = link.recv(&mut buf);
         }
-        if let Ok(Heard::Got { len, .. }) = heard {
+        if let Ok(Receipt::Got { len, .. }) = receipt {
             came = came.wrapping_add(len as u64);
         }
     }

@@ -94,7 +94,7 @@ fn read_all(is_data: bool, text: &[u8], rounds: u32, messages: &mut Vec<u8>) -> 
     for _ in 0..rounds {
         for message in messages.chunks_exact(len) {
             total = total.wrapping_add(match read_msg(message) {
-                Ok(msg) => told(&msg.body),
+                Ok(msg) => reported(&msg.body),
                 Err(_) => 0,
             });
         }
@@ -103,7 +103,7 @@ fn read_all(is_data: bool, text: &[u8], rounds: u32, messages: &mut Vec<u8>) -> 
 }
 
 /// Its number, and how many bytes or which length it brings.
-fn told(body: &Body<'_>) -> u64 {
+fn reported(body: &Body<'_>) -> u64 {
     match body {
         Body::Data(part) => u64::from(part.offset) + part.bytes.len() as u64 % 65_536,
         Body::Read { index, length, .. } => u64::from(*index) + u64::from(*length),

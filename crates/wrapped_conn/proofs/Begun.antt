@@ -68,7 +68,7 @@ first_sound profile timestamping boot key local cisn sisn mss service greeting f
         made = omega (arith, few);
         written = λ o. omega (arith, f.4, held);
         count = omega arith;
-        tellable = tt;
+        writable = tt;
       };
       boot = live;
       sisn = fits;

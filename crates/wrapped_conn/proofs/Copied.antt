@@ -63,9 +63,9 @@ pub arrived_is : {S : Type 0} (segment : Segment) (old mid new : ConnState S) �
 unfolding arrived
 arrived_is segment old mid new reach note = note ∙ ap noted reach
 
-pub told_arrived : {S : Type 0} (old new : ConnState S) (s : SouthState) (segment : Segment) (before : Before) (told : List (List ℕ)) → new ≡ arrived segment old
-    → told ≡ spelled new.batches new.boot (copies before (passed_in s segment) new) → told ≡ spelled old.batches old.boot (copies before segment (arrived segment old))
-told_arrived old new s segment before told is e =
+pub reported_arrived : {S : Type 0} (old new : ConnState S) (s : SouthState) (segment : Segment) (before : Before) (reported : List (List ℕ)) → new ≡ arrived segment old
+    → reported ≡ spelled new.batches new.boot (copies before (passed_in s segment) new) → reported ≡ spelled old.batches old.boot (copies before segment (arrived segment old))
+reported_arrived old new s segment before reported is e =
     e ∙ ap (λ (x : ConnState _). spelled x.batches x.boot (copies before (passed_in s segment) x)) is ∙ (λ j. spelled (same_batches segment old j) (same_boot segment old j) (copies before (passed_in s segment) (arrived segment old)))
     ∙ ap (spelled old.batches old.boot) (same_copies before s segment (arrived segment old))
 
@@ -73,17 +73,17 @@ told_arrived old new s segment before told is e =
 pub of_read : (bytes : List ℕ) (P : Segment → Type 0) → IsOk (reading bytes) → P (segment_in bytes) → IfOk (reading bytes) P
 of_read bytes P ok p = subst (λ r. IfOk r P) (sym (is_read bytes ok)) p
 
-pub told_by : {S : Type 0} (old mid new : ConnState S) (bytes after : List ℕ) (before : Before) (told : List (List ℕ)) → IsOk (reading bytes)
+pub reported_by : {S : Type 0} (old mid new : ConnState S) (bytes after : List ℕ) (before : Before) (reported : List (List ℕ)) → IsOk (reading bytes)
     → IfOk (reading bytes) (λ segment. mid ≡ reached segment (stamped segment old)) → new ≡ noted mid
-    → reading after ≡ changed (passed_in old.south) (reading bytes) → IfOk (reading after) (λ segment. told ≡ spelled new.batches new.boot (copies before segment new))
-    → IfOk (reading bytes) (λ segment. told ≡ spelled old.batches old.boot (copies before segment (arrived segment old)))
-told_by old mid new bytes after before told ok reach note read copy =
+    → reading after ≡ changed (passed_in old.south) (reading bytes) → IfOk (reading after) (λ segment. reported ≡ spelled new.batches new.boot (copies before segment new))
+    → IfOk (reading bytes) (λ segment. reported ≡ spelled old.batches old.boot (copies before segment (arrived segment old)))
+reported_by old mid new bytes after before reported ok reach note read copy =
     let seg : Segment = segment_in bytes in
     let is : reading bytes ≡ Ok seg = is_read bytes ok in
     let reached_now : mid ≡ reached seg (stamped seg old) = IfOk-at_ok (λ x. mid ≡ reached x (stamped x old)) is reach in
     let passed : reading after ≡ Ok (passed_in old.south seg) = read ∙ ap (changed (passed_in old.south)) is in
-    let said : told ≡ spelled new.batches new.boot (copies before (passed_in old.south seg) new) = IfOk-at_ok (λ x. told ≡ spelled new.batches new.boot (copies before x new)) passed copy in
-    of_read bytes _ ok (told_arrived old new old.south seg before told (arrived_is seg old mid new reached_now note) said)
+    let said : reported ≡ spelled new.batches new.boot (copies before (passed_in old.south seg) new) = IfOk-at_ok (λ x. reported ≡ spelled new.batches new.boot (copies before x new)) passed copy in
+    of_read bytes _ ok (reported_arrived old new old.south seg before reported (arrived_is seg old mid new reached_now note) said)
 
 -- from the step in which the wrapper notes the segment's timestamps
 pub reached_stamped : {S : Type 0} (old stamp mid : ConnState S) (bytes : List ℕ) → IsOk (reading bytes) → IfOk (reading bytes) (λ segment. stamp ≡ stamped segment old)
@@ -133,20 +133,20 @@ start_low before own segment c a b h =
     omega (arith, a, b, logged)
 
 -- what goes out of a segment, step by step
-pub copies_told : {S : Type 0} (bytes : List ℕ) (before : Before) (c : ConnState S) (own more : Bool) (start : ℕ) (fin : Bool) (first second third : List (List ℕ)) → IsOk (reading bytes)
+pub copies_reported : {S : Type 0} (bytes : List ℕ) (before : Before) (c : ConnState S) (own more : Bool) (start : ℕ) (fin : Bool) (first second third : List (List ℕ)) → IsOk (reading bytes)
     → IfOk (reading bytes) (λ segment. first ≡ spelled c.batches c.boot (map (followed more) (own_data segment c))) → IfOk (reading bytes) (λ segment. own ≡ (copied c.south segment).fin)
     → IfOk (reading bytes) (λ segment. start ≡ further_start before segment c) → fin ≡ takes_held_fin before own c → more ≡ (c.batches && follows start fin c)
     → second ≡ first ++ spelled c.batches c.boot (in_batch c.batches (datas_of c start (unread_from c start) fin))
     → ((bodies : List Body) → second ≡ spelled c.batches c.boot (in_batch c.batches bodies) → third ≡ spelled c.batches c.boot (in_batch c.batches (or_una before.una c bodies)))
     → IfOk (reading bytes) (λ segment. third ≡ spelled c.batches c.boot (copies before segment c))
 unfolding copies
-copies_told bytes before c own more start fin first second third ok own_told own_fin begins ends with_more further last =
+copies_reported bytes before c own more start fin first second third ok own_reported own_fin begins ends with_more further last =
     let seg : Segment = segment_in bytes in
     let is : reading bytes ≡ Ok seg = is_read bytes ok in
     let others : List Body = datas_of c start (unread_from c start) fin in
     let some : more ≡ (c.batches && has_some others) = with_more ∙ ap (λ b. c.batches && b) (sym (datas_has c start (unread_from c start) fin)) in
     let one : first ≡ spelled c.batches c.boot (map (followed more) (own_data seg c)) =
-    IfOk-at_ok (λ x. first ≡ spelled c.batches c.boot (map (followed more) (own_data x c))) is own_told in
+    IfOk-at_ok (λ x. first ≡ spelled c.batches c.boot (map (followed more) (own_data x c))) is own_reported in
     let here : start ≡ further_start before seg c = IfOk-at_ok (λ x. start ≡ further_start before x c) is begins in
     let with_it : own ≡ (copied c.south seg).fin = IfOk-at_ok (λ x. own ≡ (copied c.south x).fin) is own_fin in
     let held : fin ≡ takes_held_fin before (copied c.south seg).fin c = ends ∙ ap (λ b. takes_held_fin before b c) with_it in
@@ -164,26 +164,26 @@ nothing_yet (packet ∷ out) none is holds =
     let zero : length (packet ∷ out) ≡ 0 = eqb-true (length (packet ∷ out)) 0 (sym is ∙ holds) in absurd (omega (arith, zero))
 
 -- Data that only reports the acknowledgement goes out where nothing else has, ..
-pub una_told : {S : Type 0} (c : ConnState S) (before : ℕ) (out new : List (List ℕ)) → nat_lt before (una_units c) ≡ true → out ≡ []
+pub una_reported : {S : Type 0} (c : ConnState S) (before : ℕ) (out new : List (List ℕ)) → nat_lt before (una_units c) ≡ true → out ≡ []
     → new ≡ out ++ spelled c.batches c.boot (DataMsg (acked_part c) ∷ [])
     → (bodies : List Body) → out ≡ spelled c.batches c.boot (in_batch c.batches bodies) → new ≡ spelled c.batches c.boot (in_batch c.batches (or_una before c bodies))
 unfolding batch
-una_told c before out new less none is bodies told = go bodies (sym none ∙ told)
+una_reported c before out new less none is bodies reported = go bodies (sym none ∙ reported)
   where
     alone : (batches : Bool) (body : Body) → body ∷ [] ≡ in_batch batches (body ∷ [])
     alone true body = refl
     alone false body = refl
 
-    some_told : (batches : Bool) (body : Body) (others : List Body) → [] ≡ spelled c.batches c.boot (in_batch batches (body ∷ others)) → ⊥
-    some_told true body [] e = cc
-    some_told true body (other ∷ others) e = cc
-    some_told false body others e = cc
+    some_reported : (batches : Bool) (body : Body) (others : List Body) → [] ≡ spelled c.batches c.boot (in_batch batches (body ∷ others)) → ⊥
+    some_reported true body [] e = cc
+    some_reported true body (other ∷ others) e = cc
+    some_reported false body others e = cc
 
     go : (bodies : List Body) → [] ≡ spelled c.batches c.boot (in_batch c.batches bodies) → new ≡ spelled c.batches c.boot (in_batch c.batches (or_una before c bodies))
     go [] e =
         is ∙ ap (λ xs. xs ++ spelled c.batches c.boot (DataMsg (acked_part c) ∷ [])) none ∙ ap (spelled c.batches c.boot) (alone c.batches (DataMsg (acked_part c)))
         ∙ ap (λ b. spelled c.batches c.boot (in_batch c.batches (if b then DataMsg (acked_part c) ∷ [] else []))) (sym less)
-    go (body ∷ others) e = absurd (some_told c.batches body others e)
+    go (body ∷ others) e = absurd (some_reported c.batches body others e)
 
 no_batch : (batches : Bool) → in_batch batches [] ≡ []
 unfolding batch
@@ -194,8 +194,8 @@ no_batch false = refl
 pub una_silent : {S : Type 0} (c : ConnState S) (before : ℕ) (out : List (List ℕ)) → (out ≡ [] → nat_lt before (una_units c) ≡ false)
     → (bodies : List Body) → out ≡ spelled c.batches c.boot (in_batch c.batches bodies) → out ≡ spelled c.batches c.boot (in_batch c.batches (or_una before c bodies))
 unfolding batch
-una_silent c before out none [] told =
+una_silent c before out none [] reported =
     let empty : in_batch c.batches [] ≡ [] = no_batch c.batches in
-    let is : out ≡ [] = told ∙ ap (spelled c.batches c.boot) empty in
-    told ∙ ap (λ b. spelled c.batches c.boot (in_batch c.batches (if b then DataMsg (acked_part c) ∷ [] else []))) (sym (none is))
-una_silent c before out none (body ∷ others) told = told
+    let is : out ≡ [] = reported ∙ ap (spelled c.batches c.boot) empty in
+    reported ∙ ap (λ b. spelled c.batches c.boot (in_batch c.batches (if b then DataMsg (acked_part c) ∷ [] else []))) (sym (none is))
+una_silent c before out none (body ∷ others) reported = reported

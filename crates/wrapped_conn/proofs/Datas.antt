@@ -129,15 +129,15 @@ last_in_batch c offset text fin short =
     ap (in_batch c.batches) (last_of_datas c offset text fin short) ∙ batch_last c.batches (nat_lt 0 (length text) || fin) (a_data c offset text fin false)
 
 -- these Data of a connection, as a batch and as bytes
-abbrev pub told_of : {S : Type 0} → ConnState S → (offset : ℕ) → List ℕ → Bool → List (List ℕ)
-told_of c offset text fin = spelled c.batches c.boot (in_batch c.batches (datas_of c offset text fin))
+abbrev pub reported_of : {S : Type 0} → ConnState S → (offset : ℕ) → List ℕ → Bool → List (List ℕ)
+reported_of c offset text fin = spelled c.batches c.boot (in_batch c.batches (datas_of c offset text fin))
 
 -- one Data more has gone out
 piece_at : {S : Type 0} (c : ConnState S) (offset from : ℕ) (text : List ℕ) (fin : Bool) (out new all : List (List ℕ)) → 1460 < length (drop from text)
-    → new ≡ out ++ spelled c.batches c.boot (a_data c offset (take 1460 (drop from text)) false c.batches ∷ []) → out ++ told_of c offset (drop from text) fin ≡ all
-    → new ++ told_of c (offset + 1460) (drop (from + 1460) text) fin ≡ all
+    → new ≡ out ++ spelled c.batches c.boot (a_data c offset (take 1460 (drop from text)) false c.batches ∷ []) → out ++ reported_of c offset (drop from text) fin ≡ all
+    → new ++ reported_of c (offset + 1460) (drop (from + 1460) text) fin ≡ all
 piece_at c offset from text fin out new all long is before =
-    ap (λ xs. xs ++ told_of c (offset + 1460) (drop (from + 1460) text) fin) is
+    ap (λ xs. xs ++ reported_of c (offset + 1460) (drop (from + 1460) text) fin) is
     ∙ append_assoc out _ _
     ∙ ap (λ xs. out ++ spelled c.batches c.boot (a_data c offset (take 1460 (drop from text)) false c.batches ∷ in_batch c.batches (datas_of c (offset + 1460) xs fin))) (sym (drop-drop 1460 from text))
     ∙ ap (λ xs. out ++ spelled c.batches c.boot xs) (sym (first_in_batch c offset (drop from text) fin long))
@@ -146,24 +146,24 @@ piece_at c offset from text fin out new all long is before =
 further_on : (a b : ℕ) → a + (b + 1460) ≡ a + b + 1460
 further_on a b = omega arith
 
-pub piece_told : {S : Type 0} (c : ConnState S) (start from told : ℕ) (text : List ℕ) (fin : Bool) (out new all : List (List ℕ)) → 1460 < length (drop (from + told) text)
-    → new ≡ out ++ spelled c.batches c.boot (a_data c (start + told) (take 1460 (drop (from + told) text)) false c.batches ∷ [])
-    → out ++ told_of c (start + told) (drop (from + told) text) fin ≡ all
-    → new ++ told_of c (start + (told + 1460)) (drop (from + (told + 1460)) text) fin ≡ all
-piece_told c start from told text fin out new all long is before =
-    (λ j. new ++ told_of c (further_on start told j) (drop (further_on from told j) text) fin)
-    ∙ piece_at c (start + told) (from + told) text fin out new all long is before
+pub piece_reported : {S : Type 0} (c : ConnState S) (start from reported : ℕ) (text : List ℕ) (fin : Bool) (out new all : List (List ℕ)) → 1460 < length (drop (from + reported) text)
+    → new ≡ out ++ spelled c.batches c.boot (a_data c (start + reported) (take 1460 (drop (from + reported) text)) false c.batches ∷ [])
+    → out ++ reported_of c (start + reported) (drop (from + reported) text) fin ≡ all
+    → new ++ reported_of c (start + (reported + 1460)) (drop (from + (reported + 1460)) text) fin ≡ all
+piece_reported c start from reported text fin out new all long is before =
+    (λ j. new ++ reported_of c (further_on start reported j) (drop (further_on from reported j) text) fin)
+    ∙ piece_at c (start + reported) (from + reported) text fin out new all long is before
 
 -- the last one has gone out, ..
-pub last_told : {S : Type 0} (c : ConnState S) (offset : ℕ) (rest : List ℕ) (fin : Bool) (out new all : List (List ℕ)) → length rest ≤ 1460 → (nat_lt 0 (length rest) || fin) ≡ true
-    → new ≡ out ++ spelled c.batches c.boot (a_data c offset (take 1460 rest) fin false ∷ []) → out ++ told_of c offset rest fin ≡ all → new ≡ all
-last_told c offset rest fin out new all short some is before =
+pub last_reported : {S : Type 0} (c : ConnState S) (offset : ℕ) (rest : List ℕ) (fin : Bool) (out new all : List (List ℕ)) → length rest ≤ 1460 → (nat_lt 0 (length rest) || fin) ≡ true
+    → new ≡ out ++ spelled c.batches c.boot (a_data c offset (take 1460 rest) fin false ∷ []) → out ++ reported_of c offset rest fin ≡ all → new ≡ all
+last_reported c offset rest fin out new all short some is before =
     is ∙ ap (λ xs. out ++ spelled c.batches c.boot (a_data c offset xs fin false ∷ [])) (take_all 1460 rest short)
     ∙ ap (λ xs. out ++ spelled c.batches c.boot xs) (sym (last_in_batch c offset rest fin short ∙ if_true (nat_lt 0 (length rest) || fin) _ _ some)) ∙ before
 
 -- .. or there is none
 pub none_left : {S : Type 0} (c : ConnState S) (offset : ℕ) (rest : List ℕ) (fin : Bool) (out all : List (List ℕ)) → length rest ≤ 1460 → (nat_lt 0 (length rest) || fin) ≡ false
-    → out ++ told_of c offset rest fin ≡ all → out ≡ all
+    → out ++ reported_of c offset rest fin ≡ all → out ≡ all
 none_left c offset rest fin out all short none before =
     sym (append-nil out)
     ∙ ap (λ xs. out ++ spelled c.batches c.boot xs) (sym (last_in_batch c offset rest fin short ∙ if_false (nat_lt 0 (length rest) || fin) (a_data c offset rest fin false ∷ []) [] none)) ∙ before

@@ -8,7 +8,7 @@ use Rattle.wrapped_conn.specs.ConnState.{ConnState}
 use Rattle.wrapped_conn.specs.Numbers.{sent_units}
 use Rattle.wrapped_conn.specs.Output.{turn_ended, is_delayed, tcp_out}
 use Rattle.wrapped_conn.specs.Sound.{IsSound, IsSoundTcp}
-use Rattle.wrapped_conn.proofs.Kept.{GoesOnFrom}
+use Rattle.wrapped_conn.proofs.Kept.{ProceedsFrom}
 use Rattle.wrapped_conn.proofs.SoundAgain.{sound_with}
 
 pub delayed_sends : {S : Type 0} (before : Before) (c : ConnState S) (t : Tcb) → is_delayed before c ≡ true → leaving t ≡ full_out c.endpoint → leaving t ≡ tcp_out before c
@@ -20,7 +20,7 @@ undelayed_sends before c at_once = λ j. if sym at_once j then full_out c.endpoi
 pub delayed_ends : {S : Type 0} (c : ConnState S) (t : Tcb) → flushed t ≡ flushed c.endpoint → turn_ended (record c { endpoint = t }) ≡ turn_ended c
 delayed_ends c t is = λ j. record c { endpoint = is j; south = record c.south { sent = sent_units (record c { endpoint = is j }) } }
 
-delay_goes : (e : Tcb) → IsSoundTcp e → GoesOnFrom e (with_ack_delayed e)
+delay_goes : (e : Tcb) → IsSoundTcp e → ProceedsFrom e (with_ack_delayed e)
 unfolding with_ack_delayed
 delay_goes e s = record {
   sound = record { bounds = s.bounds; buffered = s.buffered; begun = s.begun; fin_last = s.fin_last };

@@ -16,7 +16,7 @@ use Rattle.seq_arith.specs.Message.Body.{DoneMsg}
 use Rattle.seq_arith.specs.MessageGrammar as message
 use Rattle.server_trait.specs.Service.{Machine}
 use Rattle.ft_model.specs.Answered.{answered_after}
-use Rattle.ft_model.specs.Connection.{LiveTurn, ResetTurn, told_by, sent_by}
+use Rattle.ft_model.specs.Connection.{LiveTurn, ResetTurn, reported_by, sent_by}
 use Rattle.ft_model.specs.Copy as model
 use Rattle.ft_model.specs.ResetAndEnd.{reset_after, end_ticks_after, dones as dones_by_law}
 use Rattle.ft_model.specs.Network.{Packet}
@@ -26,7 +26,7 @@ use Rattle.ft_model.specs.News.News.{Comes, Logged, Ticks, Begins}
 use Rattle.ft_model.specs.PendingAck.{is_delayed as is_delayed_by_law}
 use Rattle.ft_model.specs.Timer.{is_tick}
 use Rattle.ft_model.specs.Point.{Point, taken_units, acknowledgement, is_over}
-use Rattle.ft_model.specs.Reads.{reads_told, read_messages}
+use Rattle.ft_model.specs.Reads.{reads_reported, read_messages}
 use Rattle.ft_model.specs.Segments as segments
 use Rattle.ft_model.specs.Segments.{segments_of, bare_segment}
 use Rattle.ft_model.specs.Sending.{acknowledged_after}
@@ -35,15 +35,15 @@ use Rattle.north_wrap.specs.declared.read_record.ReadRecord.{ReadRecord}
 use Rattle.north_wrap.specs.NorthState.{NorthState, lengths_of}
 use Rattle.north_wrap.specs.Refinement.{messages_of, IsNumbered}
 use Rattle.north_wrap.proofs.OneRead.{numbered_drop}
-use Rattle.north_wrap.proofs.ReadSequence.{told_reads}
+use Rattle.north_wrap.proofs.ReadSequence.{reported_reads}
 use Rattle.south_wrap.specs.SouthState.{SouthState, acknowledged, window}
 use Rattle.south_wrap.specs.SouthPoint.{south_at}
 use Rattle.tcp_endpoint.specs.Output.{full_out, leaving, flushed, packets, or_bare}
 use Rattle.tcp_endpoint.specs.Tcb.{Tcb}
 use Rattle.connection_laws.specs.Traffic.{tcp_out as tcp_out_by_law}
 use Rattle.connection_laws.specs.Parts.{PartsTurn, adds, repeats, leaves_with}
-use Rattle.connection_laws.specs.PointNumbers.{PartsTell}
-use Rattle.connection_laws.proofs.PointNumbers.{parts_tell}
+use Rattle.connection_laws.specs.PointNumbers.{PartsShow}
+use Rattle.connection_laws.proofs.PointNumbers.{parts_show}
 use Rattle.wrapped_conn.specs.declared.stage.Before.{Before}
 use Rattle.wrapped_conn.specs.ConnState.{ConnState}
 use Rattle.wrapped_conn.specs.Numbers.{sent_units, outer_sent}
@@ -85,12 +85,12 @@ few_units sent made a b = omega (arith, a, b)
 
 -- the south wrapper after the turn
 pub south_ends : {S : Type 0} (service : Machine S) (server : Addr) (boot : ℕ) (news : News) (p q : Point) (sent : List Packet) (n : NorthState S) (reads : List ReadRecord) (c : ConnState S)
-    → HasNews news p c → LiveTurn service server boot news p q sent → PartsTell service c.south.delta q n (flushed (tcp_used c reads)) → n.read ≡ sum q.lengths → n.run.made ≤ 2 ^ 24
+    → HasNews news p c → LiveTurn service server boot news p q sent → PartsShow service c.south.delta q n (flushed (tcp_used c reads)) → n.read ≡ sum q.lengths → n.run.made ≤ 2 ^ 24
     → (turn_ended (served n reads c)).south ≡ south_at c.south.delta q
-south_ends service server boot news p q sent n reads c h l tell read few =
+south_ends service server boot news p q sent n reads c h l shown read few =
     let sisn : c.south.sisn ≡ q.sisn = ap (λ (s : SouthState). s.sisn) h.south ∙ sym l.same.sisn in
     let units : sent_units (with_endpoint_flushed (served n reads c)) ≡ q.sent =
-    units_of q.sisn c.south.sisn q.sent (outer_sent (with_endpoint_flushed (served n reads c))) tell.sent_outside sisn (few_units q.sent n.run.made tell.few few) in
+    units_of q.sisn c.south.sisn q.sent (outer_sent (with_endpoint_flushed (served n reads c))) shown.sent_outside sisn (few_units q.sent n.run.made shown.few few) in
     let cisn : c.south.cisn ≡ q.cisn = ap (λ (s : SouthState). s.cisn) h.south ∙ sym l.same.cisn in
     let fetched : c.south.fetched ≡ q.fetched = ap (λ (s : SouthState). s.fetched) h.south ∙ sym l.same.fetched in
     let fetched_output : c.south.fetched_output ≡ q.fetched_output = ap (λ (s : SouthState). s.fetched_output) h.south ∙ sym l.same.fetched_output in
@@ -156,16 +156,16 @@ leaves_is service server delta news p q t c before again local key south sent ac
     (passed (south j) (out_is j) ++ (if repeated j then syn_ack_is server delta q c local key south j ∷ [] else [])))
 
 -- messages of a boot
-maps : (boot : ℕ) (bodies : List Body) → map (told_by boot) bodies ≡ map To_logger (map (λ body. record { boot = boot; body = body }) bodies)
+maps : (boot : ℕ) (bodies : List Body) → map (reported_by boot) bodies ≡ map To_logger (map (λ body. record { boot = boot; body = body }) bodies)
 maps boot [] = refl
-maps boot (body ∷ bodies) = ap (λ xs. told_by boot body ∷ xs) (maps boot bodies)
+maps boot (body ∷ bodies) = ap (λ xs. reported_by boot body ∷ xs) (maps boot bodies)
 
 spells : (wide : Bool) (boot : ℕ) (bodies : List Body) → spelled wide boot bodies ≡ map (message.spelling_by (grammar_by wide)) (map (λ body. record { boot = boot; body = body }) bodies)
 spells wide boot [] = refl
 spells wide boot (body ∷ bodies) = ap (λ xs. message.spelling_by (grammar_by wide) (record { boot = boot; body = body }) ∷ xs) (spells wide boot bodies)
 
 pub spelled_by : (wide : Bool) (boot : ℕ) (to_client : List Segment) (bodies : List Body) (sent : List Packet) (out messages : List (List ℕ))
-    → sent ≡ map To_client to_client ++ map (told_by boot) bodies → out ≡ packets to_client → messages ≡ spelled wide boot bodies → IsSpelled wide sent out messages
+    → sent ≡ map To_client to_client ++ map (reported_by boot) bodies → out ≡ packets to_client → messages ≡ spelled wide boot bodies → IsSpelled wide sent out messages
 unfolding packets
 spelled_by wide boot to_client bodies sent out messages a b c = record {
   to_client = to_client;
@@ -195,22 +195,22 @@ numbered_new answered old reads new lengths all numbered news count more =
     subst (λ k. IsNumbered k reads) first those
 
 reads_are : (key other : Key) (first : ℕ) (reads : List ReadRecord) → key ≡ other → IsNumbered first reads → messages_of key reads ≡ read_messages other first (lengths_of reads)
-reads_are key other first reads same numbered = ap (λ k. messages_of k reads) same ∙ told_reads other first reads numbered
+reads_are key other first reads same numbered = ap (λ k. messages_of k reads) same ∙ reported_reads other first reads numbered
 
 -- outside of a tick the new reads are told, ..
-new_told : (p q : Point) (key : Key) (reads : List ReadRecord) → key ≡ q.key → q.lengths ≡ p.lengths ++ lengths_of reads → IsNumbered (length p.lengths) reads
+new_reported : (p q : Point) (key : Key) (reads : List ReadRecord) → key ≡ q.key → q.lengths ≡ p.lengths ++ lengths_of reads → IsNumbered (length p.lengths) reads
     → messages_of key reads ≡ read_messages q.key (length p.lengths) (drop (length p.lengths) q.lengths)
-new_told p q key reads same lengths numbered =
+new_reported p q key reads same lengths numbered =
     reads_are key q.key (length p.lengths) reads same numbered
     ∙ ap (read_messages q.key (length p.lengths)) (sym (ap (drop (length p.lengths)) lengths ∙ drop-append_seam p.lengths (lengths_of reads)))
 
-pub new_reads_told : (news : News) (p q : Point) (key : Key) (reads : List ReadRecord) → is_tick news ≡ false → key ≡ q.key → q.lengths ≡ p.lengths ++ lengths_of reads
-    → IsNumbered (length p.lengths) reads → messages_of key reads ≡ reads_told news p q
-unfolding reads_told
-new_reads_told (Comes segment) p q key reads off same lengths numbered = new_told p q key reads same lengths numbered
-new_reads_told (Logged kept) p q key reads off same lengths numbered = new_told p q key reads same lengths numbered
-new_reads_told Begins p q key reads off same lengths numbered = new_told p q key reads same lengths numbered
-new_reads_told Ticks p q key reads off same lengths numbered = absurd (false≢true (sym off))
+pub new_reads_reported : (news : News) (p q : Point) (key : Key) (reads : List ReadRecord) → is_tick news ≡ false → key ≡ q.key → q.lengths ≡ p.lengths ++ lengths_of reads
+    → IsNumbered (length p.lengths) reads → messages_of key reads ≡ reads_reported news p q
+unfolding reads_reported
+new_reads_reported (Comes segment) p q key reads off same lengths numbered = new_reported p q key reads same lengths numbered
+new_reads_reported (Logged kept) p q key reads off same lengths numbered = new_reported p q key reads same lengths numbered
+new_reads_reported Begins p q key reads off same lengths numbered = new_reported p q key reads same lengths numbered
+new_reads_reported Ticks p q key reads off same lengths numbered = absurd (false≢true (sym off))
 
 -- .. and nothing is done
 no_dones : (news : News) (p q : Point) → is_tick news ≡ false → q.reset ≡ false → dones_by_law news p q ≡ []
@@ -223,31 +223,31 @@ pub carries_on : {S : Type 0} (service : Machine S) (u i : ℕ) (news : News) (p
     → HasNews news p c → is_tick news ≡ false → reset_after news p ≡ false → n.run.made ≤ 2 ^ 24
     → (k : PartsTurn service c.local c.boot u i c.south.delta news p (lengths_of reads) n (tcp_used c reads))
     → (older : List ReadRecord) → n.reads ≡ older ++ reads
-    → (PartsTell service c.south.delta k.after n (flushed (tcp_used c reads)) → is_ack_pending before (turn_ended (served n reads c)) ≡ adds service news p k.after (tcp_used c reads))
-    → (PartsTell service c.south.delta k.after n (flushed (tcp_used c reads)) → is_delayed before (served n reads c) ≡ is_delayed_by_law news p k.after)
+    → (PartsShow service c.south.delta k.after n (flushed (tcp_used c reads)) → is_ack_pending before (turn_ended (served n reads c)) ≡ adds service news p k.after (tcp_used c reads))
+    → (PartsShow service c.south.delta k.after n (flushed (tcp_used c reads)) → is_delayed before (served n reads c) ≡ is_delayed_by_law news p k.after)
     → again ≡ repeats news p
     → copied ≡ model.copies news p k.after
     → out ≡ packets (leaves before again (turn_ended (served n reads c)) (tcp_out before (served n reads c)))
     → messages ≡ spelled c.batches c.boot (copied ++ messages_of c.key reads)
     → Leads service c.local c.boot news p (turn_ended (served n reads c)) out messages
 unfolding end_ticks_after
-carries_on service u i news p c n reads before again copied out messages h off unreset few k older told ack_pending waits repeated copy goes_out says =
+carries_on service u i news p c n reads before again copied out messages h off unreset few k older reported ack_pending waits repeated copy goes_out says =
     let q : Point = k.after in
     let l = k.goes in
     let t : Tcb = tcp_used c reads in
     let new : ConnState _ = turn_ended (served n reads c) in
-    let tell : PartsTell service c.south.delta q n (flushed t) = parts_tell service u i c.south.delta k.given q n (flushed t) k.rest.stand in
+    let shown : PartsShow service c.south.delta q n (flushed t) = parts_show service u i c.south.delta k.given q n (flushed t) k.rest.stand in
     let north = k.rest.stand.north in
-    let south : new.south ≡ south_at c.south.delta q = south_ends service c.local c.boot news p q _ n reads c h l tell north.read few in
+    let south : new.south ≡ south_at c.south.delta q = south_ends service c.local c.boot news p q _ n reads c h l shown north.read few in
     let key : c.key ≡ q.key = h.key ∙ sym l.same.key in
-    let out_is : tcp_out before (served n reads c) ≡ tcp_out_by_law news p q t = λ j. if waits tell j then full_out t else leaving t in
+    let out_is : tcp_out before (served n reads c) ≡ tcp_out_by_law news p q t = λ j. if waits shown j then full_out t else leaving t in
     let leave : leaves before again new (tcp_out before (served n reads c)) ≡ segments_of service c.local news p q =
-    leaves_is service c.local c.south.delta news p q t new before again refl key south tell.sent_outside (ack_pending tell) repeated _ out_is ∙ k.segments in
-    let numbered : IsNumbered (length p.lengths) reads = numbered_new q.reads_answered older reads n.reads p.lengths q.lengths north.numbered told north.unanswered k.lengths in
-    let read : messages_of c.key reads ≡ reads_told news p q = new_reads_told news p q c.key reads off key k.lengths numbered in
+    leaves_is service c.local c.south.delta news p q t new before again refl key south shown.sent_outside (ack_pending shown) repeated _ out_is ∙ k.segments in
+    let numbered : IsNumbered (length p.lengths) reads = numbered_new q.reads_answered older reads n.reads p.lengths q.lengths north.numbered reported north.unanswered k.lengths in
+    let read : messages_of c.key reads ≡ reads_reported news p q = new_reads_reported news p q c.key reads off key k.lengths numbered in
     let none : dones_by_law news p q ≡ [] = no_dones news p q off l.reset in
-    let bodies : copied ++ messages_of c.key reads ≡ model.copies news p q ++ (reads_told news p q ++ dones_by_law news p q) =
-    (λ j. copy j ++ read j) ∙ ap (λ xs. model.copies news p q ++ xs) (sym (ap (λ xs. reads_told news p q ++ xs) none ∙ append-nil (reads_told news p q))) in
+    let bodies : copied ++ messages_of c.key reads ≡ model.copies news p q ++ (reads_reported news p q ++ dones_by_law news p q) =
+    (λ j. copy j ++ read j) ∙ ap (λ xs. model.copies news p q ++ xs) (sym (ap (λ xs. reads_reported news p q ++ xs) none ∙ append-nil (reads_reported news p q))) in
     let ticks : q.end_ticks ≡ p.end_ticks = l.end_ticks ∙ (λ j. if ((off j && is_over service q) && acknowledgement q == taken_units q) then min 4 (p.end_ticks + 1) else p.end_ticks) in
     record {
       after = q;
@@ -268,6 +268,6 @@ carries_on service u i news p c n reads before again copied out messages h off u
         parts = subst (λ b. MatchBool b (StandsReset service q new) (StandsLive service q new)) (sym l.reset)
             (record { u = u; i = i; given = k.given; parts = k.rest; local = flushed_local t ∙ used_local (calls_of c.north c.endpoint (lengths_of reads)) c.endpoint ∙ h.local });
       };
-      spelled = spelled_by p.batches c.boot (segments_of service c.local news p q) (model.copies news p q ++ (reads_told news p q ++ dones_by_law news p q)) _ out messages refl (goes_out ∙ ap packets leave)
+      spelled = spelled_by p.batches c.boot (segments_of service c.local news p q) (model.copies news p q ++ (reads_reported news p q ++ dones_by_law news p q)) _ out messages refl (goes_out ∙ ap packets leave)
           (says ∙ (λ j. spelled (h.batches j) c.boot (bodies j)));
     }

@@ -15,7 +15,7 @@ use Rattle.wrapped_conn.specs.ConnState.{ConnState}
 use Rattle.wrapped_conn.specs.Numbers.{sent_units}
 use Rattle.wrapped_conn.specs.Output.{with_endpoint_flushed, turn_ended}
 use Rattle.wrapped_conn.specs.Sound.{has_peer, IsSound, IsSoundTcp, swallowed}
-use Rattle.wrapped_conn.proofs.Kept.{GoesOnFrom, not_listen}
+use Rattle.wrapped_conn.proofs.Kept.{ProceedsFrom, not_listen}
 use Rattle.wrapped_conn.proofs.SoundAgain.{sound_with}
 use Rattle.ft_io.proofs.Booleans.{left_true, right_true}
 use Rattle.seq_arith.proofs.Units.{one_at_most}
@@ -101,7 +101,7 @@ pub flush_name : (e : Tcb) → ((flushed e).name ≡ e.name) × ((flushed e).rec
 unfolding flushed with_turn_ended with_advertised after_full with_timed with_probe with_text_sent with_fin_out
 flush_name e = (refl, refl)
 
-pub flush_goes : (e : Tcb) → IsSoundTcp e → GoesOnFrom e (flushed e)
+pub flush_goes : (e : Tcb) → IsSoundTcp e → ProceedsFrom e (flushed e)
 flush_goes e s =
     let l : Leaves e.sending (flushed e).sending = flush_leaves e in
     let same = flush_name e in
@@ -133,7 +133,7 @@ waited_name : (b : Bool) (name : StateName) → has_peer name ≡ true → has_p
 waited_name true name h = refl
 waited_name false name h = h
 
-pub tick_goes : (e : Tcb) → IsSoundTcp e → GoesOnFrom e (after_tick e)
+pub tick_goes : (e : Tcb) → IsSoundTcp e → ProceedsFrom e (after_tick e)
 unfolding after_tick timer_ticked waited
 tick_goes e s =
     let l : Leaves e.sending (ticked e.sending) = ticked_leaves e.sending in

@@ -25,12 +25,12 @@ use Rattle.tcp_endpoint.specs.Arrival.{received, in_listen, begun}
 use Rattle.tcp_endpoint.specs.Tcb.{Tcb, listening, listening_measuring}
 use Rattle.tcp_endpoint.specs.UserCalls.{acked_number}
 use Rattle.connection_laws.specs.FirstSyn.{MayOpen, opened_syn, listens_with}
-use Rattle.connection_laws.specs.Splice.{GoesOnFrom, delta_from, spliced_measuring, connected_measuring}
+use Rattle.connection_laws.specs.Splice.{ProceedsFrom, delta_from, spliced_measuring, connected_measuring}
 use Rattle.connection_laws.specs.Parts.{PartsStand, PartsTurn}
-use Rattle.connection_laws.specs.PointNumbers.{PartsTell}
+use Rattle.connection_laws.specs.PointNumbers.{PartsShow}
 use Rattle.connection_laws.proofs.Spliced.{splices_parts}
 use Rattle.connection_laws.proofs.NewParts.{starts_together}
-use Rattle.connection_laws.proofs.PointNumbers.{parts_tell}
+use Rattle.connection_laws.proofs.PointNumbers.{parts_show}
 use Rattle.wrapped_conn.specs.ConnState.{ConnState}
 use Rattle.wrapped_conn.specs.NewConnection.{joined_conn_in, south_opened, syn, first_conn_in}
 use Rattle.connection_laws.specs.OutputFeed.{tcp_reader, tcp_writer}
@@ -40,7 +40,7 @@ use Rattle.wrapped_conn.specs.Sound.{IsSound}
 use Rattle.wrapped_conn.specs.Refinement.{Keeps, StandsBefore, Leads}
 use Rattle.wrapped_conn.proofs.Locals.{received_local, flushed_local, either}
 use Rattle.wrapped_conn.proofs.NumbersAt.{has_fin_is, logged_at}
-use Rattle.wrapped_conn.proofs.Hearing.{begins_with}
+use Rattle.wrapped_conn.proofs.Arrivals.{begins_with}
 use Rattle.wrapped_conn.proofs.Begun.{nothing_fetched}
 
 -- a fresh service stands at the opened point
@@ -157,7 +157,7 @@ pub few_units : (length : ℕ) (fin : Bool) → length ≤ 2 ^ 24 → length + o
 few_units length true h = omega (arith, h)
 few_units length false h = omega (arith, h)
 
-pub joins_at_entry : {S : Type 0} (service : Machine S) (profile : Profile) (boot : ℕ) (local : Addr) (e : Entry) (i : ℕ) (n : NorthState S) → GoesOnFrom service e i
+pub joins_at_entry : {S : Type 0} (service : Machine S) (profile : Profile) (boot : ℕ) (local : Addr) (e : Entry) (i : ℕ) (n : NorthState S) → ProceedsFrom service e i
     → HasReplayed service (point_of service profile e) (resumed_at service e) n
     → StandsBefore service (joined_conn_in profile boot e.key local (south_at (delta_from service e i) (point_of service profile e))
     (spliced_measuring profile.measures e.key local e.cisn (length e.bytes) e.mss i e.fin) n) (point_of service profile e)
@@ -166,8 +166,8 @@ joins_at_entry service profile boot local e i n goes replayed =
     let t : Tcb = spliced_measuring profile.measures e.key local e.cisn (length e.bytes) e.mss i e.fin in
     let u : ℕ = resumed_at service e in
     let parts : PartsStand service u i (delta_from service e i) u p n t = splices_parts service profile local e i n goes replayed in
-    let tell : PartsTell service (delta_from service e i) p n t = parts_tell service u i (delta_from service e i) u p n t parts in
-    let fin : has_fin t.name ≡ e.fin = has_fin_is t.name ∙ sym tell.fin in
+    let shown : PartsShow service (delta_from service e i) p n t = parts_show service u i (delta_from service e i) u p n t parts in
+    let fin : has_fin t.name ≡ e.fin = has_fin_is t.name ∙ sym shown.fin in
     record {
       keeps = record {
         key = refl;

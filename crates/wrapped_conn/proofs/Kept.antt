@@ -25,7 +25,7 @@ use Rattle.wrapped_conn.specs.Sound.{has_peer, IsSoundTcp}
 use Rattle.endpoint_laws.proofs.Bounding.{new_within, moved_within, near_of_choice, not_less}
 
 -- a TCP that has gone on from another one, and no call of its user
-pub record GoesOnFrom (e t : Tcb) : Type 0 where
+pub record ProceedsFrom (e t : Tcb) : Type 0 where
   pub sound : IsSoundTcp t
   pub read : t.receiving.read ≡ e.receiving.read
   pub limit : t.receiving.limit ≡ e.receiving.limit
@@ -36,14 +36,14 @@ pub record GoesOnFrom (e t : Tcb) : Type 0 where
   pub sent : e.sending.sent ≤ t.sending.sent
   pub held : e.sending.closed ≡ false → t.sending.una + length t.sending.held ≤ e.sending.una + length e.sending.held
 
-pub stays : (e : Tcb) → IsSoundTcp e → GoesOnFrom e e
+pub stays : (e : Tcb) → IsSoundTcp e → ProceedsFrom e e
 stays e s = record { sound = s; read = refl; limit = refl; more = omega arith; iss = refl; mss = refl; closed = refl; sent = omega arith; held = λ h. omega arith }
 
-pub goes_if : (b : Bool) (e x y : Tcb) → GoesOnFrom e x → GoesOnFrom e y → GoesOnFrom e (if b then x else y)
+pub goes_if : (b : Bool) (e x y : Tcb) → ProceedsFrom e x → ProceedsFrom e y → ProceedsFrom e (if b then x else y)
 goes_if true e x y p q = p
 goes_if false e x y p q = q
 
-pub goes_when : (b : Bool) (e x y : Tcb) → (b ≡ true → GoesOnFrom e x) → (b ≡ false → GoesOnFrom e y) → GoesOnFrom e (if b then x else y)
+pub goes_when : (b : Bool) (e x y : Tcb) → (b ≡ true → ProceedsFrom e x) → (b ≡ false → ProceedsFrom e y) → ProceedsFrom e (if b then x else y)
 goes_when true e x y p q = p refl
 goes_when false e x y p q = q refl
 

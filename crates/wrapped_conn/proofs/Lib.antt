@@ -9,7 +9,7 @@ pub mod NorthSoundness
 pub mod Reached
 pub mod Served
 pub mod Begun
-pub mod Told
+pub mod Reported
 pub mod Sendable
 pub mod Copied
 pub mod Onward
@@ -27,7 +27,7 @@ pub mod ResetTurn
 pub mod Receiving
 pub mod RoomLeft
 pub mod Stamping
-pub mod Hearing
+pub mod Arrivals
 pub mod Ticking
 pub mod Joining
 pub mod Lending

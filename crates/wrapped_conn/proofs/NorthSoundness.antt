@@ -16,7 +16,7 @@ use Rattle.tcp_endpoint.specs.UserCalls.{after_read, closing, write_room}
 use Rattle.endpoint_laws.specs.Laws.{IsBounded}
 use Rattle.endpoint_laws.proofs.Bounding.{bounded_by_read, bounded_by_more}
 use Rattle.connection_laws.specs.OutputFeed.{tcp_reader, tcp_writer}
-use Rattle.wrapped_conn.specs.LoggerMessages.{IsTellable, AreTellable}
+use Rattle.wrapped_conn.specs.LoggerMessages.{IsWritable, AreWritable}
 use Rattle.wrapped_conn.specs.Sound.{has_peer, AreSound}
 use Rattle.seq_arith.proofs.Units.{one_at_most}
 use Rattle.ft_io.proofs.Choices.{holds_if}
@@ -119,7 +119,7 @@ rest_step fetched k n e run s r a none =
         made = omega (arith, r.most, a.room);
         written = λ o. omega (arith, r.waits, s.written o);
         count = counts_on n.count n.read k n.ended s.count a.once;
-        tellable = all_more IsTellable n.reads (record_of k n run) s.tellable (record {
+        writable = all_more IsWritable n.reads (record_of k n run) s.writable (record {
           index = omega (arith, s.count, one_at_most n.ended, s.rest, s.limit, s.tcp.bounds.taken);
           length = a.most;
         });
@@ -156,7 +156,7 @@ tcp_step fetched k n e run s r a none =
         made = omega (arith, r.most, a.room);
         written = λ o. omega (arith, r.waits, s.written o);
         count = counts_on n.count n.read k n.ended s.count a.once;
-        tellable = all_more IsTellable n.reads (record_of k n run) s.tellable (record {
+        writable = all_more IsWritable n.reads (record_of k n run) s.writable (record {
           index = omega (arith, s.count, one_at_most n.ended, s.rest, s.limit, s.tcp.bounds.taken);
           length = a.most;
         });
@@ -213,7 +213,7 @@ given_on fetched n e s =
       made = s.made;
       written = λ o. omega (arith, s.written o, length-append e.sending.held bytes, length-take count n.run.pending, length-drop count n.run.pending);
       count = s.count;
-      tellable = s.tellable;
+      writable = s.writable;
     }
 
 close_has_peer : (name : StateName) → has_peer name ≡ true → has_peer (after_close name) ≡ true
@@ -262,7 +262,7 @@ shut_on fetched n e s = holds_if (λ t. ServedOn fetched n e (shut_north n) t) (
         made = s.made;
         written = λ o. absurd (true≢false o);
         count = s.count;
-        tellable = s.tellable;
+        writable = s.writable;
       };
       iss = refl;
       mss = refl;
@@ -271,7 +271,7 @@ shut_on fetched n e s = holds_if (λ t. ServedOn fetched n e (shut_north n) t) (
       rises = omega arith;
     })
     (λ h. record {
-      sound = record { tcp = s.tcp; limit = s.limit; read = s.read; rest = s.rest; made = s.made; written = s.written; count = s.count; tellable = s.tellable };
+      sound = record { tcp = s.tcp; limit = s.limit; read = s.read; rest = s.rest; made = s.made; written = s.written; count = s.count; writable = s.writable };
       iss = refl;
       mss = refl;
       sent = refl;
@@ -293,5 +293,5 @@ all_behind : (P : ReadRecord → Type 0) (xs ys : List ReadRecord) → AllByRecu
 all_behind P [] ys a = a
 all_behind P (x ∷ xs) ys a = all_behind P xs ys a.1
 
-pub news_tellable : (old news new : List ReadRecord) → new ≡ old ++ news → AreTellable new → AreTellable news
-news_tellable old news new told all = all_behind IsTellable old news (subst AreTellable told all)
+pub news_writable : (old news new : List ReadRecord) → new ≡ old ++ news → AreWritable new → AreWritable news
+news_writable old news new reported all = all_behind IsWritable old news (subst AreWritable reported all)

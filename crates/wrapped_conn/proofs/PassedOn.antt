@@ -54,28 +54,28 @@ one_on s old packet segment off p is read =
     let kept : has_rst segment ≡ false = not_true (has_rst segment) (answer_at s old packet true segment p is read) in
     (p.canonical segment (ap reading is ∙ read) is ∙ ap spelling (off_if (has_rst segment) segment (patched s segment) kept ∙ patched_is s segment off), kept)
 
-pub goes_on : (s : SouthState) (i : ℕ) (segments : List Segment) (out : List (List ℕ)) (old packet : List ℕ) → timestamps_sent s.timestamping ≡ None
+pub proceeds : (s : SouthState) (i : ℕ) (segments : List Segment) (out : List (List ℕ)) (old packet : List ℕ) → timestamps_sent s.timestamping ≡ None
     → IsPassedOn s i segments out → AreReadable segments → slice_get out i ≡ Some old → Passes s old packet true → IsPassedOn s (suc i) segments (set out i packet)
 unfolding packets
-goes_on s zero [] [] old packet off h all get p = none_is_some old get
-goes_on s zero [] (x ∷ out) old packet off h all get p = absurd (true≢false (ap (λ l. is_cons l) h))
+proceeds s zero [] [] old packet off h all get p = none_is_some old get
+proceeds s zero [] (x ∷ out) old packet off h all get p = absurd (true≢false (ap (λ l. is_cons l) h))
   where
     is_cons : List (List ℕ) → Bool
     is_cons [] = false
     is_cons (x ∷ xs) = true
-goes_on s zero (segment ∷ segments) [] old packet off h all get p = none_is_some old get
-goes_on s zero (segment ∷ segments) (x ∷ out) old packet off h all get p =
+proceeds s zero (segment ∷ segments) [] old packet off h all get p = none_is_some old get
+proceeds s zero (segment ∷ segments) (x ∷ out) old packet off h all get p =
     let both = heads x (spelling segment) out (packets segments) h in
     let one = one_on s old packet segment off p (sym (some_is x old get) ∙ both.0) all.0 in
     (one.0, one.1, both.1)
-goes_on s (suc i) [] [] old packet off h all get p = none_is_some old get
-goes_on s (suc i) [] (x ∷ out) old packet off h all get p = absurd (true≢false (ap (λ l. is_cons l) h))
+proceeds s (suc i) [] [] old packet off h all get p = none_is_some old get
+proceeds s (suc i) [] (x ∷ out) old packet off h all get p = absurd (true≢false (ap (λ l. is_cons l) h))
   where
     is_cons : List (List ℕ) → Bool
     is_cons [] = false
     is_cons (x ∷ xs) = true
-goes_on s (suc i) (segment ∷ segments) [] old packet off h all get p = h
-goes_on s (suc i) (segment ∷ segments) (x ∷ out) old packet off h all get p = (h.0, h.1, goes_on s i segments out old packet off h.2 all.1 get p)
+proceeds s (suc i) (segment ∷ segments) [] old packet off h all get p = h
+proceeds s (suc i) (segment ∷ segments) (x ∷ out) old packet off h all get p = (h.0, h.1, proceeds s i segments out old packet off h.2 all.1 get p)
 
 -- all have gone through
 pub ends : (s : SouthState) (i : ℕ) (segments : List Segment) (out : List (List ℕ)) → IsPassedOn s i segments out → i ≡ length segments

@@ -10,10 +10,10 @@ use Rattle.mark_laws.proofs.Closing.{running_reads_on}
 use Rattle.wrapped_conn.specs.declared.quiet.Quiet.{Quiet}
 use Rattle.wrapped_conn.specs.ConnState.{ConnState}
 use Rattle.wrapped_conn.specs.Numbers.{una_units}
-use Rattle.wrapped_conn.specs.Quiet.{is_quiet, quiet_in, quiet_at, TellsQuiet}
+use Rattle.wrapped_conn.specs.Quiet.{is_quiet, quiet_in, quiet_at, ReportsQuiet}
 use Rattle.wrapped_conn.specs.Sound.{IsSound}
-use Rattle.wrapped_conn.specs.Refinement.{Tells, Stands}
-use Rattle.wrapped_conn.proofs.Lending.{tells}
+use Rattle.wrapped_conn.specs.Refinement.{Reports, Stands}
+use Rattle.wrapped_conn.proofs.Lending.{reports}
 use Rattle.wrapped_conn.proofs.Receiving.{parts_live, parts_reset}
 
 -- the north wrapper is at the point, also once the client has reset the connection
@@ -52,12 +52,12 @@ quiet_there : {S : Type 0} (service : Machine S) (p : Point) (c : ConnState S) �
     → IsQuiet service p
 quiet_there service p c ends sound st quiet =
     let north = (north_at service p c st).stands in
-    let told : Tells p c = tells service p c sound st in
+    let reported : Reports p c = reports service p c sound st in
     let three = three_of (length c.north.reads) (una_units c) c.north.run.made c.north.run.closed quiet in
     let running : (whole_run service p).closed ≡ false = sym north.run.closed ∙ three.running in
     record {
       answered = none_left p.reads_answered (length c.north.reads) (length p.lengths) north.unanswered three.answered;
-      acknowledged = sym told.tcp.una ∙ (three.acknowledged ∙ north.run.made);
+      acknowledged = sym reported.tcp.una ∙ (three.acknowledged ∙ north.run.made);
       reads_on = running_reads_on service p.taken p.lengths ends running;
       running = running;
     }
@@ -65,9 +65,9 @@ quiet_there service p c ends sound st quiet =
 quiet_here : {S : Type 0} (service : Machine S) (p : Point) (c : ConnState S) → IsSound c → Stands service c p → IsQuiet service p → is_quiet c ≡ true
 quiet_here service p c sound st quiet =
     let north = (north_at service p c st).stands in
-    let told : Tells p c = tells service p c sound st in
+    let reported : Reports p c = reports service p c sound st in
     all_three (length c.north.reads) (una_units c) c.north.run.made c.north.run.closed
-    (all_answered p.reads_answered (length c.north.reads) (length p.lengths) north.unanswered quiet.answered) (told.tcp.una ∙ (quiet.acknowledged ∙ sym north.run.made))
+    (all_answered p.reads_answered (length c.north.reads) (length p.lengths) north.unanswered quiet.answered) (reported.tcp.una ∙ (quiet.acknowledged ∙ sym north.run.made))
     (north.run.closed ∙ quiet.running)
 
 abbrev quiet_now : {S : Type 0} → ConnState S → Quiet
@@ -85,9 +85,9 @@ if_true : (b : Bool) (x : Quiet) → b ≡ true → (if b then Some x else None)
 if_true true x h = refl
 if_true false x h = absurd (true≢false (sym h))
 
-pub tells_quiet : {S : Type 0} (service : Machine S) (p : Point) (c : ConnState S) → ((s : S) → (service.after s []).closed ≡ true) → IsSound c → Stands service c p
-    → TellsQuiet service p (quiet_in c)
-tells_quiet service p c ends sound st = record {
+pub reports_quiet : {S : Type 0} (service : Machine S) (p : Point) (c : ConnState S) → ((s : S) → (service.after s []).closed ≡ true) → IsSound c → Stands service c p
+    → ReportsQuiet service p (quiet_in c)
+reports_quiet service p c ends sound st = record {
   there = λ quiet. if_true (is_quiet c) _ (quiet_here service p c sound st quiet) ∙ ap Some (numbers_are service p c st);
-  only_there = λ quiet told. quiet_there service p c ends sound st (some_if (is_quiet c) _ quiet told);
+  only_there = λ quiet reported. quiet_there service p c ends sound st (some_if (is_quiet c) _ quiet reported);
 }

@@ -31,8 +31,8 @@ use Rattle.endpoint_laws.specs.Turn as endpoint
 use Rattle.connection_laws.specs.Traffic.{news_inside, needs_ack_besides}
 use Rattle.connection_laws.specs.Turn.{NewsFit}
 use Rattle.connection_laws.specs.Parts.{PartsTurn, adds}
-use Rattle.connection_laws.specs.PointNumbers.{PartsTell, NewsTell}
-use Rattle.connection_laws.proofs.PointNumbers.{parts_tell, news_tell}
+use Rattle.connection_laws.specs.PointNumbers.{PartsShow, NewsShow}
+use Rattle.connection_laws.proofs.PointNumbers.{parts_show, news_show}
 use Rattle.connection_laws.proofs.Together.{turns_together}
 use Rattle.endpoint_laws.proofs.EndingLaw.{flushed_name}
 use Rattle.wrapped_conn.specs.ConnState.{ConnState}
@@ -41,12 +41,12 @@ use Rattle.wrapped_conn.specs.Numbers.{una_units, logged_units, resets, needs_ac
 use Rattle.wrapped_conn.specs.Arrival.{arrived, reached, noted, stamped, before_segment}
 use Rattle.wrapped_conn.specs.Output.{is_ack_pending, is_delayed, tcp_out, leaves, turn_ended}
 use Rattle.wrapped_conn.specs.LoggerMessages.{copies, spelled}
-use Rattle.wrapped_conn.specs.Turn.{CompletesTurn, Rests, TellsDone, Receives, served, tcp_used, new_reads}
+use Rattle.wrapped_conn.specs.Turn.{CompletesTurn, Rests, ReportsDone, Receives, served, tcp_used, new_reads}
 use Rattle.wrapped_conn.specs.Sound.{IsSound}
-use Rattle.wrapped_conn.specs.Refinement.{Keeps, TcpTells, StandsLive, StandsReset, Stands, Leads}
+use Rattle.wrapped_conn.specs.Refinement.{Keeps, TcpShows, StandsLive, StandsReset, Stands, Leads}
 use Rattle.wrapped_conn.proofs.Locals.{received_local}
 use Rattle.wrapped_conn.proofs.Ended.{HasNews, carries_on}
-use Rattle.wrapped_conn.proofs.NumbersAt.{NumbersAt, numbers_at, has_fin_is, una_is, news_una_is, tcp_tells, logged_is}
+use Rattle.wrapped_conn.proofs.NumbersAt.{NumbersAt, numbers_at, has_fin_is, una_is, news_una_is, tcp_shows, logged_is}
 use Rattle.wrapped_conn.proofs.Owing.{ack_pending_same, due_where_closed, needs_ack_is}
 use Rattle.wrapped_conn.proofs.Waits.{delayed_is}
 use Rattle.wrapped_conn.proofs.Copies.{copies_is}
@@ -88,17 +88,17 @@ unfolding timely_by_law accepts
 timely_is delta p segment = refl
 
 has_come : {S : Type 0} (service : Machine S) (p : Point) (c : ConnState S) (segment : Segment) → Keeps p c → StandsLive service p c → p.reset ≡ false
-    → NewsTell c.south.delta (Comes segment) p c.north (tcp_reached segment p c) → c.north.run.made ≤ 2 ^ 24 → HasNews (Comes segment) p (come segment p c)
+    → NewsShow c.south.delta (Comes segment) p c.north (tcp_reached segment p c) → c.north.run.made ≤ 2 ^ 24 → HasNews (Comes segment) p (come segment p c)
 unfolding answered_after
-has_come service p c segment keeps live unreset tell made =
+has_come service p c segment keeps live unreset shown made =
     let m : Tcb = tcp_reached segment p c in
     let there : ConnState _ = record (stamped segment c) { endpoint = m } in
     record {
       key = keeps.key;
       south = λ j. record (keeps.south j) {
-        taken = ((λ k. max (keeps.fetched k) c.north.read + length m.receiving.unread) ∙ sym tell.taken) j;
-        fin = (has_fin_is m.name ∙ sym tell.fin) j;
-        una = news_una_is (Comes segment) p there tell (ap (λ (s : SouthState). s.sisn) keeps.south) made j;
+        taken = ((λ k. max (keeps.fetched k) c.north.read + length m.receiving.unread) ∙ sym shown.taken) j;
+        fin = (has_fin_is m.name ∙ sym shown.fin) j;
+        una = news_una_is (Comes segment) p there shown (ap (λ (s : SouthState). s.sisn) keeps.south) made j;
         timestamping =
             ((λ k. echo_after (keeps.south k).timestamping (is_timely (keeps.south k) segment) segment.head.timestamps)
             ∙ ap (λ b. echo_after p.timestamping b segment.head.timestamps) (timely_is c.south.delta p segment)) j;
@@ -142,13 +142,13 @@ live_turn service p c new segment out messages sound sound_new keeps live unrese
     let reads : List ReadRecord = new_reads there new in
     let t : Tcb = tcp_used there reads in
     let stand = live.parts.stand in
-    let told_before : PartsTell service c.south.delta p c.north c.endpoint = parts_tell service live.u live.i c.south.delta live.given p c.north c.endpoint stand in
-    let told : NewsTell c.south.delta news p c.north (tcp_reached segment p c) = news_tell service live.u live.i c.south.delta live.given news p c.north c.endpoint stand fits off in
+    let reported_before : PartsShow service c.south.delta p c.north c.endpoint = parts_show service live.u live.i c.south.delta live.given p c.north c.endpoint stand in
+    let reported : NewsShow c.south.delta news p c.north (tcp_reached segment p c) = news_show service live.u live.i c.south.delta live.given news p c.north c.endpoint stand fits off in
     let made : c.north.run.made ≤ 2 ^ 24 = sound.parts.made in
     let sisn : c.south.sisn ≡ p.sisn = ap (λ (s : SouthState). s.sisn) keeps.south in
     let cisn : c.south.cisn ≡ p.cisn = ap (λ (s : SouthState). s.cisn) keeps.south in
-    let h : HasNews news p there = has_come service p c segment keeps live unreset told made in
-    let una : una_units there ≡ acknowledged_after news p = news_una_is news p (record (stamped segment c) { endpoint = tcp_reached segment p c }) told sisn made in
+    let h : HasNews news p there = has_come service p c segment keeps live unreset reported made in
+    let una : una_units there ≡ acknowledged_after news p = news_una_is news p (record (stamped segment c) { endpoint = tcp_reached segment p c }) reported sisn made in
     let turns : NorthTurns service.after tcp_reader tcp_writer (acknowledged_after news p) c.north (tcp_reached segment p c) reads new.north t =
     subst (λ n. NorthTurns service.after tcp_reader tcp_writer n c.north (tcp_reached segment p c) reads new.north t) una k.north in
     let turn : PartsTurn service c.endpoint.local c.boot live.u live.i c.south.delta news p (lengths_of reads) new.north t =
@@ -156,7 +156,7 @@ live_turn service p c new segment out messages sound sound_new keeps live unrese
     let here : PartsTurn service c.local c.boot live.u live.i c.south.delta news p (lengths_of reads) new.north t =
     subst (λ a. PartsTurn service a c.boot live.u live.i c.south.delta news p (lengths_of reads) new.north t) live.local turn in
     let q : Point = here.after in
-    let numbers : NumbersAt service p c = numbers_at service c.south.delta p c told_before keeps.fetched stand.north.read in
+    let numbers : NumbersAt service p c = numbers_at service c.south.delta p c reported_before keeps.fetched stand.north.read in
     let answered : q.answered ≡ p.answered = here.goes.answered in
     let key : there.key ≡ q.key = keeps.key ∙ sym here.goes.same.key in
     let copy : copies (before_segment c segment) segment there ≡ copies_by_law news p q =
@@ -168,37 +168,37 @@ live_turn service p c new segment out messages sound sound_new keeps live unrese
       key = key;
       taken_before = numbers.bytes;
       fin_before = numbers.fin;
-      una_before = una_is service p c told_before sisn made;
+      una_before = una_is service p c reported_before sisn made;
       una = una ∙ sym here.goes.una;
       answered = logged_is c sound.answered ∙ ap (λ (s : SouthState). s.answered) keeps.south ∙ sym answered;
       bytes = ap (λ (s : SouthState). s.taken) h.south ∙ ap length (sym here.goes.taken);
       fin = ap (λ (s : SouthState). s.fin) h.south ∙ sym here.goes.fin;
-      unread = (λ j. drop (max (keeps.fetched j) c.north.read) (here.goes.taken j)) ∙ told.unread;
+      unread = (λ j. drop (max (keeps.fetched j) c.north.read) (here.goes.taken j)) ∙ reported.unread;
       behind = omega arith;
       batches = keeps.batches ∙ sym here.goes.same.batches;
     }) in
-    let ack_pending : PartsTell service c.south.delta q new.north (flushed t) → is_ack_pending (before_segment c segment) (turn_ended (served new.north reads there)) ≡ adds service news p q t = λ tell.
+    let ack_pending : PartsShow service c.south.delta q new.north (flushed t) → is_ack_pending (before_segment c segment) (turn_ended (served new.north reads there)) ≡ adds service news p q t = λ shown.
     ack_pending_is service p q t c (turn_ended (served new.north reads there)) segment numbers
-    (numbers_at service c.south.delta q (turn_ended (served new.north reads there)) tell (keeps.fetched ∙ sym here.goes.same.fetched) here.rest.stand.north.read) keeps.south (flushed_name t) answered here.closed in
+    (numbers_at service c.south.delta q (turn_ended (served new.north reads there)) shown (keeps.fetched ∙ sym here.goes.same.fetched) here.rest.stand.north.read) keeps.south (flushed_name t) answered here.closed in
     let logged : logged_units c ≡ p.answered = logged_is c sound.answered ∙ ap (λ (s : SouthState). s.answered) keeps.south in
-    let waits : PartsTell service c.south.delta q new.north (flushed t) → is_delayed (before_segment c segment) (served new.north reads there) ≡ is_delayed_by_law news p q = λ tell.
+    let waits : PartsShow service c.south.delta q new.north (flushed t) → is_delayed (before_segment c segment) (served new.north reads there) ≡ is_delayed_by_law news p q = λ shown.
     delayed_is service live.u live.i c.south.delta p q c (served new.north reads there) segment keeps.delays numbers
-    (numbers_at service c.south.delta q (turn_ended (served new.north reads there)) tell (keeps.fetched ∙ sym here.goes.same.fetched) here.rest.stand.north.read) logged (logged ∙ sym answered)
+    (numbers_at service c.south.delta q (turn_ended (served new.north reads there)) shown (keeps.fetched ∙ sym here.goes.same.fetched) here.rest.stand.north.read) logged (logged ∙ sym answered)
     here.rest.stand.tcp in
     let goes_out = subst (λ (n : ConnState _). out ≡ packets (leaves (before_segment c segment) (repeats_syn c.south segment) n
     (tcp_out (before_segment c segment) (served new.north reads there)))) k.state k.goes_out in
     let leads : Leads service c.local c.boot news p (turn_ended (served new.north reads there)) out messages =
     carries_on service live.u live.i news p there new.north reads (before_segment c segment) (repeats_syn c.south segment) (copies (before_segment c segment) segment there) out messages h refl off sound_new.parts.made here
-    there.north.reads k.north.told ack_pending waits (λ j. repeats_syn (keeps.south j) segment) copy goes_out k.told in
+    there.north.reads k.north.reported ack_pending waits (λ j. repeats_syn (keeps.south j) segment) copy goes_out k.reported in
     subst (λ n. Leads service c.local c.boot news p n out messages) (sym k.state) leads
 
 -- one that resets it
 reset_turn : {S : Type 0} (service : Machine S) (p : Point) (c new : ConnState S) (segment : Segment) (out messages : List (List ℕ)) → IsSound c → Keeps p c → StandsLive service p c → p.reset ≡ false
-    → reset_after (Comes segment) p ≡ true → TellsDone (record c { reset = true }) new out messages → Leads service c.local c.boot (Comes segment) p new out messages
+    → reset_after (Comes segment) p ≡ true → ReportsDone (record c { reset = true }) new out messages → Leads service c.local c.boot (Comes segment) p new out messages
 unfolding answered_after dones_by_law
 reset_turn service p c new segment out messages sound keeps live unreset resets k =
-    let tell : PartsTell service c.south.delta p c.north c.endpoint = parts_tell service live.u live.i c.south.delta live.given p c.north c.endpoint live.parts.stand in
-    let told : TcpTells p c = tcp_tells service p c tell keeps.fetched live.parts.stand.north.read (ap (λ (s : SouthState). s.sisn) keeps.south) sound.parts.made in
+    let shown : PartsShow service c.south.delta p c.north c.endpoint = parts_show service live.u live.i c.south.delta live.given p c.north c.endpoint live.parts.stand in
+    let reported : TcpShows p c = tcp_shows service p c shown keeps.fetched live.parts.stand.north.read (ap (λ (s : SouthState). s.sisn) keeps.south) sound.parts.made in
     resets_on service c.local c.boot live.given (Comes segment) p c.north new out messages resets live.parts.stand.north (ap (λ (n : ConnState _). n.north) k.state)
     (subst (Keeps (reset_point (Comes segment) p)) (sym k.state)
     (record {
@@ -212,9 +212,9 @@ reset_turn service p c new segment out messages sound keeps live unreset resets 
       delays = keeps.delays;
       batches = keeps.batches;
     }))
-    (subst (TcpTells (reset_point (Comes segment) p)) (sym k.state) (record { taken = told.taken; una = told.una; sent = told.sent }))
+    (subst (TcpShows (reset_point (Comes segment) p)) (sym k.state) (record { taken = reported.taken; una = reported.una; sent = reported.sent }))
     k.goes_out
-    (k.told ∙ ap₂ (λ b xs. spelled b c.boot xs) keeps.batches (dones_are (record c { reset = true }) keeps.unanswered ∙ (λ j. DoneMsg (keeps.key j) ∷ []) ∙ sym (λ j. if (true && not (unreset j)) || (false && (true || p.end_ticks == 4)) then DoneMsg p.key ∷ [] else [])))
+    (k.reported ∙ ap₂ (λ b xs. spelled b c.boot xs) keeps.batches (dones_are (record c { reset = true }) keeps.unanswered ∙ (λ j. DoneMsg (keeps.key j) ∷ []) ∙ sym (λ j. if (true && not (unreset j)) || (false && (true || p.end_ticks == 4)) then DoneMsg p.key ∷ [] else [])))
 
 -- and one that comes after that
 rests_turn : {S : Type 0} (service : Machine S) (p : Point) (c new : ConnState S) (segment : Segment) (out messages : List (List ℕ)) → Keeps p c → StandsReset service p c → p.reset ≡ true
@@ -235,9 +235,9 @@ rests_turn service p c new segment out messages keeps stands is_reset k =
       delays = keeps.delays;
       batches = keeps.batches;
     }))
-    (subst (TcpTells (reset_point (Comes segment) p)) (sym k.state) (record { taken = stands.told.taken; una = stands.told.una; sent = stands.told.sent }))
+    (subst (TcpShows (reset_point (Comes segment) p)) (sym k.state) (record { taken = stands.reported.taken; una = stands.reported.una; sent = stands.reported.sent }))
     k.goes_out
-    (k.told ∙ ap₂ (λ b xs. spelled b c.boot xs) keeps.batches (sym (λ j. if (true && not (is_reset j)) || (false && (true || p.end_ticks == 4)) then DoneMsg p.key ∷ [] else [])))
+    (k.reported ∙ ap₂ (λ b xs. spelled b c.boot xs) keeps.batches (sym (λ j. if (true && not (is_reset j)) || (false && (true || p.end_ticks == 4)) then DoneMsg p.key ∷ [] else [])))
 
 pub parts_live : {S : Type 0} (service : Machine S) (c : ConnState S) (p : Point) → Stands service c p → p.reset ≡ false → StandsLive service p c
 parts_live service c p st off = subst (λ b. MatchBool b (StandsReset service p c) (StandsLive service p c)) off st.parts
@@ -256,21 +256,21 @@ receives service p c new segment out messages sound sound_new st fits r =
     by_cases c.reset
     (λ on. let off_p : p.reset ≡ true = sym keeps.reset ∙ on in rests_turn service p c new segment out messages keeps (parts_reset service c p st off_p) off_p
     (subst (λ b. MatchBool b (Rests c new out messages)
-    (MatchBool (resets c segment) (TellsDone (record c { reset = true }) new out messages)
+    (MatchBool (resets c segment) (ReportsDone (record c { reset = true }) new out messages)
     (CompletesTurn service.after (before_segment c segment) (repeats_syn c.south segment) (copies (before_segment c segment) segment (arrived segment c)) (arrived segment c) new out messages))) on r))
     (λ off. let unreset : p.reset ≡ false = sym keeps.reset ∙ off in
     let live : StandsLive service p c = parts_live service c p st unreset in
-    let tell : PartsTell service c.south.delta p c.north c.endpoint = parts_tell service live.u live.i c.south.delta live.given p c.north c.endpoint live.parts.stand in
-    let numbers : NumbersAt service p c = numbers_at service c.south.delta p c tell keeps.fetched live.parts.stand.north.read in
+    let shown : PartsShow service c.south.delta p c.north c.endpoint = parts_show service live.u live.i c.south.delta live.given p c.north c.endpoint live.parts.stand in
+    let numbers : NumbersAt service p c = numbers_at service c.south.delta p c shown keeps.fetched live.parts.stand.north.read in
     let same : reset_after (Comes segment) p ≡ resets c segment = reset_is service p c segment numbers (ap (λ (s : SouthState). s.cisn) keeps.south) unreset in
     let later = subst (λ b. MatchBool b (Rests c new out messages)
-    (MatchBool (resets c segment) (TellsDone (record c { reset = true }) new out messages)
+    (MatchBool (resets c segment) (ReportsDone (record c { reset = true }) new out messages)
     (CompletesTurn service.after (before_segment c segment) (repeats_syn c.south segment) (copies (before_segment c segment) segment (arrived segment c)) (arrived segment c) new out messages))) off r in
     by_cases (resets c segment)
     (λ on. reset_turn service p c new segment out messages sound keeps live unreset (same ∙ on)
-    (subst (λ b. MatchBool b (TellsDone (record c { reset = true }) new out messages)
+    (subst (λ b. MatchBool b (ReportsDone (record c { reset = true }) new out messages)
     (CompletesTurn service.after (before_segment c segment) (repeats_syn c.south segment) (copies (before_segment c segment) segment (arrived segment c)) (arrived segment c) new out messages)) on later))
     (λ none. live_turn service p c new segment out messages sound sound_new keeps live unreset (same ∙ none) fits
     (subst (λ x. CompletesTurn service.after (before_segment c segment) (repeats_syn c.south segment) (copies (before_segment c segment) segment x) x new out messages) (come_is segment p c keeps.south)
-    (subst (λ b. MatchBool b (TellsDone (record c { reset = true }) new out messages)
+    (subst (λ b. MatchBool b (ReportsDone (record c { reset = true }) new out messages)
     (CompletesTurn service.after (before_segment c segment) (repeats_syn c.south segment) (copies (before_segment c segment) segment (arrived segment c)) (arrived segment c) new out messages)) none later))))

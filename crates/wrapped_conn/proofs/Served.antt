@@ -15,10 +15,10 @@ use Rattle.wrapped_conn.specs.ConnState.{ConnState}
 use Rattle.wrapped_conn.specs.Numbers.{una_units}
 use Rattle.connection_laws.specs.OutputFeed.{tcp_reader, tcp_writer}
 use Rattle.wrapped_conn.specs.Calls.{reads_of, calls_of}
-use Rattle.wrapped_conn.specs.LoggerMessages.{AreTellable}
+use Rattle.wrapped_conn.specs.LoggerMessages.{AreWritable}
 use Rattle.wrapped_conn.specs.Turn.{tcp_used, served}
 use Rattle.wrapped_conn.specs.Sound.{IsSound, LeavesRoom, swallowed}
-use Rattle.wrapped_conn.proofs.NorthSoundness.{ServedOn, turn_serves, news_tellable}
+use Rattle.wrapped_conn.proofs.NorthSoundness.{ServedOn, turn_serves, news_writable}
 
 -- the endpoint after a turn of the north wrapper is that after its calls
 used_reads : (e : Tcb) (ks : List ℕ) → read_off after_read e ks ≡ used (reads_of ks) e
@@ -46,9 +46,9 @@ pub read_rises : {S : Type 0} (after : S → List ℕ → Served S) → IsShortS
     → Turns after tcp_reader tcp_writer una c.north c.endpoint news m t → c.south.read ≤ m.read
 read_rises after short c una news m t s turn = omega (arith, s.read, (serves after short c una news m t s turn).rises)
 
-pub news_are_tellable : {S : Type 0} (after : S → List ℕ → Served S) → IsShortService after → (c : ConnState S) (una : ℕ) (news : List ReadRecord) (m : NorthState S) (t : Tcb) → IsSound c
-    → Turns after tcp_reader tcp_writer una c.north c.endpoint news m t → AreTellable news
-news_are_tellable after short c una news m t s turn = news_tellable c.north.reads news m.reads turn.told (serves after short c una news m t s turn).sound.tellable
+pub news_are_writable : {S : Type 0} (after : S → List ℕ → Served S) → IsShortService after → (c : ConnState S) (una : ℕ) (news : List ReadRecord) (m : NorthState S) (t : Tcb) → IsSound c
+    → Turns after tcp_reader tcp_writer una c.north c.endpoint news m t → AreWritable news
+news_are_writable after short c una news m t s turn = news_writable c.north.reads news m.reads turn.reported (serves after short c una news m t s turn).sound.writable
 
 pub served_state : {S : Type 0} (after : S → List ℕ → Served S) (c : ConnState S) (una : ℕ) (news : List ReadRecord) (m : NorthState S) (t : Tcb) (south : SouthState)
     → Turns after tcp_reader tcp_writer una c.north c.endpoint news m t → south ≡ record c.south { read = m.read }

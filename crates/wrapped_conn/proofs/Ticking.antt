@@ -11,14 +11,14 @@ use Rattle.ft_model.specs.Copy.{copies as copies_by_law}
 use Rattle.ft_model.specs.ResetAndEnd.{reset_after, end_ticks_after, dones as dones_by_law}
 use Rattle.ft_model.specs.News.News.{Ticks}
 use Rattle.ft_model.specs.Point.{Point, taken_units, acknowledgement, is_over as is_over_by_law}
-use Rattle.ft_model.specs.Reads.{reads_told, read_messages}
+use Rattle.ft_model.specs.Reads.{reads_reported, read_messages}
 use Rattle.ft_model.specs.PendingAck.{is_delayed}
 use Rattle.ft_model.specs.Segments as segments
 use Rattle.ft_model.specs.Segments.{segments_of, bare_segment}
 use Rattle.ft_model.specs.Sending.{acknowledged_after}
 use Rattle.ft_model.specs.Taken.{taken_after, fin_after}
 use Rattle.north_wrap.specs.Refinement.{NorthStands, messages_of}
-use Rattle.north_wrap.proofs.ReadSequence.{told_reads}
+use Rattle.north_wrap.proofs.ReadSequence.{reported_reads}
 use Rattle.south_wrap.specs.SouthState.{SouthState}
 use Rattle.south_wrap.specs.SouthPoint.{south_at}
 use Rattle.tcp_endpoint.specs.Output.{full_out, leaving, flushed, packets}
@@ -27,16 +27,16 @@ use Rattle.tcp_endpoint.specs.UserCalls.{after_tick, waited, timer_ticked}
 use Rattle.connection_laws.specs.Traffic.{tcp_out}
 use Rattle.connection_laws.specs.Parts.{PartsTurn, adds, leaves_with}
 use Rattle.connection_laws.proofs.Delaying.{waits_segment}
-use Rattle.connection_laws.specs.PointNumbers.{PartsTell}
-use Rattle.connection_laws.proofs.PointNumbers.{parts_tell}
+use Rattle.connection_laws.specs.PointNumbers.{PartsShow}
+use Rattle.connection_laws.proofs.PointNumbers.{parts_show}
 use Rattle.connection_laws.proofs.Together.{ticks_together, ticks_add_nothing}
 use Rattle.wrapped_conn.specs.ConnState.{ConnState}
 use Rattle.wrapped_conn.specs.Numbers.{logged_units, sent_units, outer_sent}
 use Rattle.wrapped_conn.specs.Output.{passed, with_endpoint_flushed}
 use Rattle.wrapped_conn.specs.LoggerMessages.{is_done, dones, spelled, with_done}
-use Rattle.wrapped_conn.specs.Turn.{ticked, is_end_tick, counted, TicksLive, TellsDone, Ticks as TicksOn}
+use Rattle.wrapped_conn.specs.Turn.{ticked, is_end_tick, counted, TicksLive, ReportsDone, Ticks as TicksOn}
 use Rattle.wrapped_conn.specs.Sound.{IsSound}
-use Rattle.wrapped_conn.specs.Refinement.{Keeps, TcpTells, StandsLive, StandsReset, Stands, Leads}
+use Rattle.wrapped_conn.specs.Refinement.{Keeps, TcpShows, StandsLive, StandsReset, Stands, Leads}
 use Rattle.wrapped_conn.proofs.Locals.{flushed_local}
 use Rattle.wrapped_conn.proofs.Ended.{units_of, few_units, spelled_by}
 use Rattle.wrapped_conn.proofs.NumbersAt.{NumbersAt, numbers_at, logged_is}
@@ -47,13 +47,13 @@ use Rattle.ft_io.proofs.Choices.{by_cases}
 
 -- the south wrapper after the tick
 south_ends : {S : Type 0} (service : Machine S) (p q : Point) (c : ConnState S) → Keeps p c → LiveTurn service c.local c.boot Ticks p q (sent_by service c.local c.boot Ticks p q)
-    → q.lengths ≡ p.lengths ++ [] → PartsTell service c.south.delta q c.north (flushed (after_tick c.endpoint)) → c.north.run.made ≤ 2 ^ 24
+    → q.lengths ≡ p.lengths ++ [] → PartsShow service c.south.delta q c.north (flushed (after_tick c.endpoint)) → c.north.run.made ≤ 2 ^ 24
     → (ticked c).south ≡ south_at c.south.delta q
 unfolding answered_after taken_after fin_after acknowledged_after
-south_ends service p q c keeps l lengths tell few =
+south_ends service p q c keeps l lengths shown few =
     let sisn : c.south.sisn ≡ q.sisn = ap (λ (s : SouthState). s.sisn) keeps.south ∙ sym l.same.sisn in
     let flushed_now : ConnState _ = with_endpoint_flushed (record c { endpoint = after_tick c.endpoint }) in
-    let units : sent_units flushed_now ≡ q.sent = units_of q.sisn c.south.sisn q.sent (outer_sent flushed_now) tell.sent_outside sisn (few_units q.sent c.north.run.made tell.few few) in
+    let units : sent_units flushed_now ≡ q.sent = units_of q.sisn c.south.sisn q.sent (outer_sent flushed_now) shown.sent_outside sisn (few_units q.sent c.north.run.made shown.few few) in
     let cisn : c.south.cisn ≡ q.cisn = ap (λ (s : SouthState). s.cisn) keeps.south ∙ sym l.same.cisn in
     let fetched : c.south.fetched ≡ q.fetched = ap (λ (s : SouthState). s.fetched) keeps.south ∙ sym l.same.fetched in
     let fetched_output : c.south.fetched_output ≡ q.fetched_output = ap (λ (s : SouthState). s.fetched_output) keeps.south ∙ sym l.same.fetched_output in
@@ -114,15 +114,15 @@ end_ticks_are service p q x n logged same four =
     counts (is_end_tick x) x.end_ticks four ∙ (λ j. if end_tick_is service q x n logged j then min 4 (same j + 1) else same j)
 
 -- all reads that aren't known to be logged are told again, and then Done
-reads_are : {S : Type 0} (service : Machine S) (p q : Point) (c : ConnState S) (given : ℕ) → NorthStands service q given c.north → c.key ≡ q.key → messages_of c.key c.north.reads ≡ reads_told Ticks p q
-unfolding reads_told
+reads_are : {S : Type 0} (service : Machine S) (p q : Point) (c : ConnState S) (given : ℕ) → NorthStands service q given c.north → c.key ≡ q.key → messages_of c.key c.north.reads ≡ reads_reported Ticks p q
+unfolding reads_reported
 reads_are service p q c given north key =
-    (λ j. messages_of (key j) c.north.reads) ∙ told_reads q.key q.reads_answered c.north.reads north.numbered ∙ ap (read_messages q.key q.reads_answered) north.told
+    (λ j. messages_of (key j) c.north.reads) ∙ reported_reads q.key q.reads_answered c.north.reads north.numbered ∙ ap (read_messages q.key q.reads_answered) north.reported
 
-dones_told : {S : Type 0} (p q : Point) (c : ConnState S) (n : ℕ) → is_done c.stage ≡ false → c.key ≡ q.key → q.reset ≡ false → n ≡ q.end_ticks
+dones_reported : {S : Type 0} (p q : Point) (c : ConnState S) (n : ℕ) → is_done c.stage ≡ false → c.key ≡ q.key → q.reset ≡ false → n ≡ q.end_ticks
     → (if n == 4 then dones c else []) ≡ dones_by_law Ticks p q
 unfolding dones_by_law
-dones_told p q c n off key unreset same =
+dones_reported p q c n off key unreset same =
     (λ j. if same j == 4 then dones_are c off j else [])
     ∙ (λ j. if q.end_ticks == 4 then DoneMsg (key j) ∷ [] else [])
     ∙ sym (λ j. if (unreset j && not p.reset) || (true && (unreset j || q.end_ticks == 4)) then DoneMsg q.key ∷ [] else [])
@@ -160,17 +160,17 @@ live_turn service p c new out messages sound keeps live unreset tick =
     let l = k.goes in
     let x : ConnState _ = ticked c in
     let y : ConnState _ = counted x in
-    let tell : PartsTell service c.south.delta q c.north (flushed t) = parts_tell service live.u live.i c.south.delta k.given q c.north (flushed t) k.rest.stand in
+    let shown : PartsShow service c.south.delta q c.north (flushed t) = parts_show service live.u live.i c.south.delta k.given q c.north (flushed t) k.rest.stand in
     let made : c.north.run.made ≤ 2 ^ 24 = sound.parts.made in
-    let south : x.south ≡ south_at c.south.delta q = south_ends service p q c keeps l k.lengths tell made in
+    let south : x.south ≡ south_at c.south.delta q = south_ends service p q c keeps l k.lengths shown made in
     let key : c.key ≡ q.key = keeps.key ∙ sym l.same.key in
-    let numbers : NumbersAt service q x = numbers_at service c.south.delta q x tell (keeps.fetched ∙ sym l.same.fetched) k.rest.stand.north.read in
+    let numbers : NumbersAt service q x = numbers_at service c.south.delta q x shown (keeps.fetched ∙ sym l.same.fetched) k.rest.stand.north.read in
     let logged : logged_units x ≡ q.answered = logged_is x sound.answered ∙ ap (λ (s : SouthState). s.answered) south in
     let ends : y.end_ticks ≡ q.end_ticks = end_ticks_are service p q x numbers logged keeps.end_ticks keeps.four ∙ sym l.end_ticks in
     let none : adds service Ticks p q t ≡ false = ticks_add_nothing service c.local c.boot p q t _ l k.lengths in
     let leave : passed x.south (leaving t) ≡ segments_of service c.local Ticks p q = leaves_is service p q c south none ∙ k.segments in
-    let bodies : messages_of c.key c.north.reads ++ (if y.end_ticks == 4 then dones c else []) ≡ copies_by_law Ticks p q ++ (reads_told Ticks p q ++ dones_by_law Ticks p q) =
-    λ j. sym (none_of_ticks p q) j ++ (reads_are service p q c k.given k.rest.stand.north key j ++ dones_told p q c y.end_ticks keeps.unanswered key l.reset ends j) in
+    let bodies : messages_of c.key c.north.reads ++ (if y.end_ticks == 4 then dones c else []) ≡ copies_by_law Ticks p q ++ (reads_reported Ticks p q ++ dones_by_law Ticks p q) =
+    λ j. sym (none_of_ticks p q) j ++ (reads_are service p q c k.given k.rest.stand.north key j ++ dones_reported p q c y.end_ticks keeps.unanswered key l.reset ends j) in
     let keeps_on : Keeps q y = record {
       key = key;
       south = south;
@@ -192,12 +192,12 @@ live_turn service p c new out messages sound keeps live unreset tick =
         parts = subst (λ b. MatchBool b (StandsReset service q (if y.end_ticks == 4 then with_done y else y)) (StandsLive service q (if y.end_ticks == 4 then with_done y else y))) (sym l.reset)
             (live_ended service (y.end_ticks == 4) q y live_on);
       };
-      spelled = spelled_by p.batches c.boot (segments_of service c.local Ticks p q) (copies_by_law Ticks p q ++ (reads_told Ticks p q ++ dones_by_law Ticks p q)) _ out messages refl (tick.goes_out ∙ ap packets leave) (tick.told ∙ ap₂ (λ b xs. spelled b c.boot xs) keeps.batches bodies);
+      spelled = spelled_by p.batches c.boot (segments_of service c.local Ticks p q) (copies_by_law Ticks p q ++ (reads_reported Ticks p q ++ dones_by_law Ticks p q)) _ out messages refl (tick.goes_out ∙ ap packets leave) (tick.reported ∙ ap₂ (λ b xs. spelled b c.boot xs) keeps.batches bodies);
     } in
     subst (λ n. Leads service c.local c.boot Ticks p n out messages) (sym tick.state) leads
 
 reset_turn : {S : Type 0} (service : Machine S) (p : Point) (c new : ConnState S) (out messages : List (List ℕ)) → Keeps p c → StandsReset service p c → p.reset ≡ true
-    → TellsDone c new out messages → Leads service c.local c.boot Ticks p new out messages
+    → ReportsDone c new out messages → Leads service c.local c.boot Ticks p new out messages
 unfolding answered_after reset_after dones_by_law
 reset_turn service p c new out messages keeps stands is_reset k =
     resets_on service c.local c.boot stands.given Ticks p c.north new out messages is_reset stands.north (ap (λ (n : ConnState _). n.north) k.state)
@@ -213,15 +213,15 @@ reset_turn service p c new out messages keeps stands is_reset k =
       delays = keeps.delays;
       batches = keeps.batches;
     }))
-    (subst (TcpTells (reset_point Ticks p)) (sym k.state) (record { taken = stands.told.taken; una = stands.told.una; sent = stands.told.sent }))
+    (subst (TcpShows (reset_point Ticks p)) (sym k.state) (record { taken = stands.reported.taken; una = stands.reported.una; sent = stands.reported.sent }))
     k.goes_out
-    (k.told ∙ ap₂ (λ b xs. spelled b c.boot xs) keeps.batches (dones_are c keeps.unanswered ∙ (λ j. DoneMsg (keeps.key j) ∷ []) ∙ sym (λ j. if (true && not (is_reset j)) || (true && (true || p.end_ticks == 4)) then DoneMsg p.key ∷ [] else [])))
+    (k.reported ∙ ap₂ (λ b xs. spelled b c.boot xs) keeps.batches (dones_are c keeps.unanswered ∙ (λ j. DoneMsg (keeps.key j) ∷ []) ∙ sym (λ j. if (true && not (is_reset j)) || (true && (true || p.end_ticks == 4)) then DoneMsg p.key ∷ [] else [])))
 
 pub ticks : {S : Type 0} (service : Machine S) (p : Point) (c new : ConnState S) (out messages : List (List ℕ)) → IsSound c → Stands service c p
     → TicksOn c new out messages → Leads service c.local c.boot Ticks p new out messages
 ticks service p c new out messages sound st r =
     by_cases c.reset
     (λ on. let is_reset : p.reset ≡ true = sym st.keeps.reset ∙ on in reset_turn service p c new out messages st.keeps (parts_reset service c p st is_reset) is_reset
-    (subst (λ b. MatchBool b (TellsDone c new out messages) (TicksLive c new out messages)) on r))
+    (subst (λ b. MatchBool b (ReportsDone c new out messages) (TicksLive c new out messages)) on r))
     (λ off. let unreset : p.reset ≡ false = sym st.keeps.reset ∙ off in live_turn service p c new out messages sound st.keeps (parts_live service c p st unreset) unreset
-    (subst (λ b. MatchBool b (TellsDone c new out messages) (TicksLive c new out messages)) off r))
+    (subst (λ b. MatchBool b (ReportsDone c new out messages) (TicksLive c new out messages)) off r))

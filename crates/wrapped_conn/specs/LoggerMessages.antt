@@ -88,12 +88,12 @@ unfoldable pub copies : {S : Type 0} → Before → Segment → ConnState S → 
 copies before segment c = in_batch c.batches (or_una before.una c (own_data segment c ++ further_data before segment c))
 
 -- a read whose numbers a message can hold
-pub record IsTellable (read : ReadRecord) : Type 0 where
+pub record IsWritable (read : ReadRecord) : Type 0 where
   pub index : read.index ≤ most_units
   pub length : read.length ≤ 2048
 
-abbrev pub AreTellable : List ReadRecord → Type 0
-AreTellable reads = AllByRecursion IsTellable reads
+abbrev pub AreWritable : List ReadRecord → Type 0
+AreWritable reads = AllByRecursion IsWritable reads
 
 -- Done is sent, unless Ended has arrived
 abbrev pub is_done : ConnStage → Bool

@@ -19,6 +19,6 @@ abbrev pub quiet_at : {S : Type 0} → Machine S → Point → Quiet
 quiet_at service p = record { reads = length p.lengths; length = bytes_read p; made = made service p }
 
 -- they are returned where the point is quiet, and only there
-pub record TellsQuiet {S : Type 0} (service : Machine S) (p : Point) (told : Option Quiet) : Type 0 where
-  pub there : IsQuiet service p → told ≡ Some (quiet_at service p)
-  pub only_there : (quiet : Quiet) → told ≡ Some quiet → IsQuiet service p
+pub record ReportsQuiet {S : Type 0} (service : Machine S) (p : Point) (reported : Option Quiet) : Type 0 where
+  pub there : IsQuiet service p → reported ≡ Some (quiet_at service p)
+  pub only_there : (quiet : Quiet) → reported ≡ Some quiet → IsQuiet service p

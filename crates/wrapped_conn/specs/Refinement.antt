@@ -40,14 +40,14 @@ pub record StandsLive {S : Type 0} (service : Machine S) (p : Point) (c : ConnSt
   pub local : c.endpoint.local ≡ c.local
 
 -- the numbers of the point that its TCP shows ..
-pub record TcpTells {S : Type 0} (p : Point) (c : ConnState S) : Type 0 where
+pub record TcpShows {S : Type 0} (p : Point) (c : ConnState S) : Type 0 where
   pub taken : units_taken c ≡ taken_units p
   pub una : una_units c ≡ p.una
   pub sent : sent_units c ≡ p.sent
 
 -- .. and all that can be read from outside
-pub record Tells {S : Type 0} (p : Point) (c : ConnState S) : Type 0 where
-  pub tcp : TcpTells p c
+pub record Reports {S : Type 0} (p : Point) (c : ConnState S) : Type 0 where
+  pub tcp : TcpShows p c
   pub answered : logged_units c ≡ p.answered
   pub read : c.north.read ≡ bytes_read p
   pub reads : c.north.count ≡ length p.lengths
@@ -56,7 +56,7 @@ pub record Tells {S : Type 0} (p : Point) (c : ConnState S) : Type 0 where
 pub record StandsReset {S : Type 0} (service : Machine S) (p : Point) (c : ConnState S) : Type 0 where
   pub given : ℕ
   pub north : NorthStands service p given c.north
-  pub told : TcpTells p c
+  pub reported : TcpShows p c
 
 -- between two turns
 pub record Stands {S : Type 0} (service : Machine S) (c : ConnState S) (p : Point) : Type 0 where

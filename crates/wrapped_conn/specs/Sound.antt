@@ -13,7 +13,7 @@ use Rattle.tcp_endpoint.specs.Tcb.{Tcb}
 use Rattle.endpoint_laws.specs.Laws.{IsBounded}
 use Rattle.wrapped_conn.specs.ConnState.{ConnState}
 use Rattle.wrapped_conn.specs.Numbers.{bytes_taken}
-use Rattle.wrapped_conn.specs.LoggerMessages.{AreTellable}
+use Rattle.wrapped_conn.specs.LoggerMessages.{AreWritable}
 
 -- the states of an endpoint that has received a SYN
 abbrev pub has_peer : StateName → Bool
@@ -38,7 +38,7 @@ pub record AreSound {S : Type 0} (fetched : ℕ) (n : NorthState S) (e : Tcb) : 
   pub made : n.run.made ≤ longest_stream
   pub written : e.sending.closed ≡ false → e.sending.una + length e.sending.held + length n.run.pending ≤ n.run.made
   pub count : n.count ≤ n.read + one_if n.ended
-  pub tellable : AreTellable n.reads
+  pub writable : AreWritable n.reads
 
 -- whether segments may carry timestamps, and the value that they echo; 0 where none is
 abbrev pub may_stamp : Timestamping → Bool

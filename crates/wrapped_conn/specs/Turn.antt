@@ -44,19 +44,19 @@ pub record CompletesTurn {S : Type 0} (after : S → List ℕ
   pub north : Turns after tcp_reader tcp_writer (una_units old) old.north old.endpoint (new_reads old new) new.north (tcp_used old (new_reads old new))
   pub state : new ≡ turn_ended (served new.north (new_reads old new) old)
   pub goes_out : segments ≡ packets (leaves before repeats new (tcp_out before (served new.north (new_reads old new) old)))
-  pub told : messages ≡ spelled old.batches old.boot (copied ++ messages_of old.key (new_reads old new))
+  pub reported : messages ≡ spelled old.batches old.boot (copied ++ messages_of old.key (new_reads old new))
 
 -- a connection that stays as it was and sends nothing
 pub record Rests {S : Type 0} (old new : ConnState S) (segments messages : List (List ℕ)) : Type 0 where
   pub state : new ≡ old
   pub goes_out : segments ≡ []
-  pub told : messages ≡ []
+  pub reported : messages ≡ []
 
 -- one that has ended reports that, and nothing else
-pub record TellsDone {S : Type 0} (old new : ConnState S) (segments messages : List (List ℕ)) : Type 0 where
+pub record ReportsDone {S : Type 0} (old new : ConnState S) (segments messages : List (List ℕ)) : Type 0 where
   pub state : new ≡ with_done old
   pub goes_out : segments ≡ []
-  pub told : messages ≡ spelled old.batches old.boot (dones old)
+  pub reported : messages ≡ spelled old.batches old.boot (dones old)
 
 -- a connection becomes live
 abbrev pub Starts : {S : Type 0} → (S → List ℕ → Served S) → (old new : ConnState S) → (segments messages : List (List ℕ)) → Type 0
@@ -66,7 +66,7 @@ Starts after old new segments messages = CompletesTurn after (before_other true 
 abbrev pub Receives : {S : Type 0} → (S → List ℕ → Served S) → Segment → (old new : ConnState S) → (segments messages : List (List ℕ)) → Type 0
 Receives after segment old new segments messages =
     MatchBool old.reset (Rests old new segments messages)
-    (MatchBool (resets old segment) (TellsDone (record old { reset = true }) new segments messages)
+    (MatchBool (resets old segment) (ReportsDone (record old { reset = true }) new segments messages)
     (CompletesTurn after (before_segment old segment) (repeats_syn old.south segment) (copies (before_segment old segment) segment (arrived segment old))
     (arrived segment old) new segments messages))
 
@@ -77,19 +77,19 @@ with_logged length fin reads c = record c { south = with_stable (length + one_if
 abbrev pub is_news : {S : Type 0} → (length : ℕ) → (fin : Bool) → ConnState S → Bool
 is_news length fin c = nat_lt c.south.answered (length + one_if fin)
 
-abbrev pub Hears : {S : Type 0} → (S → List ℕ → Served S) → (length : ℕ) → (fin : Bool) → (reads : ℕ) → (old new : ConnState S)
+abbrev pub OnReceipt : {S : Type 0} → (S → List ℕ → Served S) → (length : ℕ) → (fin : Bool) → (reads : ℕ) → (old new : ConnState S)
     → (segments messages : List (List ℕ)) → Type 0
-Hears after length fin reads old new segments messages =
+OnReceipt after length fin reads old new segments messages =
     MatchBool old.reset (Rests (with_logged length fin reads old) new segments messages)
     (CompletesTurn after (before_other (is_news length fin old) (with_logged length fin reads old)) false []
     (with_logged length fin reads old) new segments messages)
 
 -- a message arrives
-abbrev pub IsTold : {S : Type 0} → (S → List ℕ → Served S) → Said → (old new : ConnState S) → (segments messages : List (List ℕ)) → Type 0
-IsTold after (Stable kept) old new segments messages = Hears after kept.length kept.fin kept.reads old new segments messages
-IsTold after (Reads kept) old new segments messages = Hears after kept.length kept.fin kept.reads old new segments messages
-IsTold after (Ended key) old new segments messages = Rests (record old { stage = Done }) new segments messages
-IsTold after other old new segments messages = Rests old new segments messages
+abbrev pub IsReported : {S : Type 0} → (S → List ℕ → Served S) → Said → (old new : ConnState S) → (segments messages : List (List ℕ)) → Type 0
+IsReported after (Stable kept) old new segments messages = OnReceipt after kept.length kept.fin kept.reads old new segments messages
+IsReported after (Reads kept) old new segments messages = OnReceipt after kept.length kept.fin kept.reads old new segments messages
+IsReported after (Ended key) old new segments messages = Rests (record old { stage = Done }) new segments messages
+IsReported after other old new segments messages = Rests old new segments messages
 
 -- a tick passes for TCP ..
 abbrev pub ticked : {S : Type 0} → ConnState S → ConnState S
@@ -107,7 +107,7 @@ counted c = record c { end_ticks = if is_end_tick c && nat_lt c.end_ticks 4 then
 pub record TicksLive {S : Type 0} (old new : ConnState S) (segments messages : List (List ℕ)) : Type 0 where
   pub state : new ≡ (if (counted (ticked old)).end_ticks == 4 then with_done (counted (ticked old)) else counted (ticked old))
   pub goes_out : segments ≡ packets (passed (ticked old).south (leaving (after_tick old.endpoint)))
-  pub told : messages ≡ spelled old.batches old.boot (messages_of old.key old.north.reads ++ (if (counted (ticked old)).end_ticks == 4 then dones old else []))
+  pub reported : messages ≡ spelled old.batches old.boot (messages_of old.key old.north.reads ++ (if (counted (ticked old)).end_ticks == 4 then dones old else []))
 
 abbrev pub Ticks : {S : Type 0} → (old new : ConnState S) → (segments messages : List (List ℕ)) → Type 0
-Ticks old new segments messages = MatchBool old.reset (TellsDone old new segments messages) (TicksLive old new segments messages)
+Ticks old new segments messages = MatchBool old.reset (ReportsDone old new segments messages) (TicksLive old new segments messages)

@@ -4,7 +4,7 @@ ghost use Rattle.limits.specs.Limits.{largest_segment, longest_stream};
 ghost use Rattle.std.specs.Prelude.{◌≡◌, ◌≤◌, ◌+◌, ◌-◌, ◌*◌, ◌^◌, ◌∷◌, ◌++◌, [], true, false, Bool, List, min, length};
 ghost use Rattle.std.specs.Prelude.{◌&&◌, take, drop, map, is_some, IsOk, IfOk, IfSome};
 ghost use Rattle.seq_arith.specs.PacketGrammar.{reading};
-ghost use Rattle.seq_arith.specs.Message.{Body as Told};
+ghost use Rattle.seq_arith.specs.Message.{Body as Reported};
 ghost use Rattle.seq_arith.specs.Message.Body.{DataMsg};
 ghost use Rattle.south_wrap.specs.Translation.{copied, is_some_copied, IsPart};
 ghost use Rattle.tcp_endpoint.specs.Packets.{byte_count};
@@ -31,7 +31,7 @@ impl<S: Service> Conn<S> {
         requires accepted { IsOk (reading packet.now) }
         requires before { before.taken ≤ longest_stream }
         requires empty { out.old ≡ [] }
-        ensures told { IfOk (reading packet.now) (λ segment. out.new ≡ spelled self.now.batches self.now.boot (copies before segment self.now)) }
+        ensures reported { IfOk (reading packet.now) (λ segment. out.new ≡ spelled self.now.batches self.now.boot (copies before segment self.now)) }
         ensures few { length out.new ≤ 46 }
         ensures short { AreShort out.new }
     {
@@ -52,7 +52,7 @@ impl<S: Service> Conn<S> {
         requires which { IfOk (reading packet.now) (λ segment. is_some own ≡ is_some_copied (copied self.now.south segment)) }
         requires part { IfSome own (λ part. IfOk (reading packet.now) (λ segment. IsPart packet.now part (copied self.now.south segment))) }
         requires wide { more ≡ true → self.now.batches ≡ true }
-        ensures told { IfOk (reading packet.now) (λ segment. out.new
+        ensures reported { IfOk (reading packet.now) (λ segment. out.new
             ≡ spelled self.now.batches self.now.boot (map (followed more) (own_data segment self.now))) }
         ensures few { length out.new ≤ 1 }
         ensures short { byte_count out.new ≤ 64 * length out.new + largest_segment }
@@ -124,16 +124,16 @@ impl<S: Service> Conn<S> {
         requires start { fin ≡ true → start ≤ longest_stream }
         requires few { length out.old ≤ 1 }
         requires short { byte_count out.old ≤ 64 * length out.old + largest_segment }
-        ensures told { out.new ≡ out.old
+        ensures reported { out.new ≡ out.old
             ++ spelled self.now.batches self.now.boot (in_batch self.now.batches (datas_of self.now start (unread_from self.now start) fin)) }
         ensures few { length out.new ≤ length out.old + 45 }
         ensures short { AreShort out.new }
     {
         let from = start.saturating_sub(self.fetched_or_read());
         let count = self.unread().saturating_sub(from);
-        let told = self.send_full(start, from, count, out);
-        if told < count || fin {
-            self.send_piece(start + told, from + told, fin, false, out);
+        let reported = self.send_full(start, from, count, out);
+        if reported < count || fin {
+            self.send_piece(start + reported, from + reported, fin, false, out);
         }
     }
 
@@ -144,7 +144,7 @@ impl<S: Service> Conn<S> {
         requires count { count ≡ length self.now.endpoint.receiving.unread - from }
         requires few { length out.old ≤ 1 }
         requires short { byte_count out.old ≤ 64 * length out.old + largest_segment }
-        ensures told { (fin : Bool)
+        ensures reported { (fin : Bool)
             → out.new ++ spelled self.now.batches self.now.boot
             (in_batch self.now.batches (datas_of self.now (start + result) (drop (from + result) self.now.endpoint.receiving.unread) fin))
             ≡ out.old ++ spelled self.now.batches self.now.boot
@@ -154,12 +154,12 @@ impl<S: Service> Conn<S> {
         ensures few { largest_segment * length out.new ≡ largest_segment * length out.old + result }
         ensures short { byte_count out.new + 64 * length out.old ≤ byte_count out.old + 64 * length out.new + result }
     {
-        let mut told = 0;
-        while told + DATA < count {
-            self.send_piece(start + told, from + told, false, self.batches, out);
-            told += DATA;
+        let mut reported = 0;
+        while reported + DATA < count {
+            self.send_piece(start + reported, from + reported, false, self.batches, out);
+            reported += DATA;
         }
-        told
+        reported
     }
 
     /// Sends the unread text from a place on as one Data, at most 1,460 bytes of it. `more` says that another Data of the same turn follows.
@@ -170,7 +170,7 @@ impl<S: Service> Conn<S> {
         requires within { offset + min (length self.now.endpoint.receiving.unread - from) largest_segment ≤ longest_stream }
         requires few { length out.old ≤ 80 }
         requires short { byte_count out.old + min (length self.now.endpoint.receiving.unread - from) largest_segment ≤ 64 * length out.old + most_text }
-        ensures told { out.new ≡ out.old ++ spelled self.now.batches self.now.boot (DataMsg (record {
+        ensures reported { out.new ≡ out.old ++ spelled self.now.batches self.now.boot (DataMsg (record {
           key = self.now.key;
           offset = offset;
           acked = una_units self.now;
@@ -187,12 +187,12 @@ impl<S: Service> Conn<S> {
     }
 
     /// If no Data has been sent, reports to the logger that the client has acknowledged more, if that is so.
-    #[tactic(auto, using(crate::proofs::Copied::una_told, crate::proofs::Copied::una_silent))]
+    #[tactic(auto, using(crate::proofs::Copied::una_reported, crate::proofs::Copied::una_silent))]
     fn send_una(&self, una_before: u32, out: &mut Outbox)
         requires sound { IsSound self.now }
         requires few { length out.old ≤ 46 }
         requires short { AreShort out.old }
-        ensures told { (bodies : List Told) → out.old ≡ spelled self.now.batches self.now.boot (in_batch self.now.batches bodies)
+        ensures reported { (bodies : List Reported) → out.old ≡ spelled self.now.batches self.now.boot (in_batch self.now.batches bodies)
             → out.new ≡ spelled self.now.batches self.now.boot (in_batch self.now.batches (or_una una_before self.now bodies)) }
         ensures few { length out.new ≤ 46 }
         ensures short { AreShort out.new }

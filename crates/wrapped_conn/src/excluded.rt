@@ -105,7 +105,7 @@ fn delays_in_every_profile<S: Service>(conn: &Conn<S>, before: Before) -> bool
     conn.is_delayed(before)
 }
 
-/// Of two Data of one turn the first says that another follows, and the last doesn't: the clause `told` of `Conn::send_copy`.
+/// Of two Data of one turn the first says that another follows, and the last doesn't: the clause `reported` of `Conn::send_copy`.
 fn says_so_in_none_or_in_the_last<S: Service>(
     conn: &Conn<S>,
     packet: &[u8],
@@ -124,7 +124,7 @@ fn says_so_in_none_or_in_the_last<S: Service>(
     conn.send_copy(packet, before, out);
 }
 
-/// The only Data of a turn doesn't say that another follows: the clause `told` of `Conn::send_copy`.
+/// The only Data of a turn doesn't say that another follows: the clause `reported` of `Conn::send_copy`.
 fn says_so_in_the_only_one<S: Service>(
     conn: &Conn<S>,
     packet: &[u8],

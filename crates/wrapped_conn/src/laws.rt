@@ -19,20 +19,20 @@ ghost use Rattle.north_wrap.specs.NorthState.{NorthState};
 ghost use Rattle.north_wrap.specs.Refinement.{HasReplayed};
 ghost use Rattle.south_wrap.specs.SouthPoint.{south_at};
 ghost use Rattle.connection_laws.specs.FirstSyn.{MayOpen};
-ghost use Rattle.connection_laws.specs.Splice.{GoesOnFrom, delta_from, spliced_measuring};
+ghost use Rattle.connection_laws.specs.Splice.{ProceedsFrom, delta_from, spliced_measuring};
 ghost use Rattle.connection_laws.specs.Turn.{NewsFit};
 ghost use Rattle.wrapped_conn.specs.ConnState.{ConnState};
 ghost use Rattle.wrapped_conn.specs.NewConnection.{first_conn_in, joined_conn_in};
 ghost use Rattle.wrapped_conn.specs.Sound.{IsSound};
-ghost use Rattle.wrapped_conn.specs.Refinement.{Stands, StandsBefore, Leads, Tells};
-ghost use Rattle.wrapped_conn.specs.Turn.{Starts, Receives, IsTold, Ticks as TicksOn};
+ghost use Rattle.wrapped_conn.specs.Refinement.{Stands, StandsBefore, Leads, Reports};
+ghost use Rattle.wrapped_conn.specs.Turn.{Starts, Receives, IsReported, Ticks as TicksOn};
 
 use server_trait::Service;
 
 /// A connection that a restart joins from three parts, which continue from an entry of the log, is at the point of that entry.
 pub fn joined_connections_stand_at_the_entry<S: Service>()
     ensures { (fresh : S) (profile : Profile) (boot : ℕ) (local : Addr) (e : Entry) (i : ℕ) (n : NorthState S)
-        → GoesOnFrom (machine fresh S.after S.greeting) e i
+        → ProceedsFrom (machine fresh S.after S.greeting) e i
         → HasReplayed (machine fresh S.after S.greeting) (point_of (machine fresh S.after S.greeting) profile e)
         (resumed_at (machine fresh S.after S.greeting) e) n
         → StandsBefore (machine fresh S.after S.greeting)
@@ -64,12 +64,12 @@ pub fn connections_receive_as_the_law_says<S: Service>()
 {}
 
 /// The turn of a message that says how much of the connection is logged is lawful.
-pub fn connections_hear_as_the_law_says<S: Service>()
+pub fn connections_receive_messages_as_the_law_says<S: Service>()
     ensures stable { (fresh : S) (p : Point) (kept : Kept) (old new : ConnState S) (segments messages : List (List ℕ)) → IsSound old → IsSound new
-        → Stands (machine fresh S.after S.greeting) old p → IsTold S.after (Stable kept) old new segments messages
+        → Stands (machine fresh S.after S.greeting) old p → IsReported S.after (Stable kept) old new segments messages
         → Leads (machine fresh S.after S.greeting) old.local old.boot (Logged (kept_said kept)) p new segments messages }
     ensures reads { (fresh : S) (p : Point) (kept : Kept) (old new : ConnState S) (segments messages : List (List ℕ)) → IsSound old → IsSound new
-        → Stands (machine fresh S.after S.greeting) old p → IsTold S.after (Reads kept) old new segments messages
+        → Stands (machine fresh S.after S.greeting) old p → IsReported S.after (Reads kept) old new segments messages
         → Leads (machine fresh S.after S.greeting) old.local old.boot (Logged (kept_said kept)) p new segments messages }
 {}
 
@@ -81,6 +81,6 @@ pub fn connections_tick_as_the_law_says<S: Service>()
 {}
 
 /// Between two turns the numbers that `inside` returns are the point's, also for a connection that its client has reset.
-pub fn connections_tell_their_point<S: Service>()
-    ensures { (fresh : S) (p : Point) (c : ConnState S) → IsSound c → Stands (machine fresh S.after S.greeting) c p → Tells p c }
+pub fn connections_show_their_point<S: Service>()
+    ensures { (fresh : S) (p : Point) (c : ConnState S) → IsSound c → Stands (machine fresh S.after S.greeting) c p → Reports p c }
 {}

@@ -74,16 +74,16 @@ impl<S: Service> Conn<S> {
     fn head(&self, seq: Seq, flags: u8, mss: Option<u16>) -> Head
         ensures { record { head = said result; payload = [] } ≡ own_segment self.now seq.0 flags mss }
     {
-        let told = self.south.ack_now();
+        let reported = self.south.ack_now();
         Head {
             src: self.local.ip,
             dst: self.key.ip,
             sport: self.local.port,
             dport: self.key.port,
             seq,
-            ack: told.ack,
+            ack: reported.ack,
             flags,
-            window: told.window,
+            window: reported.window,
             mss,
             timestamps: self.south.timestamping().sent(),
         }

@@ -17,6 +17,6 @@ mod leaving;
 mod numbers;
 mod quiet;
 mod stage;
-mod telling;
+mod reporting;
 mod turn;
 mod turn_out;

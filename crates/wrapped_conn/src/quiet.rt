@@ -3,7 +3,7 @@
 ghost use Rattle.std.specs.Prelude.{◌≡◌};
 ghost use Rattle.server_trait.specs.Service.{machine};
 ghost use Rattle.ft_model.specs.Point.{Point};
-ghost use Rattle.wrapped_conn.specs.Quiet.{is_quiet, quiet_in, TellsQuiet};
+ghost use Rattle.wrapped_conn.specs.Quiet.{is_quiet, quiet_in, ReportsQuiet};
 ghost use Rattle.wrapped_conn.specs.Sound.{IsSound};
 ghost use Rattle.wrapped_conn.specs.Refinement.{Stands};
 
@@ -26,7 +26,7 @@ impl<S: Service> Conn<S> {
     pub fn quiet(&self) -> Option<Quiet>
         ensures state { result ≡ quiet_in self.now }
         ensures law { (fresh : S) (p : Point) → IsSound self.now → Stands (machine fresh S.after S.greeting) self.now p
-            → TellsQuiet (machine fresh S.after S.greeting) p result }
+            → ReportsQuiet (machine fresh S.after S.greeting) p result }
     {
         self.numbers_if_quiet()
     }

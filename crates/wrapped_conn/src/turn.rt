@@ -3,7 +3,7 @@
 ghost use Rattle.limits.specs.Limits.{longest_stream};
 ghost use Rattle.std.specs.Prelude.{◌≡◌, ◌≤◌, ◌<◌, ◌+◌, ◌*◌, ◌^◌, ◌∷◌, ◌++◌, [], true, false, Bool, List, ℕ, length, nat_lt, OnOk, IsOk, IfOk, if◌then◌else◌};
 ghost use Rattle.seq_arith.specs.PacketGrammar.{reading};
-ghost use Rattle.seq_arith.specs.Message.{Body as Told};
+ghost use Rattle.seq_arith.specs.Message.{Body as Reported};
 ghost use Rattle.segment_codec.specs.Change.{changed};
 ghost use Rattle.logger_wire.specs.Value.{IsSendableBy};
 ghost use Rattle.segment_codec.specs.Value.{segment_of};
@@ -16,8 +16,8 @@ ghost use Rattle.wrapped_conn.specs.Output.{passed};
 ghost use Rattle.wrapped_conn.specs.Numbers.{una_units};
 ghost use Rattle.connection_laws.specs.OutputFeed.{tcp_reader, tcp_writer};
 ghost use Rattle.wrapped_conn.specs.Arrival.{arrived, reached, noted, before_segment, before_other, stamped};
-ghost use Rattle.wrapped_conn.specs.Turn.{served, tcp_used, CompletesTurn, Starts, Receives, Hears, with_logged, is_news, IsTold, Ticks, ticked, counted};
-ghost use Rattle.wrapped_conn.specs.LoggerMessages.{grammar_by, spelled, copies, AreShort, AreTellable};
+ghost use Rattle.wrapped_conn.specs.Turn.{served, tcp_used, CompletesTurn, Starts, Receives, OnReceipt, with_logged, is_news, IsReported, Ticks, ticked, counted};
+ghost use Rattle.wrapped_conn.specs.LoggerMessages.{grammar_by, spelled, copies, AreShort, AreWritable};
 ghost use Rattle.wrapped_conn.specs.Sound.{IsSound};
 
 use crate::conn::Conn;
@@ -139,7 +139,7 @@ impl<S: Service> Conn<S> {
         requires empty { messages.old ≡ [] }
         ensures repeats { IfOk (reading packet.old) (λ segment. result ≡ repeats_syn self.old.south segment) }
         ensures state { IfOk (reading packet.old) (λ segment. self.new ≡ arrived segment self.old) }
-        ensures told { IfOk (reading packet.old) (λ segment. messages.new
+        ensures reported { IfOk (reading packet.old) (λ segment. messages.new
             ≡ spelled self.old.batches self.old.boot (copies before segment (arrived segment self.old))) }
         ensures few { length messages.new ≤ 46 }
         ensures short { AreShort messages.new }
@@ -202,7 +202,7 @@ impl<S: Service> Conn<S> {
         ensures north { OnOk result (Turns S.after tcp_reader tcp_writer (una_units self.old) self.old.north self.old.endpoint news.new self.new.north
             (tcp_used self.old news.new)) }
         ensures state { OnOk result (self.new ≡ served self.new.north news.new self.old) }
-        ensures tellable { OnOk result (AreTellable news.new) }
+        ensures writable { OnOk result (AreWritable news.new) }
         ensures sound { OnOk result (IsSound self.new) }
     {
         let una = self.una();
@@ -223,7 +223,7 @@ impl<S: Service> Conn<S> {
         requires no_segment { out.old.segments ≡ [] }
         requires few { length out.old.messages ≤ 46 }
         requires short { AreShort out.old.messages }
-        ensures turn { (copied : List Told) → out.old.messages ≡ spelled self.old.batches self.old.boot copied
+        ensures turn { (copied : List Reported) → out.old.messages ≡ spelled self.old.batches self.old.boot copied
             → OnOk result (CompletesTurn S.after before repeats copied self.old self.new out.new.segments out.new.messages) }
         ensures sound { OnOk result (IsSound self.new) }
     {
@@ -242,7 +242,7 @@ impl<S: Service> Conn<S> {
         requires sendable { IsSendableBy (grammar_by self.old.batches) m.now }
         requires no_segment { out.old.segments ≡ [] }
         requires no_message { out.old.messages ≡ [] }
-        ensures turn { OnOk result (IsTold S.after m.now.body self.old self.new out.new.segments out.new.messages) }
+        ensures turn { OnOk result (IsReported S.after m.now.body self.old self.new out.new.segments out.new.messages) }
         ensures sound { OnOk result (IsSound self.new) }
     {
         match m.body {
@@ -262,7 +262,7 @@ impl<S: Service> Conn<S> {
         requires most { kept.length ≤ longest_stream }
         requires no_segment { out.old.segments ≡ [] }
         requires no_message { out.old.messages ≡ [] }
-        ensures turn { OnOk result (Hears S.after kept.length kept.fin kept.reads self.old self.new out.new.segments out.new.messages) }
+        ensures turn { OnOk result (OnReceipt S.after kept.length kept.fin kept.reads self.old self.new out.new.segments out.new.messages) }
         ensures sound { OnOk result (IsSound self.new) }
     {
         let is_news = self.note_logged(kept.length, kept.fin, kept.reads);
@@ -320,7 +320,7 @@ impl<S: Service> Conn<S> {
         requires no_message { out.old.messages ≡ [] }
         ensures state { self.new ≡ counted (ticked self.old) }
         ensures sent { out.new.segments ≡ packets (passed (ticked self.old).south (leaving (after_tick self.old.endpoint))) }
-        ensures told { out.new.messages ≡ spelled self.old.batches self.old.boot (messages_of self.old.key self.old.north.reads) }
+        ensures reported { out.new.messages ≡ spelled self.old.batches self.old.boot (messages_of self.old.key self.old.north.reads) }
         ensures few { length out.new.messages ≤ 32 }
         ensures short { AreShort out.new.messages }
         ensures sound { IsSound self.new }

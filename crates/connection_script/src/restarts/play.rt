@@ -78,8 +78,8 @@ fn join(alloc: Global, replayed: Replayed<AnyService>, said: &mut Said) -> Resul
         Ok(spliced) => {
             let delta = spliced.south().delta();
             let number = spliced.endpoint().sent().add(delta).0;
-            let told = spliced.south().ack_now();
-            let (ack, window) = (told.ack.0, told.window);
+            let reported = spliced.south().ack_now();
+            let (ack, window) = (reported.ack.0, reported.window);
             let state = match spliced.endpoint().state().name {
                 StateName::Established => "established",
                 StateName::CloseWait => "close-wait",

@@ -160,15 +160,15 @@ fn begin(alloc: Global, client: &mut Client, is_open: bool) -> Result<(), NoMemo
 
 /// A scripted client's state, as its methods report it.
 #[derive(Clone, Copy, PartialEq, Eq)]
-struct Told {
+struct Reported {
     phase: Phase,
     sent: u32,
     acked: u32,
     accepted: usize,
 }
 
-fn readers_of(client: &Client) -> Told {
-    Told {
+fn readers_of(client: &Client) -> Reported {
+    Reported {
         phase: client.phase(),
         sent: client.sent(),
         acked: client.acked(),
@@ -177,7 +177,7 @@ fn readers_of(client: &Client) -> Told {
 }
 
 /// The rules on a delivery to a scripted client.
-fn check_scripted(before: Told, client: &Client, is_packet: bool) -> Kept {
+fn check_scripted(before: Reported, client: &Client, is_packet: bool) -> Kept {
     let after = readers_of(client);
     let is_sent = after.sent == before.sent && before.acked <= after.acked;
     require_all(&[

@@ -108,7 +108,7 @@ struct Exchange {
     /// How many bytes of its text the server has written.
     written: u32,
     /// What the server read of the client's text.
-    heard: Came,
+    receipt: Came,
     to_client: Way,
     to_server: Way,
     draws: Draws,
@@ -124,7 +124,7 @@ impl Exchange {
             accepted: Came::nothing(),
             server,
             written: 0,
-            heard: Came::nothing(),
+            receipt: Came::nothing(),
             to_client: Way::new(alloc),
             to_server: Way::new(alloc),
             draws: Draws::new(seed),
@@ -162,7 +162,7 @@ impl Exchange {
         }
         let mut buf = [0u8; 7_000];
         let count = self.server.read(&mut buf[..3_000]).min(3_000);
-        self.heard.take(CLIENTS, &buf[..count]);
+        self.receipt.take(CLIENTS, &buf[..count]);
         let rest = LENGTH.saturating_sub(self.written).min(7_000) as usize;
         if rest == 0 {
             self.server.close();
@@ -187,8 +187,8 @@ impl Exchange {
         }
         Ok(Joined {
             accepted: self.accepted.count,
-            read: self.heard.count,
-            same: self.accepted.is_whole() && self.heard.is_whole(),
+            read: self.receipt.count,
+            same: self.accepted.is_whole() && self.receipt.is_whole(),
             outcome: self.client.outcome(),
         })
     }

@@ -8,9 +8,9 @@ use Rattle.ft_model.specs.Network.{Packet}
 use Rattle.ft_model.specs.Point.{Point}
 use Rattle.ft_model.specs.World.{Moment}
 use Rattle.ft_model.specs.WorkedRuns.Common.{server, key, hello_text, to_log, part_with}
-use Rattle.ft_model.specs.WorkedRuns.FirstPath.{moment, told_client, log_with, opened_entry, filled_entry, packet_11, packet_12, packet_13}
+use Rattle.ft_model.specs.WorkedRuns.FirstPath.{moment, reported_client, log_with, opened_entry, filled_entry, packet_11, packet_12, packet_13}
 use Rattle.ft_model.specs.WorkedRuns.DelayedAck.{opening_trace, moment_10, open_point, taken_point, node_live}
-use Rattle.ft_model.specs.WorkedRuns.HeldSegments.{first_text, second_text, first_sent, second_sent, telling_client, bare_ack, first_copy, second_copy}
+use Rattle.ft_model.specs.WorkedRuns.HeldSegments.{first_text, second_text, first_sent, second_sent, reporting_client, bare_ack, first_copy, second_copy}
 use Rattle.ft_model.specs.declared.event.Event.TheVariants.{Boot, Deliver, Begin, Send, Ack}
 use Rattle.ft_model.specs.declared.schedule.Schedule.{Schedule}
 use Rattle.ft_model.specs.declared.schedule.Script.TheVariants.{Bytes}
@@ -52,10 +52,10 @@ abbrev pub begun_entry : Entry
 begun_entry = record opened_entry { bytes = first_text }
 
 abbrev pub moment_11 : Moment
-moment_11 = moment (Send 1 0 2) (first_sent ∷ []) (record moment_10.world { clients = telling_client ∷ [] })
+moment_11 = moment (Send 1 0 2) (first_sent ∷ []) (record moment_10.world { clients = reporting_client ∷ [] })
 
 abbrev pub moment_12 : Moment
-moment_12 = moment (Send 1 2 3) (second_sent ∷ []) (record moment_11.world { clients = told_client ∷ [] })
+moment_12 = moment (Send 1 2 3) (second_sent ∷ []) (record moment_11.world { clients = reported_client ∷ [] })
 
 -- the second one arrives first: it is held, and answered
 abbrev pub moment_13 : Moment

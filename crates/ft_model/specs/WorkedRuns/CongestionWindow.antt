@@ -77,11 +77,11 @@ opening = record (client_with requests) { phase = Opening; edge = 65535 }
 abbrev pub open_client : Client
 open_client = record opening { phase = Established; sisn = 5000 }
 
-abbrev pub told_client : Client
-told_client = record open_client { sent = 8 }
+abbrev pub reported_client : Client
+reported_client = record open_client { sent = 8 }
 
 abbrev pub served_client : Client
-served_client = record told_client { acknowledged = 8; accepted = pattern 0 536 }
+served_client = record reported_client { acknowledged = 8; accepted = pattern 0 536 }
 
 abbrev pub acknowledging_client : Client
 acknowledging_client = record served_client { edge = 66071 }
@@ -170,7 +170,7 @@ abbrev pub moment_10 : Moment
 moment_10 = moment (Deliver 7) [] (record moment_9.world { node = Some (node_live open_point) })
 
 abbrev pub moment_11 : Moment
-moment_11 = moment (Send 1 0 8) (asking ∷ []) (record moment_10.world { clients = told_client ∷ [] })
+moment_11 = moment (Send 1 0 8) (asking ∷ []) (record moment_10.world { clients = reported_client ∷ [] })
 
 abbrev pub moment_12 : Moment
 moment_12 = moment (Deliver 8) (packet_9 ∷ copy ∷ read ∷ []) (record moment_11.world { node = Some (node_live asked_point) })

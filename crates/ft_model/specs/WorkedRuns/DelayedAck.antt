@@ -14,7 +14,7 @@ use Rattle.ft_model.specs.Node.Stage.{Serving}
 use Rattle.ft_model.specs.World.{World, Moment}
 use Rattle.ft_model.specs.Legal.{start_of}
 use Rattle.ft_model.specs.WorkedRuns.Common.{server, key, hello_text, numbers}
-use Rattle.ft_model.specs.WorkedRuns.FirstPath.{moment, log_with, opened_entry, filled_entry, read_entry, opening, open_client, told_client, served_client}
+use Rattle.ft_model.specs.WorkedRuns.FirstPath.{moment, log_with, opened_entry, filled_entry, read_entry, opening, open_client, reported_client, served_client}
 use Rattle.ft_model.specs.WorkedRuns.FirstPath.{packet_1, packet_2, packet_3, packet_4, packet_5, packet_6, packet_7, packet_8}
 use Rattle.ft_model.specs.WorkedRuns.FirstPath.{packet_9, packet_10, packet_11, packet_12, packet_13, packet_14, packet_15}
 use Rattle.ft_model.specs.declared.event.Event.TheVariants.{Boot, Deliver, Begin, Send, Ack}
@@ -96,7 +96,7 @@ abbrev pub moment_10 : Moment
 moment_10 = moment (Deliver 7) [] (record moment_9.world { node = Some (node_live open_point) })
 
 abbrev pub moment_11 : Moment
-moment_11 = moment (Send 1 0 5) (packet_8 ∷ []) (record moment_10.world { clients = told_client ∷ [] })
+moment_11 = moment (Send 1 0 5) (packet_8 ∷ []) (record moment_10.world { clients = reported_client ∷ [] })
 
 -- the text is copied to the log, and no ACK is sent
 abbrev pub moment_12 : Moment

@@ -9,7 +9,7 @@ use Rattle.ft_model.specs.Node.{booted}
 use Rattle.ft_model.specs.World.{Moment}
 use Rattle.ft_model.specs.declared.event.Event.TheVariants.{Boot, Crash, Deliver}
 use Rattle.ft_model.specs.WorkedRuns.Common.{server, hello_text, to_log, from_log, part_with}
-use Rattle.ft_model.specs.WorkedRuns.FirstPath.{moment, opening_trace, moment_11, passed_on, told_client, opened_entry, taken_point, node_live}
+use Rattle.ft_model.specs.WorkedRuns.FirstPath.{moment, opening_trace, moment_11, passed_on, reported_client, opened_entry, taken_point, node_live}
 
 -- the first path, until the client has sent its text
 abbrev pub earlier : List Moment
@@ -25,7 +25,7 @@ data_message = record { boot = 1; body = DataMsg (part_with 0 0 false hello_text
 
 -- the client receives the acknowledgement, ..
 abbrev pub fooled_client : Client
-fooled_client = record told_client { acknowledged = 5 }
+fooled_client = record reported_client { acknowledged = 5 }
 
 abbrev pub moment_13 : Moment
 moment_13 = moment (Deliver 9) [] (record wrong.world { clients = fooled_client ∷ [] })

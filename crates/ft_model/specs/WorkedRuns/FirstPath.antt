@@ -79,11 +79,11 @@ opening = record (client_with hello_text) { phase = Opening; edge = 65535 }
 abbrev pub open_client : Client
 open_client = record opening { phase = Established; sisn = 5000 }
 
-abbrev pub told_client : Client
-told_client = record open_client { sent = 5 }
+abbrev pub reported_client : Client
+reported_client = record open_client { sent = 5 }
 
 abbrev pub served_client : Client
-served_client = record told_client { acknowledged = 5; accepted = hello_text }
+served_client = record reported_client { acknowledged = 5; accepted = hello_text }
 
 -- the log's entry when it is opened, when it has the bytes, and when it has the read
 abbrev pub opened_entry : Entry
@@ -151,7 +151,7 @@ abbrev pub moment_10 : Moment
 moment_10 = moment (Deliver 7) [] (record moment_9.world { node = Some (node_live open_point) })
 
 abbrev pub moment_11 : Moment
-moment_11 = moment (Send 1 0 5) (packet_8 ∷ []) (record moment_10.world { clients = told_client ∷ [] })
+moment_11 = moment (Send 1 0 5) (packet_8 ∷ []) (record moment_10.world { clients = reported_client ∷ [] })
 
 -- before the text is logged, the acknowledgement doesn't move
 abbrev pub moment_12 : Moment

@@ -10,7 +10,7 @@ use Rattle.ft_model.specs.Node.Input.{Packet_comes}
 use Rattle.ft_model.specs.Point.{Point}
 use Rattle.ft_model.specs.World.{Moment}
 use Rattle.ft_model.specs.WorkedRuns.Common.{server, key, hello_text, client_segment, from_client, to_client, to_log, part_with}
-use Rattle.ft_model.specs.WorkedRuns.FirstPath.{moment, opening_trace, moment_10, open_client, told_client, open_point, taken_point, node_live}
+use Rattle.ft_model.specs.WorkedRuns.FirstPath.{moment, opening_trace, moment_10, open_client, reported_client, open_point, taken_point, node_live}
 use Rattle.ft_model.specs.WorkedRuns.FirstPath.{packet_10, packet_11}
 use Rattle.ft_model.specs.declared.event.Event.TheVariants.{Boot, Deliver, Begin, Send, Ack}
 use Rattle.ft_model.specs.declared.schedule.Schedule.{Schedule}
@@ -45,8 +45,8 @@ abbrev pub second_sent : Packet
 second_sent = from_client 16 1003 5001 65535 second_text
 
 -- the client when it has sent the first of them
-abbrev pub telling_client : Client
-telling_client = record open_client { sent = 2 }
+abbrev pub reporting_client : Client
+reporting_client = record open_client { sent = 2 }
 
 -- the connection when the second text is held after a gap of two bytes, and when both are taken and read
 abbrev pub held_point : Point
@@ -66,10 +66,10 @@ abbrev pub second_copy : Packet
 second_copy = to_log 1 (DataMsg (part_with 2 0 false second_text))
 
 abbrev pub moment_11 : Moment
-moment_11 = moment (Send 1 0 2) (first_sent ∷ []) (record moment_10.world { clients = telling_client ∷ [] })
+moment_11 = moment (Send 1 0 2) (first_sent ∷ []) (record moment_10.world { clients = reporting_client ∷ [] })
 
 abbrev pub moment_12 : Moment
-moment_12 = moment (Send 1 2 3) (second_sent ∷ []) (record moment_11.world { clients = told_client ∷ [] })
+moment_12 = moment (Send 1 2 3) (second_sent ∷ []) (record moment_11.world { clients = reported_client ∷ [] })
 
 -- the second one arrives first: it is held, and answered
 abbrev pub moment_13 : Moment

@@ -60,11 +60,11 @@ opening = record (client_with request) { phase = Opening; edge = 65535 }
 abbrev pub open_client : Client
 open_client = record opening { phase = Established; sisn = 5000 }
 
-abbrev pub told_client : Client
-told_client = record open_client { sent = 4 }
+abbrev pub reported_client : Client
+reported_client = record open_client { sent = 4 }
 
 abbrev pub has : (accepted acknowledged : ℕ) → Client
-has accepted acknowledged = record told_client { acknowledged = 4; accepted = pattern 0 accepted; edge = 65535 + acknowledged }
+has accepted acknowledged = record reported_client { acknowledged = 4; accepted = pattern 0 accepted; edge = 65535 + acknowledged }
 
 -- the log's entry when it has the bytes, and when it has the read
 abbrev pub filled_entry : Entry
@@ -215,7 +215,7 @@ abbrev pub moment_10 : Moment
 moment_10 = moment (Deliver 7) [] (record moment_9.world { node = Some (node_live open_point) })
 
 abbrev pub moment_11 : Moment
-moment_11 = moment (Send 1 0 4) (asking ∷ []) (record moment_10.world { clients = told_client ∷ [] })
+moment_11 = moment (Send 1 0 4) (asking ∷ []) (record moment_10.world { clients = reported_client ∷ [] })
 
 abbrev pub moment_12 : Moment
 moment_12 = moment (Deliver 8) (copy ∷ read ∷ []) (record moment_11.world { node = Some (node_live asked_point) })

@@ -74,42 +74,42 @@ moment_11 = moment (Send 1 0 3) (from_client 16 1001 5001 65535 first_text ∷ [
 
 -- the moments from here on, given what is sent to the client then
 abbrev pub moment_12 : Packet → Moment
-moment_12 told = moment (Deliver 8) (told ∷ first_data ∷ first_read ∷ []) (record moment_11.world { node = Some (node_live first_point) })
+moment_12 reported = moment (Deliver 8) (reported ∷ first_data ∷ first_read ∷ []) (record moment_11.world { node = Some (node_live first_point) })
 
 abbrev pub moment_13 : Packet → Moment
-moment_13 told = moment Crash [] (record (moment_12 told).world { node = None })
+moment_13 reported = moment Crash [] (record (moment_12 reported).world { node = None })
 
 abbrev pub moment_14 : Packet → Moment
-moment_14 told = moment (Boot 2 900000) (to_log 2 HelloMsg ∷ []) (record (moment_13 told).world { boot = 2; node = Some (booted server plain 2 900000) })
+moment_14 reported = moment (Boot 2 900000) (to_log 2 HelloMsg ∷ []) (record (moment_13 reported).world { boot = 2; node = Some (booted server plain 2 900000) })
 
 abbrev pub moment_15 : Packet → Moment
-moment_15 told = moment (Deliver 12) (from_log 2 (SummaryMsg 1) ∷ []) (record (moment_14 told).world { log = log_with opened_entry })
+moment_15 reported = moment (Deliver 12) (from_log 2 (SummaryMsg 1) ∷ []) (record (moment_14 reported).world { log = log_with opened_entry })
 
 abbrev pub moment_16 : Packet → Moment
-moment_16 told = moment (Deliver 13) (to_log 2 (ListMsg 0) ∷ []) (record (moment_15 told).world { node = Some (fetching 2 900000 []) })
+moment_16 reported = moment (Deliver 13) (to_log 2 (ListMsg 0) ∷ []) (record (moment_15 reported).world { node = Some (fetching 2 900000 []) })
 
 abbrev pub moment_17 : Packet → Moment
-moment_17 told = moment (Deliver 14) (from_log 2 (EntryMsg 0 (head_with 0 false 0 0)) ∷ []) (moment_16 told).world
+moment_17 reported = moment (Deliver 14) (from_log 2 (EntryMsg 0 (head_with 0 false 0 0)) ∷ []) (moment_16 reported).world
 
 abbrev pub moment_18 : Packet → Moment
-moment_18 told = moment (Deliver 15) (bare ∷ []) (record (moment_17 told).world { node = Some (serving_at 2 900000 restarted) })
+moment_18 reported = moment (Deliver 15) (bare ∷ []) (record (moment_17 reported).world { node = Some (serving_at 2 900000 restarted) })
 
 abbrev pub moment_19 : Packet → Moment
-moment_19 told = moment (Send 1 0 5) (from_client 16 1001 5001 65535 hello_text ∷ []) (record (moment_18 told).world { clients = whole_client ∷ [] })
+moment_19 reported = moment (Send 1 0 5) (from_client 16 1001 5001 65535 hello_text ∷ []) (record (moment_18 reported).world { clients = whole_client ∷ [] })
 
 abbrev pub moment_20 : Packet → Moment
-moment_20 told = moment (Deliver 17) (bare ∷ second_data ∷ second_read ∷ []) (record (moment_19 told).world { node = Some (serving_at 2 900000 second_point) })
+moment_20 reported = moment (Deliver 17) (bare ∷ second_data ∷ second_read ∷ []) (record (moment_19 reported).world { node = Some (serving_at 2 900000 second_point) })
 
 abbrev pub moment_21 : Packet → Moment
-moment_21 told = moment (Deliver 19) (from_log 2 (StableMsg (kept_with 5 false 0)) ∷ []) (record (moment_20 told).world { log = log_with filled_entry })
+moment_21 reported = moment (Deliver 19) (from_log 2 (StableMsg (kept_with 5 false 0)) ∷ []) (record (moment_20 reported).world { log = log_with filled_entry })
 
 -- the trace until the client has sent its first text, and the moments from then until the second one's Data is logged
 abbrev pub sent_trace : List Moment
 sent_trace = moment_11 ∷ opening_trace
 
 abbrev pub restart_trace : Packet → List Moment
-restart_trace told =
-    moment_21 told ∷ moment_20 told ∷ moment_19 told ∷ moment_18 told ∷ moment_17 told ∷ moment_16 told ∷ moment_15 told ∷ moment_14 told ∷ moment_13 told ∷ []
+restart_trace reported =
+    moment_21 reported ∷ moment_20 reported ∷ moment_19 reported ∷ moment_18 reported ∷ moment_17 reported ∷ moment_16 reported ∷ moment_15 reported ∷ moment_14 reported ∷ moment_13 reported ∷ []
 
 -- Early output. The output is sent before its read is logged, and the network delivers it only once the second read is logged. The law Output refuses the turn.
 abbrev pub early_22 : Moment

@@ -42,11 +42,11 @@ opening = record (client_with hello_text) { phase = Opening }
 abbrev pub open_client : Client
 open_client = record opening { phase = Established; sisn = 5000 }
 
-abbrev pub told_client : Client
-told_client = record open_client { sent = 5 }
+abbrev pub reported_client : Client
+reported_client = record open_client { sent = 5 }
 
 abbrev pub roomy_client : Client
-roomy_client = record told_client { edge = 5 }
+roomy_client = record reported_client { edge = 5 }
 
 abbrev pub moment_1 : Moment
 moment_1 = moment (Boot 1 5000) (to_log 1 HelloMsg ∷ []) (record start { boot = 1; node = Some (booted server plain 1 5000) })
@@ -80,7 +80,7 @@ abbrev pub moment_10 : Moment
 moment_10 = moment (Deliver 7) [] (record moment_9.world { node = Some (serving_at 1 5000 opened) })
 
 abbrev pub moment_11 : Moment
-moment_11 = moment (Send 1 0 5) (To_server text ∷ []) (record moment_10.world { clients = told_client ∷ [] })
+moment_11 = moment (Send 1 0 5) (To_server text ∷ []) (record moment_10.world { clients = reported_client ∷ [] })
 
 abbrev pub moment_12 : Moment
 moment_12 = moment (Deliver 8) probe_5.sent (record moment_11.world { node = Some (serving_at 1 5000 taken) })

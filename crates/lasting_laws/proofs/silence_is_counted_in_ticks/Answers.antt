@@ -1,5 +1,5 @@
-use Rattle.lasting_laws.proofs.Watches.{heard}
+use Rattle.lasting_laws.proofs.Watches.{receipt}
 use Rattle.lasting_laws.proofs.silence_is_counted_in_ticks.Goals as goal
 
-pub returns-clause-heard : goal.returns-clause-heard
-returns-clause-heard c = heard
+pub returns-clause-receipt : goal.returns-clause-receipt
+returns-clause-receipt c = receipt

@@ -151,7 +151,7 @@ impl Bench {
             "compact" => self.compact(alloc, rest, said),
             "death" => self.die(rest, said),
             _ => {
-                self.set_or_tell(word, rest, said);
+                self.set_or_report(word, rest, said);
                 Ok(())
             }
         };
@@ -160,7 +160,7 @@ impl Bench {
     }
 
     /// Plays a line that wants no memory.
-    fn set_or_tell(&mut self, word: &str, rest: &str, said: &mut Said) {
+    fn set_or_report(&mut self, word: &str, rest: &str, said: &mut Said) {
         match word {
             "fail" => match two_numbers(rest) {
                 Some((read, call)) => {
@@ -225,11 +225,11 @@ impl Bench {
         said.add(b"open ");
         let mut desk = desk_of(alloc, &self.file, self.fails)?;
         let opened = KeptLog::open(alloc, self.grammar, &mut desk);
-        let told = write_opening(&opened, &desk, said);
+        let reported = write_opening(&opened, &desk, said);
         self.shown = call_count(&desk);
         self.desk = desk;
         self.log = opened.ok().map(|(log, _)| log);
-        told
+        reported
     }
 
     fn begin(&mut self, alloc: Global, text: &str, said: &mut Said) -> Result<(), NoMemory> {
@@ -240,11 +240,11 @@ impl Bench {
         said.add(b"begin ");
         let mut desk = desk_of(alloc, &[], self.fails)?;
         let begun = KeptLog::begin(alloc, self.grammar, &mut desk, made);
-        let told = write_beginning(&begun, &desk, said);
+        let reported = write_beginning(&begun, &desk, said);
         self.shown = call_count(&desk);
         self.desk = desk;
         self.log = begun.ok();
-        told
+        reported
     }
 
     fn open_cuts(&self, alloc: Global, said: &mut Said) -> Result<(), NoMemory> {

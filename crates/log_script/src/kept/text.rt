@@ -9,7 +9,7 @@ use test_data::Said;
 
 /// Says the calls on a desk that change its file, from one of them on, each after a semicolon.
 pub(crate) fn write_calls(desk: &MemDesk, from: usize, said: &mut Said) {
-    let Some(calls) = desk.told() else {
+    let Some(calls) = desk.reported() else {
         return said.add(b"; untold");
     };
     for call in calls.iter().skip(from) {
@@ -42,7 +42,7 @@ pub(crate) fn write_calls(desk: &MemDesk, from: usize, said: &mut Said) {
 
 /// How many calls a desk has recorded.
 pub(crate) fn call_count(desk: &MemDesk) -> usize {
-    match desk.told() {
+    match desk.reported() {
         Some(calls) => calls.len(),
         None => 0,
     }

@@ -18,7 +18,7 @@ returns-clause-near g c = λ every schedule events trace node input legal up com
     let written = writing g.S.Saved.form (g.S.Saved.state_of kind) in
     let first = marked_start schedule in
     let laws : MarkLaws by = record {
-      tells = λ news script m q e. c.marks_that_go_out_are_true.ensures (g.S.Service.started kind) written every news script m q e;
+      reports = λ news script m q e. c.marks_that_go_out_are_true.ensures (g.S.Service.started kind) written every news script m q e;
       stays = λ before after m. c.marks_stay_true.ensures kind written before after m;
     } in
     let k : Kept by (seen first) (marked_after first trace) = kept_of by first trace (g.met.S.Service.greets_shortly (g.S.Service.started kind), g.met.S.Service.is_short) laws legal.joint in
@@ -31,7 +31,7 @@ returns-clause-sound g c = λ every schedule events trace node input legal up co
     let written = writing g.S.Saved.form (g.S.Saved.state_of kind) in
     let first = marked_start schedule in
     let laws : MarkLaws by = record {
-      tells = λ news script m q e. c.marks_that_go_out_are_true.ensures (g.S.Service.started kind) written every news script m q e;
+      reports = λ news script m q e. c.marks_that_go_out_are_true.ensures (g.S.Service.started kind) written every news script m q e;
       stays = λ before after m. c.marks_stay_true.ensures kind written before after m;
     } in
     let k : Kept by (seen first) (marked_after first trace) = kept_of by first trace (g.met.S.Service.greets_shortly (g.S.Service.started kind), g.met.S.Service.is_short) laws legal.joint in
@@ -44,7 +44,7 @@ returns-clause-fronts g c = λ every schedule events trace node input legal up c
     let written = writing g.S.Saved.form (g.S.Saved.state_of kind) in
     let first = marked_start schedule in
     let laws : MarkLaws by = record {
-      tells = λ news script m q e. c.marks_that_go_out_are_true.ensures (g.S.Service.started kind) written every news script m q e;
+      reports = λ news script m q e. c.marks_that_go_out_are_true.ensures (g.S.Service.started kind) written every news script m q e;
       stays = λ before after m. c.marks_stay_true.ensures kind written before after m;
     } in
     let k : Kept by (seen first) (marked_after first trace) = kept_of by first trace (g.met.S.Service.greets_shortly (g.S.Service.started kind), g.met.S.Service.is_short) laws legal.joint in
@@ -57,7 +57,7 @@ returns-clause-unfenced g c = λ every schedule events trace node input legal up
     let written = writing g.S.Saved.form (g.S.Saved.state_of kind) in
     let first = marked_start schedule in
     let laws : MarkLaws by = record {
-      tells = λ news script m q e. c.marks_that_go_out_are_true.ensures (g.S.Service.started kind) written every news script m q e;
+      reports = λ news script m q e. c.marks_that_go_out_are_true.ensures (g.S.Service.started kind) written every news script m q e;
       stays = λ before after m. c.marks_stay_true.ensures kind written before after m;
     } in
     let k : Kept by (seen first) (marked_after first trace) = kept_of by first trace (g.met.S.Service.greets_shortly (g.S.Service.started kind), g.met.S.Service.is_short) laws legal.joint in
@@ -70,7 +70,7 @@ returns-clause-marks g c = λ savable every number schedule events trace node me
     let written = writing g.S.Saved.form (g.S.Saved.state_of kind) in
     let first = marked_start schedule in
     let laws : MarkLaws by = record {
-      tells = λ news script m q e. c.marks_that_go_out_are_true.ensures (g.S.Service.started kind) written every news script m q e;
+      reports = λ news script m q e. c.marks_that_go_out_are_true.ensures (g.S.Service.started kind) written every news script m q e;
       stays = λ before after m. c.marks_stay_true.ensures kind written before after m;
     } in
     let k : Kept by (seen first) (marked_after first trace) = kept_of by first trace (g.met.S.Service.greets_shortly (g.S.Service.started kind), g.met.S.Service.is_short) laws legal.joint in

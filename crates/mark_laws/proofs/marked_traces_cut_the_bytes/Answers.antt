@@ -12,7 +12,7 @@ returns g c = λ kind every start trace joint.
     let by = markers (machines g.S.Service.started g.S.Service.after g.S.Service.greeting) g.S.Saved.form g.S.Saved.state_of every kind in
     let written = writing g.S.Saved.form (g.S.Saved.state_of kind) in
     let laws : MarkLaws by = record {
-      tells = λ news script m q e. c.marks_that_go_out_are_true.ensures (g.S.Service.started kind) written every news script m q e;
+      reports = λ news script m q e. c.marks_that_go_out_are_true.ensures (g.S.Service.started kind) written every news script m q e;
       stays = λ before after m. c.marks_stay_true.ensures kind written before after m;
     } in
     let k : Kept by (seen start) (marked_after start trace) = kept_of by start trace (g.met.S.Service.greets_shortly (g.S.Service.started kind), g.met.S.Service.is_short) laws joint in

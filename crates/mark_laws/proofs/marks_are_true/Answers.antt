@@ -13,7 +13,7 @@ returns g c = λ kind every start trace joint.
     let grounds : Grounds by (seen start) = record {
       small = (g.met.S.Service.greets_shortly (g.S.Service.started kind), g.met.S.Service.is_short);
       laws = record {
-        tells = λ news script m q e. c.marks_that_go_out_are_true.ensures (g.S.Service.started kind) written every news script m q e;
+        reports = λ news script m q e. c.marks_that_go_out_are_true.ensures (g.S.Service.started kind) written every news script m q e;
         stays = λ before after m. c.marks_stay_true.ensures kind written before after m;
       };
       starts = (start_of_joint by start trace joint).start;

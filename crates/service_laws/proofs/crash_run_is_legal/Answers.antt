@@ -6,4 +6,4 @@ use Rattle.service_laws.proofs.crash_run_is_legal.Goals as goal
 
 pub returns : goal.returns
 unfolding report_on_literals
-returns c = record { legal = is_legal; served = refl; told = refl }
+returns c = record { legal = is_legal; served = refl; reported = refl }

@@ -1,7 +1,7 @@
 use Rattle.std.proofs.Common.{◌≡◌, ◌∙◌, ◌∷◌, [], List, ap, arith, length}
 use Rattle.std.specs.declared.option.Option.{Option}
 use Rattle.std.proofs.lemmas.Result.{on_ok_weaker}
-use Rattle.ft_io.specs.Told.{Tells}
+use Rattle.ft_io.specs.Reported.{Reports}
 use Rattle.ft_io.specs.declared.link_call.LinkCall.{LinkCall}
 use Rattle.ft_io.specs.declared.link_call.LinkCall.TheVariants.{Bound}
 use Rattle.seq_arith.specs.declared.kinds.Grammar.TheVariants as grammars
@@ -14,19 +14,19 @@ use Rattle.chain_parts.proofs.excluded.a_pair_ignores_the_profile.Goals as goal
 
 -- a life of one turn
 one_turn : (role : PartRole) (turns : List PartTurn) (old new : Option (List LinkCall)) → length turns ≡ 1 → role.logger.profile ≡ profiles.Wan
-    → AreByDefinition role turns → Tells old new (Bound role.logger.local ∷ calls_of turns)
-    → (turn : PartTurn) × Tells old new (Bound role.logger.local ∷ turn_calls turn)
+    → AreByDefinition role turns → Reports old new (Bound role.logger.local ∷ calls_of turns)
+    → (turn : PartTurn) × Reports old new (Bound role.logger.local ∷ turn_calls turn)
     × (datagrams_in turn.sent ≡ sends role.other turn.received (at_start grammars.Wide role.part))
-one_turn role [] old new one chosen defined tells = absurd (omega (arith, one))
-one_turn role (turn ∷ []) old new one chosen defined tells = (
+one_turn role [] old new one chosen defined reports = absurd (omega (arith, one))
+one_turn role (turn ∷ []) old new one chosen defined reports = (
   turn,
-  tells,
+  reports,
   defined.1 ∙ ap (λ profile. sends role.other turn.received (at_start (grammar_of (profile_of profile)) role.part)) chosen,
 )
-one_turn role (turn ∷ next ∷ more) old new one chosen defined tells = absurd (omega (arith, one))
+one_turn role (turn ∷ next ∷ more) old new one chosen defined reports = absurd (omega (arith, one))
 
 pub returns : goal.returns
 returns g c =
     on_ok_weaker c.run_part.result
-    (λ is. one_turn c.args.role.now is.turns (g.L.Link.told c.args.link.now) (g.L.Link.told c.run_part.new.link) (is.count_is ∙ c.requires.once) c.requires.chosen is.defined is.tells)
+    (λ is. one_turn c.args.role.now is.turns (g.L.Link.reported c.args.link.now) (g.L.Link.reported c.run_part.new.link) (is.count_is ∙ c.requires.once) c.requires.chosen is.defined is.reports)
     c.run_part.ensures.done

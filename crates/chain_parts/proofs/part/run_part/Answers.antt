@@ -3,7 +3,7 @@ use Rattle.ft_io.proofs.Outcomes.{if_err}
 use Rattle.chain_parts.proofs.part.run_part.Goals as goal
 
 pub returns-in-Ok-clause-done : goal.returns-in-Ok-clause-done
-returns-in-Ok-clause-done g c = on_ok_weaker c.serve_and_tell.result (λ lives. lives (g.L.Link.told c.args.link.now) c.in-Ok.ensures.told) c.serve_and_tell.ensures.done
+returns-in-Ok-clause-done g c = on_ok_weaker c.serve_and_report.result (λ lives. lives (g.L.Link.reported c.args.link.now) c.in-Ok.ensures.reported) c.serve_and_report.ensures.done
 
 pub returns-in-Ok-clause-stops : goal.returns-in-Ok-clause-stops
-returns-in-Ok-clause-stops g c = if_err c.serve_and_tell.result (λ end lives. lives (g.L.Link.told c.args.link.now) c.in-Ok.ensures.told) c.serve_and_tell.ensures.stops
+returns-in-Ok-clause-stops g c = if_err c.serve_and_report.result (λ end lives. lives (g.L.Link.reported c.args.link.now) c.in-Ok.ensures.reported) c.serve_and_report.ensures.stops

@@ -10,7 +10,7 @@ send_all-requires g c = let r = c.in-Some.ensures.received in room_left c.args.c
 pub returns-in_default-clause-turned : goal.returns-in_default-clause-turned
 returns-in_default-clause-turned g c =
     let r = c.in_default.ensures.received in
-    quiet c.args.other (standing_of c.args.twin.now) (g.L.Link.told c.args.link.now) (g.L.Link.told c.receive.new.link) c.args.counts.now c.receive.new.counts r.0 r.1 r.2 r.3
+    quiet c.args.other (standing_of c.args.twin.now) (g.L.Link.reported c.args.link.now) (g.L.Link.reported c.receive.new.link) c.args.counts.now c.receive.new.counts r.0 r.1 r.2 r.3
 
 pub returns-clause-turned : goal.returns-clause-turned
 returns-clause-turned g c =
@@ -19,6 +19,6 @@ returns-clause-turned g c =
     let len = c.in-Some.len-is in
     let from = c.in-Some.from-is in
     let is : r.0 ≡ datagram c.in-Some.from (take c.in-Some.len c.receive.new.buffer) = cc in
-    turned c.args.other (standing_of c.args.twin.now) (standing_of c.take.new.twin) (g.L.Link.told c.args.link.now) (g.L.Link.told c.receive.new.link) (g.L.Link.told c.send_all.new.link)
+    turned c.args.other (standing_of c.args.twin.now) (standing_of c.take.new.twin) (g.L.Link.reported c.args.link.now) (g.L.Link.reported c.receive.new.link) (g.L.Link.reported c.send_all.new.link)
     c.args.counts.now c.receive.new.counts c.send_all.new.counts r.0 c.in-Some.from (take c.in-Some.len c.receive.new.buffer) c.take.new.twin.out r.1 r.2 is c.in_ok-take.ensures.next
     c.in_ok-take.ensures.sent c.send_all.ensures.short c.send_all.ensures.sent

@@ -1,4 +1,4 @@
-use Rattle.endpoint_laws.proofs.ToldLaw.{bare_law}
+use Rattle.endpoint_laws.proofs.ReportedLaw.{bare_law}
 use Rattle.endpoint_laws.proofs.laws.bare_segments_go_out_where_owed.Goals as goal
 
 pub returns : goal.returns

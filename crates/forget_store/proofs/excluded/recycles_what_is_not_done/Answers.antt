@@ -8,7 +8,7 @@ use Rattle.ft_model.specs.Keys.{AreDistinct}
 use Rattle.ft_model.specs.Log.{Log, Entry, entry_of}
 use Rattle.std.specs.Prelude.{map}
 use Rattle.forget_wire.specs.Value.{named_said}
-use Rattle.long_laws.specs.Forgetting.{Named, forget, is_entry_of, forgotten_in, after_forget, answer_to_forget, told_of}
+use Rattle.long_laws.specs.Forgetting.{Named, forget, is_entry_of, forgotten_in, after_forget, answer_to_forget, reported_of}
 use Rattle.long_laws.specs.Forgetting.ForgetBody.{ForgetMsg}
 use Rattle.forget_store.specs.declared.reply.Reply.{Reply}
 use Rattle.forget_store.specs.Replies.{reply_said}
@@ -38,9 +38,9 @@ unfolding answer_to_forget
 unanswered boot n log e own apart found cisn sisn undone =
     let has : list_any (is_entry_of n) log.entries ≡ true =
     has_its_entry n log.entries apart ∙ (ap (λ o. option_map_or (has_its_numbers n) o false) found ∙ and_from _ _ (eq-eqb e.cisn n.cisn cisn) (eq-eqb e.sisn n.sisn sisn)) in
-    let told : told_of boot (ForgetMsg n) (after_forget log (forget boot n)) ≡ None =
-    ap (told_of boot (ForgetMsg n)) (stays boot n log e apart found undone) ∙ if_true (list_any (is_entry_of n) log.entries) None _ has in
-    if_false (nat_lt boot log.boot) _ _ (never_less boot log.boot own) ∙ (if_true (boot == log.boot) _ None (eq-eqb boot log.boot own) ∙ told)
+    let reported : reported_of boot (ForgetMsg n) (after_forget log (forget boot n)) ≡ None =
+    ap (reported_of boot (ForgetMsg n)) (stays boot n log e apart found undone) ∙ if_true (list_any (is_entry_of n) log.entries) None _ has in
+    if_false (nat_lt boot log.boot) _ _ (never_less boot log.boot own) ∙ (if_true (boot == log.boot) _ None (eq-eqb boot log.boot own) ∙ reported)
 
 unmapped : (r : Option Reply) → option_map reply_said r ≡ None → r ≡ None
 unmapped None e = refl

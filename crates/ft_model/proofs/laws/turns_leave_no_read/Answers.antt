@@ -1,6 +1,6 @@
 use Rattle.ft_model.proofs.laws.turns_leave_no_read.Goals as goal
 use Rattle.server_trait.specs.Service.{machine}
-use Rattle.ft_model.proofs.TurnTells.{settled_reads}
+use Rattle.ft_model.proofs.TurnReports.{settled_reads}
 
 pub returns : goal.returns
 returns g c = λ kind boot server news before after sent t. settled_reads (machine (g.S.Service.started kind) g.S.Service.after g.S.Service.greeting) server boot news before after sent t

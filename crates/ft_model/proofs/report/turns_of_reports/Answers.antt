@@ -1,5 +1,5 @@
-use Rattle.ft_model.proofs.ReportTells.{readable_told}
+use Rattle.ft_model.proofs.ReportDetermines.{readable_reported}
 use Rattle.ft_model.proofs.report.turns_of_reports.Goals as goal
 
 pub returns : goal.returns
-returns c = readable_told
+returns c = readable_reported

@@ -7,4 +7,4 @@ use Rattle.ft_model.proofs.worked_runs.measured_recoveries_are_legal.Goals as go
 
 pub returns : goal.returns
 unfolding report_on_literals pattern
-returns c = record { legal = is_legal; told = refl }
+returns c = record { legal = is_legal; reported = refl }

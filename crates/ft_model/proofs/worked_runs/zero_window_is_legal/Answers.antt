@@ -6,4 +6,4 @@ use Rattle.ft_model.proofs.worked_runs.zero_window_is_legal.Goals as goal
 
 pub returns : goal.returns
 unfolding report_on_literals
-returns c = record { legal = is_legal; told = refl }
+returns c = record { legal = is_legal; reported = refl }

@@ -16,13 +16,13 @@ measured least last next before after old new due (log, grammar, idle, inr (is_d
 pub returns-clause-short : goal.returns-clause-short
 returns-clause-short g c =
     on_ok_weaker c.compact_if_due.result
-    (λ is few. never_replaced c.args.compaction.now.least c.args.compaction.now.last c.compact_if_due.new.compaction.last c.args.kept.now c.compact_if_due.new.kept (g.K.Disk.told c.args.desk.now)
-    (g.K.Disk.told c.compact_if_due.new.desk) (λ due. omega (arith, due.1, few)) is)
+    (λ is few. never_replaced c.args.compaction.now.least c.args.compaction.now.last c.compact_if_due.new.compaction.last c.args.kept.now c.compact_if_due.new.kept (g.K.Disk.reported c.args.desk.now)
+    (g.K.Disk.reported c.compact_if_due.new.desk) (λ due. omega (arith, due.1, few)) is)
     c.compact_if_due.ensures.done
 
 pub returns-clause-measured : goal.returns-clause-measured
 returns-clause-measured g c =
     on_ok_weaker c.compact_if_due.result
-    (λ is longer doubled. measured c.args.compaction.now.least c.args.compaction.now.last c.compact_if_due.new.compaction.last c.args.kept.now c.compact_if_due.new.kept (g.K.Disk.told c.args.desk.now)
-    (g.K.Disk.told c.compact_if_due.new.desk) (longer, doubled) is)
+    (λ is longer doubled. measured c.args.compaction.now.least c.args.compaction.now.last c.compact_if_due.new.compaction.last c.args.kept.now c.compact_if_due.new.kept (g.K.Disk.reported c.args.desk.now)
+    (g.K.Disk.reported c.compact_if_due.new.desk) (longer, doubled) is)
     c.compact_if_due.ensures.done

@@ -1,6 +1,6 @@
 use Rattle.std.proofs.Common.{◌≡◌, ◌≤◌, ℕ, Bool, true, subst, arith, List, [], ◌∷◌, Result, Ok, Err}
 use Rattle.std.specs.Prelude.{IfOk, OnOk}
-use Rattle.ft_io.specs.Told.{Tells}
+use Rattle.ft_io.specs.Reported.{Reports}
 use Rattle.journal_parts.specs.Waits.{waits_in}
 use Rattle.journal_parts.proofs.excluded.never_waits.Goals as goal
 
@@ -12,4 +12,4 @@ one P (Ok n) few waited =
 
 pub returns : goal.returns
 returns g c =
-    one (Tells (g.K.Disk.beside c.args.desk.now).waits (g.K.Disk.beside c.take_round.new.desk).waits) c.take_round.result c.take_round.ensures.count c.take_round.ensures.waited
+    one (Reports (g.K.Disk.beside c.args.desk.now).waits (g.K.Disk.beside c.take_round.new.desk).waits) c.take_round.result c.take_round.ensures.count c.take_round.ensures.waited

@@ -7,7 +7,7 @@ use Rattle.journal_parts.proofs.keeper.open_log.Goals as goal
 
 pub returns-then-role-clause-opened : goal.returns-then-role-clause-opened
 returns-then-role-clause-opened g c =
-    let t = g.K.Disk.told in
+    let t = g.K.Disk.reported in
     let file = g.K.Desk.file_of c.args.desk.now c.args.role.now.journal in
     if_ok c.make_log.result (λ r opens.
     subst (λ begins. IsOpen (grammar_for c.args.role.now.logger) begins file r.1 (place_of r.0) (t c.args.desk.now) (t c.make_log.new.desk)) (sym c.if-role.true)
@@ -16,7 +16,7 @@ returns-then-role-clause-opened g c =
 
 pub returns-then-role-clause-stops : goal.returns-then-role-clause-stops
 returns-then-role-clause-stops g c =
-    let t = g.K.Disk.told in
+    let t = g.K.Disk.reported in
     let file = g.K.Desk.file_of c.args.desk.now c.args.role.now.journal in
     if_err c.make_log.result (λ end stops.
     subst (λ begins. OpeningStops (grammar_for c.args.role.now.logger) begins file (t c.args.desk.now) (t c.make_log.new.desk) end) (sym c.if-role.true)
@@ -25,7 +25,7 @@ returns-then-role-clause-stops g c =
 
 pub returns-else-role-clause-opened : goal.returns-else-role-clause-opened
 returns-else-role-clause-opened g c =
-    let t = g.K.Disk.told in
+    let t = g.K.Disk.reported in
     let file = g.K.Desk.file_of c.args.desk.now c.args.role.now.journal in
     if_ok c.find_log.result (λ r opens.
     subst (λ begins. IsOpen (grammar_for c.args.role.now.logger) begins file r.1 (place_of r.0) (t c.args.desk.now) (t c.find_log.new.desk)) (sym c.if-role.false)
@@ -36,7 +36,7 @@ returns-else-role-clause-opened g c =
 
 pub returns-else-role-clause-stops : goal.returns-else-role-clause-stops
 returns-else-role-clause-stops g c =
-    let t = g.K.Disk.told in
+    let t = g.K.Disk.reported in
     let file = g.K.Desk.file_of c.args.desk.now c.args.role.now.journal in
     if_err c.find_log.result (λ end stops.
     subst (λ begins. OpeningStops (grammar_for c.args.role.now.logger) begins file (t c.args.desk.now) (t c.find_log.new.desk) end) (sym c.if-role.false)

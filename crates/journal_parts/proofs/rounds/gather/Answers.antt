@@ -6,26 +6,26 @@ use Rattle.journal_parts.proofs.rounds.gather.Goals as goal
 
 pub take_next-requires-clause-counts : goal.take_next-requires-clause-counts
 take_next-requires-clause-counts g c =
-    room_to_receive c.loop-count.count c.args.most c.args.kept.now c.loop-count.kept (g.K.Disk.told c.args.desk.now) (g.K.Disk.told c.loop-count.desk) c.args.counts.now
+    room_to_receive c.loop-count.count c.args.most c.args.kept.now c.loop-count.kept (g.K.Disk.reported c.args.desk.now) (g.K.Disk.reported c.loop-count.desk) c.args.counts.now
     c.loop-count.counts c.loop-count.answers.items c.loop-count-test.true c.requires.within c.requires.counts c.loop-count.invariant.gathering
 
 pub returns-in_err-take_next-clause-cut_off : goal.returns-in_err-take_next-clause-cut_off
 returns-in_err-take_next-clause-cut_off g c =
     at_err c.from_residual.result
-    (gathering_cut c.loop-count.count c.args.most c.args.kept.now c.loop-count.kept (g.K.Disk.told c.args.desk.now) (g.K.Disk.told c.loop-count.desk) (g.K.Disk.told c.take_next.new.desk)
+    (gathering_cut c.loop-count.count c.args.most c.args.kept.now c.loop-count.kept (g.K.Disk.reported c.args.desk.now) (g.K.Disk.reported c.loop-count.desk) (g.K.Disk.reported c.take_next.new.desk)
     c.args.counts.now c.loop-count.counts c.loop-count.answers.items c.loop-count-test.true c.requires.within c.loop-count.invariant.gathering c.in_err-take_next.ensures.cut_off)
 
 pub returns-then-not-branch-clause-gathered : goal.returns-then-not-branch-clause-gathered
 returns-then-not-branch-clause-gathered g c =
-    gathered_with c.loop-count.count c.args.most c.in_ok-take_next.field-0 c.args.kept.now c.loop-count.kept c.take_next.new.kept (g.K.Disk.told c.args.desk.now)
-    (g.K.Disk.told c.loop-count.desk) (g.K.Disk.told c.take_next.new.desk) c.args.counts.now c.loop-count.counts c.take_next.new.counts c.loop-count.answers.items
+    gathered_with c.loop-count.count c.args.most c.in_ok-take_next.field-0 c.args.kept.now c.loop-count.kept c.take_next.new.kept (g.K.Disk.reported c.args.desk.now)
+    (g.K.Disk.reported c.loop-count.desk) (g.K.Disk.reported c.take_next.new.desk) c.args.counts.now c.loop-count.counts c.take_next.new.counts c.loop-count.answers.items
     c.take_next.new.answers.items c.loop-count-test.true c.requires.within c.loop-count.invariant.gathering c.in_ok-take_next.ensures.taken
 
 pub loop-count-preserved : goal.loop-count-preserved
 loop-count-preserved g c = record {
   gathering =
-      gathering_on c.loop-count.count c.in_ok-take_next.field-0 c.args.kept.now c.loop-count.kept c.take_next.new.kept (g.K.Disk.told c.args.desk.now) (g.K.Disk.told c.loop-count.desk)
-      (g.K.Disk.told c.take_next.new.desk) c.args.counts.now c.loop-count.counts c.take_next.new.counts c.loop-count.answers.items c.take_next.new.answers.items
+      gathering_on c.loop-count.count c.in_ok-take_next.field-0 c.args.kept.now c.loop-count.kept c.take_next.new.kept (g.K.Disk.reported c.args.desk.now) (g.K.Disk.reported c.loop-count.desk)
+      (g.K.Disk.reported c.take_next.new.desk) c.args.counts.now c.loop-count.counts c.take_next.new.counts c.loop-count.answers.items c.take_next.new.answers.items
       c.if-not-branch.false c.loop-count.invariant.gathering c.in_ok-take_next.ensures.taken;
   no_disk_fault = c.take_next.ensures.no_disk_fault ∙ c.loop-count.invariant.no_disk_fault;
   no_bind_fault = c.take_next.ensures.no_bind_fault ∙ c.loop-count.invariant.no_bind_fault;

@@ -9,7 +9,7 @@ use Rattle.journal_parts.proofs.rounds.serve.Goals as goal
 pub take_round-requires-clause-counts : goal.take_round-requires-clause-counts
 take_round-requires-clause-counts g c =
     let s = c.loop-left.invariant in
-    room_for_round c.args.compact s.done (place_of c.args.kept.now) (place_of c.loop-left.kept) (g.K.Disk.told c.args.desk.now) (g.K.Disk.told c.loop-left.desk) c.loop-left.counts
+    room_for_round c.args.compact s.done (place_of c.args.kept.now) (place_of c.loop-left.kept) (g.K.Disk.reported c.args.desk.now) (g.K.Disk.reported c.loop-left.desk) c.loop-left.counts
     (omega (arith, s.count_is, c.requires.within)) s.serving.served
 
 pub loop-left-preserved : goal.loop-left-preserved
@@ -17,16 +17,16 @@ loop-left-preserved g c =
     let s = c.loop-left.invariant in
     let count = c.in_ok-left.ensures.count.1 in
     let least = c.min.ensures in
-    let compacted = subst (λ n. HasCompacted n c.loop-left.compaction.last c.compact_if_due.new.compaction.last c.loop-left.kept c.compact_if_due.new.kept (g.K.Disk.told c.loop-left.desk)
-    (g.K.Disk.told c.compact_if_due.new.desk)) s.least_is c.in_ok-compact_if_due.ensures.done in
+    let compacted = subst (λ n. HasCompacted n c.loop-left.compaction.last c.compact_if_due.new.compaction.last c.loop-left.kept c.compact_if_due.new.kept (g.K.Disk.reported c.loop-left.desk)
+    (g.K.Disk.reported c.compact_if_due.new.desk)) s.least_is c.in_ok-compact_if_due.ensures.done in
     let ready = readied c.args.compact c.loop-left.compaction.last c.compact_if_due.new.compaction.last s.done (place_of c.args.kept.now) c.loop-left.kept c.compact_if_due.new.kept
-    (g.K.Disk.told c.args.desk.now) (g.K.Disk.told c.loop-left.desk) (g.K.Disk.told c.compact_if_due.new.desk) c.loop-left.counts s.serving compacted in
+    (g.K.Disk.reported c.args.desk.now) (g.K.Disk.reported c.loop-left.desk) (g.K.Disk.reported c.compact_if_due.new.desk) c.loop-left.counts s.serving compacted in
     record {
       done = s.done + c.in_ok-left.field-0;
       count_is = omega (arith, s.count_is, count, least);
       least_is = c.compact_if_due.ensures.least ∙ s.least_is;
       serving = served_on c.args.compact c.compact_if_due.new.compaction.last s.done c.in_ok-left.field-0 (place_of c.args.kept.now) c.compact_if_due.new.kept c.take_round.new.kept
-          (g.K.Disk.told c.args.desk.now) (g.K.Disk.told c.compact_if_due.new.desk) (g.K.Disk.told c.take_round.new.desk) c.loop-left.counts c.take_round.new.counts ready
+          (g.K.Disk.reported c.args.desk.now) (g.K.Disk.reported c.compact_if_due.new.desk) (g.K.Disk.reported c.take_round.new.desk) c.loop-left.counts c.take_round.new.counts ready
           c.in_ok-left.ensures.turned;
       idle = c.in_ok-left.ensures.turned.idle;
       room = subst (λ n. 256 ≤ n) (sym c.take_round.ensures.capacity) s.room;
@@ -38,14 +38,14 @@ loop-left-preserved g c =
 pub returns-in_err-answers-clause-stopped : goal.returns-in_err-answers-clause-stopped
 returns-in_err-answers-clause-stopped g c =
     said_end c.from_residual.result (Node NoMemory)
-    (HasEndedBy c.args.compact c.args.turns (place_of c.args.kept.now) (g.K.Disk.told c.args.desk.now) (g.K.Disk.told c.args.desk.now)) c.from_residual.ensures.1
-    (unbegun c.args.compact c.args.turns (place_of c.args.kept.now) (g.K.Disk.told c.args.desk.now))
+    (HasEndedBy c.args.compact c.args.turns (place_of c.args.kept.now) (g.K.Disk.reported c.args.desk.now) (g.K.Disk.reported c.args.desk.now)) c.from_residual.ensures.1
+    (unbegun c.args.compact c.args.turns (place_of c.args.kept.now) (g.K.Disk.reported c.args.desk.now))
 
 -- a new file was to take the place of the old one
 pub returns-in_err-compact_if_due-clause-stopped : goal.returns-in_err-compact_if_due-clause-stopped
 returns-in_err-compact_if_due-clause-stopped g c =
     let s = c.loop-left.invariant in
-    let t = g.K.Disk.told in
+    let t = g.K.Disk.reported in
     let fails = subst (λ n. FailsToCompact n c.loop-left.compaction.last c.loop-left.kept (t c.loop-left.desk) (t c.compact_if_due.new.desk)) s.least_is
     c.in_err-compact_if_due.ensures.stopped in
     let cut = replacing_cut c.args.compact c.loop-left.compaction.last s.done c.args.turns (place_of c.args.kept.now) c.loop-left.kept (t c.args.desk.now) (t c.loop-left.desk)
@@ -59,7 +59,7 @@ returns-in_err-compact_if_due-clause-stopped g c =
 pub returns-in_err-left-clause-stopped : goal.returns-in_err-left-clause-stopped
 returns-in_err-left-clause-stopped g c =
     let s = c.loop-left.invariant in
-    let t = g.K.Disk.told in
+    let t = g.K.Disk.reported in
     let least = c.min.ensures in
     let compacted = subst (λ n. HasCompacted n c.loop-left.compaction.last c.compact_if_due.new.compaction.last c.loop-left.kept c.compact_if_due.new.kept (t c.loop-left.desk)
     (t c.compact_if_due.new.desk)) s.least_is c.in_ok-compact_if_due.ensures.done in

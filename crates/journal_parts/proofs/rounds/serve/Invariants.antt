@@ -9,7 +9,7 @@ invariant-loop-left g l = record {
   done : ℕ;
   count_is : done + l.left ≡ l.turns;
   least_is : l.compaction.least ≡ l.compact;
-  serving : IsServing l.compact l.compaction.last done (place_of l.fn.kept) (place_of l.kept) (g.K.Disk.told l.fn.desk) (g.K.Disk.told l.desk) l.counts;
+  serving : IsServing l.compact l.compaction.last done (place_of l.fn.kept) (place_of l.kept) (g.K.Disk.reported l.fn.desk) (g.K.Disk.reported l.desk) l.counts;
   idle : l.kept.round ≡ [];
   room : 256 ≤ vec_capacity l.answers;
   never_falls : g.K.Disk.fault_count l.fn.desk ≤ g.K.Disk.fault_count l.desk;

@@ -1,6 +1,6 @@
 use Rattle.std.proofs.Common.{◌≡◌, List, ℕ, true, false, [], ◌∷◌}
 use Rattle.std.proofs.lemmas.Result.{IfOk-weaker}
-use Rattle.ft_io.specs.Told.{Tells}
+use Rattle.ft_io.specs.Reported.{Reports}
 use Rattle.seq_arith.specs.MessageGrammar.{number_bytes}
 use Rattle.disk.specs.declared.calls.DeskCall.TheVariants.{OnDisk}
 use Rattle.disk.specs.declared.calls.DiskCall.TheVariants.{Synced, Replaced}
@@ -11,7 +11,7 @@ use Rattle.kept_log.proofs.excluded.answered_before_the_folder_is_synced.Goals a
 pub returns : goal.returns
 returns g c =
     IfOk-weaker c.compact.result
-    (λ done. done ≡ true → IsCompacted (number_bytes 8 c.args.made) c.args.kept.now.tip c.args.kept.now.log c.compact.new.self.tip (g.K.Disk.told c.args.desk.now)
-    (g.K.Disk.told c.compact.new.desk))
-    (λ done. done ≡ true → (bytes : List ℕ) × Tells (g.K.Disk.told c.args.desk.now) (g.K.Disk.told c.compact.new.desk) (OnDisk (Replaced bytes false) ∷ OnDisk (Synced false) ∷ []))
-    (λ done k is. (front (number_bytes 8 c.args.made) (k is).bodies, (k is).tells)) c.compact.ensures.compacted
+    (λ done. done ≡ true → IsCompacted (number_bytes 8 c.args.made) c.args.kept.now.tip c.args.kept.now.log c.compact.new.self.tip (g.K.Disk.reported c.args.desk.now)
+    (g.K.Disk.reported c.compact.new.desk))
+    (λ done. done ≡ true → (bytes : List ℕ) × Reports (g.K.Disk.reported c.args.desk.now) (g.K.Disk.reported c.compact.new.desk) (OnDisk (Replaced bytes false) ∷ OnDisk (Synced false) ∷ []))
+    (λ done k is. (front (number_bytes 8 c.args.made) (k is).bodies, (k is).reports)) c.compact.ensures.compacted

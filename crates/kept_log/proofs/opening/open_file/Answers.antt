@@ -9,18 +9,18 @@ use Rattle.kept_log.proofs.opening.open_file.Goals as goal
 pub returns-in_err-cut_tail-in-Whole-clause-stopped : goal.returns-in_err-cut_tail-in-Whole-clause-stopped
 returns-in_err-cut_tail-in-Whole-clause-stopped g c =
     let left = g.D.Disk.left in
-    let told = g.D.Disk.told in
+    let reported = g.D.Disk.reported in
     let found : FindsAs (left c.args.disk.now) c.read_file.new.store (Whole c.in-Whole.tip c.in-Whole.tail) = subst (FindsAs (left c.args.disk.now) c.read_file.new.store) c.in-Whole.is c.in_ok-tip.ensures.found in
-    let short : IsCutShort (left c.args.disk.now) (told c.args.disk.now) (told c.cut_tail.new.disk) =
-    whole_stopped (left c.args.disk.now) (told c.args.disk.now) (told c.read_file.new.disk) (told c.cut_tail.new.disk) c.read_file.new.store c.read_file.ensures.told c.in-Whole.tip c.in-Whole.tail
+    let short : IsCutShort (left c.args.disk.now) (reported c.args.disk.now) (reported c.cut_tail.new.disk) =
+    whole_stopped (left c.args.disk.now) (reported c.args.disk.now) (reported c.read_file.new.disk) (reported c.cut_tail.new.disk) c.read_file.new.store c.read_file.ensures.reported c.in-Whole.tip c.in-Whole.tail
     found c.in_err-cut_tail-in-Whole.ensures.stopped in
-    if_err c.from_residual-in_err-cut_tail-in-Whole.result Failed (HasStopped (left c.args.disk.now) (told c.args.disk.now) (told c.cut_tail.new.disk))
+    if_err c.from_residual-in_err-cut_tail-in-Whole.result Failed (HasStopped (left c.args.disk.now) (reported c.args.disk.now) (reported c.cut_tail.new.disk))
     c.from_residual-in_err-cut_tail-in-Whole.ensures.1 (inr short)
 
 pub returns-in_ok-cut_tail-in-Whole-clause-opened : goal.returns-in_ok-cut_tail-in-Whole-clause-opened
 returns-in_ok-cut_tail-in-Whole-clause-opened g c =
     let left = g.D.Disk.left in
-    let told = g.D.Disk.told in
+    let reported = g.D.Disk.reported in
     let found : FindsAs (left c.args.disk.now) c.read_file.new.store (Whole c.in-Whole.tip c.in-Whole.tail) = subst (FindsAs (left c.args.disk.now) c.read_file.new.store) c.in-Whole.is c.in_ok-tip.ensures.found in
-    whole_opened (left c.args.disk.now) (told c.args.disk.now) (told c.read_file.new.disk) (told c.cut_tail.new.disk) c.read_file.new.store c.read_file.ensures.told c.in-Whole.tip c.in-Whole.tail
+    whole_opened (left c.args.disk.now) (reported c.args.disk.now) (reported c.read_file.new.disk) (reported c.cut_tail.new.disk) c.read_file.new.store c.read_file.ensures.reported c.in-Whole.tip c.in-Whole.tail
     found c.in_ok-cut_tail-in-Whole.ensures.cut

@@ -9,7 +9,7 @@ use Rattle.kept_log.proofs.snapshot.write_entries.Goals.{in-Some+in_ok-write_ent
 
 pub loop-i-preserved : goal.loop-i-preserved
 loop-i-preserved g c =
-    let t = g.K.Disk.told in
+    let t = g.K.Disk.reported in
     let a = g.K.Desk.aside in
     let s = c.loop-i.invariant in
     elim c.match-at.branch [
@@ -20,7 +20,7 @@ loop-i-preserved g c =
           rw w.desk-is (rw w.draft-is (
             one_more_at c.args.store.now.boot c.loop-i.i c.args.store.now.entries e (a c.args.desk.now) (a c.loop-i.desk) (a w.write_entry.new.desk) c.args.draft.now c.loop-i.draft
                 w.write_entry.new.draft (sym w.in-Some.ensures) s.0 wrote,
-            quiet_on (t c.args.desk.now) (t c.loop-i.desk) (t w.write_entry.new.desk) s.1 w.write_entry.ensures.told,
+            quiet_on (t c.args.desk.now) (t c.loop-i.desk) (t w.write_entry.new.desk) s.1 w.write_entry.ensures.reported,
             omega (arith, s.2, w.write_entry.ensures.never_falls),
             w.write_entry.ensures.beside ∙ s.3,
           ))

@@ -1,5 +1,5 @@
 use Rattle.std.proofs.Common.{◌≡◌, ◌≤◌, []}
-use Rattle.ft_io.specs.Told.{Tells}
+use Rattle.ft_io.specs.Reported.{Reports}
 use Rattle.log_snapshot.specs.Steps.{steps_left}
 use Rattle.kept_log.proofs.Said.{IsPartly}
 use Rattle.kept_log.proofs.snapshot.write_entry.Given as goal
@@ -7,7 +7,7 @@ use Rattle.kept_log.proofs.snapshot.write_entry.Given as goal
 -- the entry is written up to the next step
 abbrev pub invariant-loop-next : goal.invariant-loop-next
 invariant-loop-next g l = IsPartly l.boot l.entry (g.K.Desk.aside l.initial.desk) l.initial.draft (g.K.Desk.aside l.desk) l.draft l.next
-    × Tells (g.K.Disk.told l.initial.desk) (g.K.Disk.told l.desk) []
+    × Reports (g.K.Disk.reported l.initial.desk) (g.K.Disk.reported l.desk) []
     × (g.K.Disk.fault_count l.initial.desk ≤ g.K.Disk.fault_count l.desk)
     × (g.K.Disk.beside l.desk ≡ g.K.Disk.beside l.initial.desk)
 

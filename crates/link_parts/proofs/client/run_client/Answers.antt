@@ -15,4 +15,4 @@ pub returns-in-Ok-clause-stops : goal.returns-in-Ok-clause-stops
 returns-in-Ok-clause-stops g c = if_err c.run_script.result (λ end run. inr (c.in-Ok.script.items, c.in-Ok.ensures.script, run)) c.run_script.ensures.stops
 
 pub returns-in-Err-clause-stops : goal.returns-in-Err-clause-stops
-returns-in-Err-clause-stops g c = inl (c.in-Err.ensures.stops, does_nothing (g.L.Link.told c.args.link.now) (g.O.Sink.taken c.args.out.now))
+returns-in-Err-clause-stops g c = inl (c.in-Err.ensures.stops, does_nothing (g.L.Link.reported c.args.link.now) (g.O.Sink.taken c.args.out.now))

@@ -1,6 +1,6 @@
 use Rattle.std.proofs.Common.{◌∷◌, subst}
 use Rattle.std.proofs.lemmas.Result.{on_ok_weaker}
-use Rattle.ft_io.specs.Told.{Tells}
+use Rattle.ft_io.specs.Reported.{Reports}
 use Rattle.ft_io.specs.declared.link_call.LinkCall.TheVariants.{Bound}
 use Rattle.tcp_rules.specs.Profile.{grammar_of}
 use Rattle.tcp_rules.specs.Profiles.{profile_of}
@@ -12,7 +12,7 @@ returns g c =
     on_ok_weaker c.run_logger.result
     (λ is. (
       is.turns,
-      subst (λ p. Tells (g.L.Link.told c.args.link.now) (g.L.Link.told c.run_logger.new.link) (Bound c.args.role.now.local ∷ calls_of (grammar_of (profile_of p)) is.turns))
-          c.requires.chosen is.tells,
+      subst (λ p. Reports (g.L.Link.reported c.args.link.now) (g.L.Link.reported c.run_logger.new.link) (Bound c.args.role.now.local ∷ calls_of (grammar_of (profile_of p)) is.turns))
+          c.requires.chosen is.reports,
     ))
     c.run_logger.ensures.done

@@ -19,6 +19,6 @@ returns g c =
     on_ok_weaker c.serve_packet.result
     (λ alone.
     let a = alone Asking in
-    ap (of_key (grammar_in c.args.who) key) (a.put ∙ ap (λ old. old ++ a.told) c.requires.empty)
-    ∙ answers_stranger service node segment key refl c.requires.mine c.args.serving.now _ a.told c.requires.other
+    ap (of_key (grammar_in c.args.who) key) (a.put ∙ ap (λ old. old ++ a.reported) c.requires.empty)
+    ∙ answers_stranger service node segment key refl c.requires.mine c.args.serving.now _ a.reported c.requires.other
     (a.alone key None (subst (λ slot. StandsFor service node key slot None) (sym c.requires.strange) tt) tt)) c.serve_packet.ensures.alone

@@ -29,7 +29,7 @@ returns-clause-turn g c =
       up = search rules;
       client = record { ip = search rules; port = search rules };
       sent = c.in_default-send_all.ensures.segments;
-      told = c.in_default-send_all.ensures.messages;
+      reported = c.in_default-send_all.ensures.messages;
     }) may c.fit_echo.ensures c.in_default.ensures.sound started)
 
 pub returns-clause-alone : goal.returns-clause-alone

@@ -22,11 +22,11 @@ returns-clause-turn g c =
     let fits : FitsKey c.args.key = record { ip = search rules; port = search rules } in
     let small : (i : ℕ) → slice_index c.args.packet.now i < 256 = bytes_of_all c.args.packet.now c.fit.ensures in
     let sound = rw c.in_ok-on_packet.was at c.on_packet.ensures.sound in
-    let told = rw c.in_ok-on_packet.was at c.on_packet.ensures.turn in
+    let reported = rw c.in_ok-on_packet.was at c.on_packet.ensures.turn in
     all_ok c.send_all.result c.send_all.ensures.sent c.send_all.ensures.segments c.send_all.ensures.messages
     (λ sent segments messages segment reads p near key st.
     goes (grammar_in c.args.who) service c.args.who.local c.args.who.boot (Comes segment) p c.on_packet.new.self c.args.key c.on_packet.new.out.segments c.on_packet.new.out.messages c.args.turn.now.sent.items c.send_all.new.turn.sent.items key sent
-    (segment_acts (grammar_in c.args.who) service c.args.who.local c.args.who.boot p c.args.conn.now c.on_packet.new.self c.args.packet.now segment c.on_packet.new.out.segments c.on_packet.new.out.messages small (record { at = (ip, port); up = boot; client = subst FitsKey (sym key) fits; sent = segments; told = messages }) c.requires.sound.sound sound told reads near st (ap grammar_by c.requires.sound.batches)))
+    (segment_acts (grammar_in c.args.who) service c.args.who.local c.args.who.boot p c.args.conn.now c.on_packet.new.self c.args.packet.now segment c.on_packet.new.out.segments c.on_packet.new.out.messages small (record { at = (ip, port); up = boot; client = subst FitsKey (sym key) fits; sent = segments; reported = messages }) c.requires.sound.sound sound reported reads near st (ap grammar_by c.requires.sound.batches)))
 
 pub on_packet-requires-clause-sound : goal.on_packet-requires-clause-sound
 unfolding IsSound
@@ -36,18 +36,18 @@ pub returns-clause-alone : goal.returns-clause-alone
 returns-clause-alone g c =
     let service = machine (g.S.Service.started c.args.who.kind) g.S.Service.after g.S.Service.greeting in
     let fits : FitsKey c.args.key = record { ip = search rules; port = search rules } in
-    let told = came_ok c.args.packet.now (λ segment. Receives g.S.Service.after segment c.args.conn.now c.on_packet.new.self c.on_packet.new.out.segments c.on_packet.new.out.messages) c.requires.accepted
+    let reported = came_ok c.args.packet.now (λ segment. Receives g.S.Service.after segment c.args.conn.now c.on_packet.new.self c.on_packet.new.out.segments c.on_packet.new.out.messages) c.requires.accepted
     (rw c.in_ok-on_packet.was at c.on_packet.ensures.turn) in
     all_ok c.send_all.result c.send_all.ensures.sent c.send_all.ensures.segments c.send_all.ensures.messages
     (λ sent segments messages. leaves_for (grammar_in c.args.who) c.args.key c.args.conn.now c.on_packet.new.out.segments c.on_packet.new.out.messages c.args.turn.now.sent.items c.send_all.new.turn.sent.items fits c.requires.sound.client (ap grammar_by c.requires.sound.batches)
-    (receives_own service told.0 c.args.conn.now c.on_packet.new.self c.on_packet.new.out.segments c.on_packet.new.out.messages told.1) sent)
+    (receives_own service reported.0 c.args.conn.now c.on_packet.new.self c.on_packet.new.out.segments c.on_packet.new.out.messages reported.1) sent)
 
 pub returns-clause-sound : goal.returns-clause-sound
 unfolding IsSound
 returns-clause-sound g c =
     let service = machine (g.S.Service.started c.args.who.kind) g.S.Service.after g.S.Service.greeting in
     let sound = rw c.in_ok-on_packet.was at c.on_packet.ensures.sound in
-    let told = came_ok c.args.packet.now (λ segment. Receives g.S.Service.after segment c.args.conn.now c.on_packet.new.self c.on_packet.new.out.segments c.on_packet.new.out.messages) c.requires.accepted
+    let reported = came_ok c.args.packet.now (λ segment. Receives g.S.Service.after segment c.args.conn.now c.on_packet.new.self c.on_packet.new.out.segments c.on_packet.new.out.messages) c.requires.accepted
     (rw c.in_ok-on_packet.was at c.on_packet.ensures.turn) in
     at_ok c.send_all.result (belongs_on c.args.who c.args.key c.args.conn.now c.on_packet.new.self c.requires.sound
-    (receives_same service told.0 c.args.conn.now c.on_packet.new.self c.on_packet.new.out.segments c.on_packet.new.out.messages told.1) sound)
+    (receives_same service reported.0 c.args.conn.now c.on_packet.new.self c.on_packet.new.out.segments c.on_packet.new.out.messages reported.1) sound)

@@ -20,23 +20,23 @@ returns-clause-turn g c =
     let boot : c.args.who.boot < 2 ^ 64 = search rules in
     let fits : FitsKey c.args.key = record { ip = search rules; port = search rules } in
     let sound = rw c.in_ok-start.was at c.start.ensures.sound in
-    let told = rw c.in_ok-start.was at c.start.ensures.turn in
+    let reported = rw c.in_ok-start.was at c.start.ensures.turn in
     all_ok c.send_all.result c.send_all.ensures.sent c.send_all.ensures.segments c.send_all.ensures.messages
     (λ sent segments messages p key st.
     goes (grammar_in c.args.who) service c.args.who.local c.args.who.boot Becomes_live p c.start.new.self c.args.key c.start.new.out.segments c.start.new.out.messages c.args.turn.now.sent.items c.send_all.new.turn.sent.items key sent
-    (start_acts (grammar_in c.args.who) service c.args.who.local c.args.who.boot p c.args.conn.now c.start.new.self c.start.new.out.segments c.start.new.out.messages (record { at = (ip, port); up = boot; client = subst FitsKey (sym key) fits; sent = segments; told = messages }) c.requires.sound sound told st (ap grammar_by c.requires.batches)))
+    (start_acts (grammar_in c.args.who) service c.args.who.local c.args.who.boot p c.args.conn.now c.start.new.self c.start.new.out.segments c.start.new.out.messages (record { at = (ip, port); up = boot; client = subst FitsKey (sym key) fits; sent = segments; reported = messages }) c.requires.sound sound reported st (ap grammar_by c.requires.batches)))
 
 pub returns-clause-number : goal.returns-clause-number
 returns-clause-number g c =
     let service = machine (g.S.Service.started c.args.who.kind) g.S.Service.after g.S.Service.greeting in
-    let told = rw c.in_ok-start.was at c.start.ensures.turn in
-    at_ok c.send_all.result (number_kept service c.args.conn.now c.start.new.self c.start.new.out.segments c.start.new.out.messages told)
+    let reported = rw c.in_ok-start.was at c.start.ensures.turn in
+    at_ok c.send_all.result (number_kept service c.args.conn.now c.start.new.self c.start.new.out.segments c.start.new.out.messages reported)
 
 pub returns-clause-delta : goal.returns-clause-delta
 returns-clause-delta g c =
     let service = machine (g.S.Service.started c.args.who.kind) g.S.Service.after g.S.Service.greeting in
-    let told = rw c.in_ok-start.was at c.start.ensures.turn in
-    at_ok c.send_all.result (delta_kept service c.args.conn.now c.start.new.self c.start.new.out.segments c.start.new.out.messages told)
+    let reported = rw c.in_ok-start.was at c.start.ensures.turn in
+    at_ok c.send_all.result (delta_kept service c.args.conn.now c.start.new.self c.start.new.out.segments c.start.new.out.messages reported)
 
 pub start-requires-clause-sound : goal.start-requires-clause-sound
 unfolding IsSound
@@ -45,15 +45,15 @@ start-requires-clause-sound g c = c.requires.sound
 pub returns-clause-alone : goal.returns-clause-alone
 returns-clause-alone g c =
     let fits : FitsKey c.args.key = record { ip = search rules; port = search rules } in
-    let told = rw c.in_ok-start.was at c.start.ensures.turn in
+    let reported = rw c.in_ok-start.was at c.start.ensures.turn in
     all_ok c.send_all.result c.send_all.ensures.sent c.send_all.ensures.segments c.send_all.ensures.messages
     (λ sent segments messages. leaves_for (grammar_in c.args.who) c.args.key c.args.conn.now c.start.new.out.segments c.start.new.out.messages c.args.turn.now.sent.items c.send_all.new.turn.sent.items fits c.requires.client (ap grammar_by c.requires.batches)
-    (starts_own g.S.Service.after c.args.conn.now c.start.new.self c.start.new.out.segments c.start.new.out.messages told) sent)
+    (starts_own g.S.Service.after c.args.conn.now c.start.new.self c.start.new.out.segments c.start.new.out.messages reported) sent)
 
 pub returns-clause-sound : goal.returns-clause-sound
 unfolding IsSound
 returns-clause-sound g c =
     let sound = rw c.in_ok-start.was at c.start.ensures.sound in
-    let told = rw c.in_ok-start.was at c.start.ensures.turn in
+    let reported = rw c.in_ok-start.was at c.start.ensures.turn in
     at_ok c.send_all.result (belongs_on c.args.who c.args.key c.args.conn.now c.start.new.self c.requires
-    (starts_same (machine (g.S.Service.started c.args.who.kind) g.S.Service.after g.S.Service.greeting) c.args.conn.now c.start.new.self c.start.new.out.segments c.start.new.out.messages told) sound)
+    (starts_same (machine (g.S.Service.started c.args.who.kind) g.S.Service.after g.S.Service.greeting) c.args.conn.now c.start.new.self c.start.new.out.segments c.start.new.out.messages reported) sound)

@@ -21,7 +21,7 @@ returns-clause-turn g c =
     all_ok c.send_all.result c.send_all.ensures.sent c.send_all.ensures.segments c.send_all.ensures.messages
     (λ sent segments messages p near key st.
     goes (grammar_in c.args.who) service c.args.who.local c.args.who.boot Ticks p c.on_tick.new.self c.args.key c.on_tick.new.out.segments c.on_tick.new.out.messages c.args.turn.now.sent.items c.send_all.new.turn.sent.items key sent
-    (tick_acts (grammar_in c.args.who) service c.args.who.local c.args.who.boot p c.args.conn.now c.on_tick.new.self c.on_tick.new.out.segments c.on_tick.new.out.messages (record { at = (ip, port); up = boot; client = subst FitsKey (sym key) fits; sent = segments; told = messages }) c.requires.sound c.on_tick.ensures.sound c.on_tick.ensures.turn st (ap grammar_by c.requires.batches)))
+    (tick_acts (grammar_in c.args.who) service c.args.who.local c.args.who.boot p c.args.conn.now c.on_tick.new.self c.on_tick.new.out.segments c.on_tick.new.out.messages (record { at = (ip, port); up = boot; client = subst FitsKey (sym key) fits; sent = segments; reported = messages }) c.requires.sound c.on_tick.ensures.sound c.on_tick.ensures.turn st (ap grammar_by c.requires.batches)))
 
 pub on_tick-requires-clause-sound : goal.on_tick-requires-clause-sound
 unfolding IsSound

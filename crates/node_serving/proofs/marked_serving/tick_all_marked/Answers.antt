@@ -21,10 +21,10 @@ tick_marked-requires-clause-sound g c = sound_at c.args.who c.loop-i.slots.entri
 
 pub loop-i-preserved : goal.loop-i-preserved
 loop-i-preserved g c =
-    let told = rw c.in_ok-tick_marked.was at c.tick_marked.ensures in
+    let reported = rw c.in_ok-tick_marked.was at c.tick_marked.ensures in
     let within : c.loop-i.i < length c.loop-i.slots.entries = search rules in (
       length-set_value_at c.loop-i.slots.entries c.loop-i.i c.tick_marked.new.slot ∙ c.loop-i.invariant.0,
-      sound_put c.args.who c.loop-i.slots.entries c.loop-i.i c.key_at-key.result c.tick_marked.new.slot c.loop-i.invariant.1 c.key_at-key.ensures told.sound,
+      sound_put c.args.who c.loop-i.slots.entries c.loop-i.i c.key_at-key.result c.tick_marked.new.slot c.loop-i.invariant.1 c.key_at-key.ensures reported.sound,
       λ every standing marking places keeps settled st.
           let by = marker_of g.S.Service (saving g.S.Saved.form g.S.Saved.state_of g.S.Saved.is_savable) c.args.who every in
           let node = node_of c.args.who standing in
@@ -35,17 +35,17 @@ loop-i-preserved g c =
           let here = subst (λ s. SlotStands by.service node key s place)
           (value_at c.loop-i.slots.entries c.loop-i.i key was c.index_mut.result.now at c.index_mut.ensures.value) stands in
           subst (λ k. SlotTicks by node marking k place c.tick_marked.new.slot c.loop-i.turn.sent.items c.tick_marked.new.turn.sent.items) (sym same)
-          (told.turn every standing marking place keeps calm (subst (λ k. SlotStands by.service node k c.index_mut.result.now place) same here))),
+          (reported.turn every standing marking place keeps calm (subst (λ k. SlotStands by.service node k c.index_mut.result.now place) same here))),
       λ standing.
           let service = service_of g.S.Service c.args.who in
           let node = node_of c.args.who standing in
           let sofar = c.loop-i.invariant.3 standing in
           let at : slice_get c.loop-i.slots.entries c.loop-i.i ≡ Some (c.key_at-key.result, c.index_mut.result.now) =
           entry_at c.loop-i.slots.entries c.loop-i.i c.key_at-key.result c.index_mut.result.now c.key_at-key.ensures c.index_mut.ensures.value in
-          let tick = told.alone in (
-            sofar.0 ++ tick.only.told,
-            tick_among service node c.key_at-key.result c.args.turn.now.sent.items sofar.0 tick.only.told c.loop-i.turn.sent.items tick.mid c.tick_marked.new.turn.sent.items sofar.1 tick.only.put tick.among,
-            rw (add-one) (ticks_more service node c.loop-i.i c.args.slots.now.entries c.loop-i.slots.entries sofar.0 tick.only.told c.key_at-key.result c.index_mut.result.now
+          let tick = reported.alone in (
+            sofar.0 ++ tick.only.reported,
+            tick_among service node c.key_at-key.result c.args.turn.now.sent.items sofar.0 tick.only.reported c.loop-i.turn.sent.items tick.mid c.tick_marked.new.turn.sent.items sofar.1 tick.only.put tick.among,
+            rw (add-one) (ticks_more service node c.loop-i.i c.args.slots.now.entries c.loop-i.slots.entries sofar.0 tick.only.reported c.key_at-key.result c.index_mut.result.now
                 c.tick_marked.new.slot at sofar.2
                 (ticks_slot service node c.key_at-key.result c.index_mut.result.now c.tick_marked.new.slot c.loop-i.turn.sent.items tick.mid tick.only (λ q stands. tick.goes standing q stands))),
           ),
@@ -87,7 +87,7 @@ returns-clause-turn g c = λ every standing marking places keeps settled st.
 pub returns-clause-alone : goal.returns-clause-alone
 returns-clause-alone g c = λ standing.
     let all = c.loop-i.invariant.3 standing in record {
-      told = all.0;
+      reported = all.0;
       slots = ticks_alone (service_of g.S.Service c.args.who) (node_of c.args.who standing) c.loop-i.i c.args.slots.now.entries c.loop-i.slots.entries [] all.0 all.0 (search rules) c.len-i-end.ensures.unique refl all.2;
       among = all.1;
     }

@@ -23,5 +23,5 @@ invariant-loop-i g l = (length l.slots.entries ≡ l.i-end)
     → AllStand (service_of g.S.Service l.who) (node_of l.who standing) l.initial.slots.entries places
     → FirstTick (marker_of g.S.Service (saving g.S.Saved.form g.S.Saved.state_of g.S.Saved.is_savable) l.who every) (node_of l.who standing) marking places l.i l.slots.entries
     l.initial.turn.sent.items l.turn.sent.items)
-    × ((standing : Stage) → (told : List Wire) × AreAmong (IsMarkOfSubject (node_of l.who standing) (Plain_comes Tick_comes)) (l.initial.turn.sent.items ++ told) l.turn.sent.items
-    × TicksUpTo (service_of g.S.Service l.who) (node_of l.who standing) l.i l.initial.slots.entries l.slots.entries told)
+    × ((standing : Stage) → (reported : List Wire) × AreAmong (IsMarkOfSubject (node_of l.who standing) (Plain_comes Tick_comes)) (l.initial.turn.sent.items ++ reported) l.turn.sent.items
+    × TicksUpTo (service_of g.S.Service l.who) (node_of l.who standing) l.i l.initial.slots.entries l.slots.entries reported)

@@ -31,7 +31,7 @@ returns-clause-turn g c = λ mine stage opened places number st.
     let service = machine (g.S.Service.started c.args.who.kind) g.S.Service.after g.S.Service.greeting in
     let node = node_of c.args.who stage in
     let es = c.args.slots.now.entries in
-    let told = rw c.in_ok-ask.was at c.ask.ensures in
+    let reported = rw c.in_ok-ask.was at c.ask.ensures in
     let timed : c.asked-timestamping.result ≡ timestamping_for (profile_of c.args.who.profile) segment = c.asked-timestamping.ensures ∙ ap (λ b. asked_by b segment.head.timestamps) c.timestamps.ensures in
     let size : text_size segment.head.mss (timestamps_sent (timestamping_for (profile_of c.args.who.profile) segment)) ≡ c.text_size.result =
     sym (c.text_size.ensures.size ∙ ap (text_size segment.head.mss) (c.sent.ensures ∙ ap timestamps_sent timed)) in
@@ -41,7 +41,7 @@ returns-clause-turn g c = λ mine stage opened places number st.
     subst (λ xs. Admits service node segment opened places c.add.result.0 xs c.args.turn.now.sent.items c.ask.new.turn.sent.items) (sym (added strange))
     (one_admitted service node segment opened places c.sender-key.result o c.add.result.0 es c.args.turn.now.sent.items c.ask.new.turn.sent.items from strange mine opening.0 opening.1 st
     (same_numbers (profile_of c.args.who.profile) c.args.who.isn opened segment c.sender-key.result o from refl (sym number) size) (sym timed)
-    (c.add.ensures ∙ (ap (λ n. (n + 65536) % 2 ^ 32) number ∙ next_number c.args.who.isn opened)) told)
+    (c.add.ensures ∙ (ap (λ n. (n + 65536) % 2 ^ 32) number ∙ next_number c.args.who.isn opened)) reported)
 
 pub returns-then-not-may_open-clause-alone : goal.returns-then-not-may_open-clause-alone
 returns-then-not-may_open-clause-alone g c = λ stage.
@@ -54,7 +54,7 @@ returns-clause-alone g c = λ stage.
     let segment = segment_of c.args.segment.now in
     let from : source_of segment ≡ c.sender-key.result = sym c.sender-key.ensures in
     let strange : lookup (key_eq c.sender-key.result) c.args.slots.now.entries ≡ None = subst (λ k. lookup (key_eq k) c.args.slots.now.entries ≡ None) from c.requires.strange in
-    let told = rw c.in_ok-ask.was at c.ask.ensures in
+    let reported = rw c.in_ok-ask.was at c.ask.ensures in
     let timed : c.asked-timestamping.result ≡ timestamping_for (profile_of c.args.who.profile) segment = c.asked-timestamping.ensures ∙ ap (λ b. asked_by b segment.head.timestamps) c.timestamps.ensures in
     let size : text_size segment.head.mss (timestamps_sent (timestamping_for (profile_of c.args.who.profile) segment)) ≡ c.text_size.result =
     sym (c.text_size.ensures.size ∙ ap (text_size segment.head.mss) (c.sent.ensures ∙ ap timestamps_sent timed)) in
@@ -64,7 +64,7 @@ returns-clause-alone g c = λ stage.
     subst (λ k. Knocks (node_of c.args.who stage) segment k c.args.next.now.0 c.add.result.0 c.args.slots.now.entries c.add_slot.new.slots.entries c.args.turn.now.sent.items c.ask.new.turn.sent.items) (sym from)
     (comes_in (node_of c.args.who stage) segment c.sender-key.result c.args.next.now.0 c.add.result.0 c.args.slots.now.entries c.add_slot.new.slots.entries c.args.turn.now.sent.items c.ask.new.turn.sent.items o opening
     (numbers_are (node_of c.args.who stage) segment c.sender-key.result c.args.next.now.0 o from refl refl size) timed
-    c.add.ensures (added strange) told)
+    c.add.ensures (added strange) reported)
 
 pub returns-clause-counted : goal.returns-clause-counted
 returns-clause-counted g c = λ counted. counted_on c.args.who.isn c.args.next.now.0 c.add.result.0 counted c.add.ensures

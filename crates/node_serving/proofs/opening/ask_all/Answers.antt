@@ -16,12 +16,12 @@ loop-i-init g c = λ stage. put_none (grammar_in c.args.who) c.args.turn.now.sen
 
 pub loop-i-preserved : goal.loop-i-preserved
 loop-i-preserved g c =
-    let told = rw c.in_ok-ask_slot.was at c.ask_slot.ensures in
+    let reported = rw c.in_ok-ask_slot.was at c.ask_slot.ensures in
     let es = c.args.slots.now.entries in
     let at : slice_get es c.loop-i.i ≡ Some (c.key_at.result, c.index.result.now) = entry_at es c.loop-i.i c.key_at.result c.index.result.now c.key_at.ensures c.index.ensures in
     λ stage. subst (λ ps. ArePut (grammar_in c.args.who) ps c.args.turn.now.sent.items c.ask_slot.new.turn.sent.items) (sym (opens_more (node_of c.args.who stage) Tick_comes es c.loop-i.i c.key_at.result c.index.result.now at))
     (put_on (grammar_in c.args.who) (all_opens (node_of c.args.who stage) Tick_comes (take c.loop-i.i es)) (slot_opens (node_of c.args.who stage) Tick_comes c.key_at.result c.index.result.now)
-    c.args.turn.now.sent.items c.loop-i.turn.sent.items c.ask_slot.new.turn.sent.items (c.loop-i.invariant stage) (told stage))
+    c.args.turn.now.sent.items c.loop-i.turn.sent.items c.ask_slot.new.turn.sent.items (c.loop-i.invariant stage) (reported stage))
 
 pub returns-clause-asked : goal.returns-clause-asked
 returns-clause-asked g c =

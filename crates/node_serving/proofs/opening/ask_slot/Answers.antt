@@ -12,6 +12,6 @@ returns-in-Pending g c = on_ok_weaker c.ask.result
 
 pub returns-in-Live : goal.returns-in-Live
 returns-in-Live g c = λ stage.
-    let told = c.args.turn.now.sent.items in
-    ⊎_elim (λ live. subst (λ s. ArePut (grammar_in c.args.who) (slot_opens (node_of c.args.who stage) Tick_comes c.args.key s) told told) (sym live.1) (put_none (grammar_in c.args.who) told))
-    (λ done. subst (λ s. ArePut (grammar_in c.args.who) (slot_opens (node_of c.args.who stage) Tick_comes c.args.key s) told told) (sym done) (put_none (grammar_in c.args.who) told)) c.in-Live.is
+    let reported = c.args.turn.now.sent.items in
+    ⊎_elim (λ live. subst (λ s. ArePut (grammar_in c.args.who) (slot_opens (node_of c.args.who stage) Tick_comes c.args.key s) reported reported) (sym live.1) (put_none (grammar_in c.args.who) reported))
+    (λ done. subst (λ s. ArePut (grammar_in c.args.who) (slot_opens (node_of c.args.who stage) Tick_comes c.args.key s) reported reported) (sym done) (put_none (grammar_in c.args.who) reported)) c.in-Live.is

@@ -4,7 +4,7 @@ use Rattle.server_trait.specs.Service.{AreBytes}
 use Rattle.seq_arith.specs.MessageGrammar.{kind_of, message_length, spelling_by}
 use Rattle.logger_wire.specs.Value.{body_of, message_of, IsSendableBy}
 use Rattle.ft_model.specs.Wire.Party.{The_server, The_logger}
-use Rattle.wrapped_conn.proofs.Told.{head_short}
+use Rattle.wrapped_conn.proofs.Reported.{head_short}
 use Rattle.node_serving.specs.Identity.{grammar_in}
 use Rattle.node_serving.proofs.Sendable.{front_in}
 use Rattle.node_serving.proofs.sent.send_message.Goals as goal

@@ -35,12 +35,12 @@ returns-in-Live-clause-turn g c = on_ok_weaker c.serve_live.result
 
 pub returns-in-Done-clause-turn : goal.returns-in-Done-clause-turn
 returns-in-Done-clause-turn g c = on_ok_weaker c.refuse_closed.result
-    (λ told mine stage place near st.
+    (λ reported mine stage place near st.
     let service = machine (g.S.Service.started c.args.who.kind) g.S.Service.after g.S.Service.greeting in
     let segment = segment_of c.args.segment.now in
     subst (λ s. SlotGoes service (node_of c.args.who stage) (Packet_comes segment) (source_of segment) place s c.args.turn.now.sent.items c.refuse_closed.new.turn.sent.items) (sym c.in-Done.is)
     (done_answers service (node_of c.args.who stage) segment mine place c.args.turn.now.sent.items c.refuse_closed.new.turn.sent.items
-    (subst (λ s. SlotStands service (node_of c.args.who stage) (source_of segment) s place) c.in-Done.is st) told)) c.refuse_closed.ensures
+    (subst (λ s. SlotStands service (node_of c.args.who stage) (source_of segment) s place) c.in-Done.is st) reported)) c.refuse_closed.ensures
 
 pub returns-in-Live-clause-alone : goal.returns-in-Live-clause-alone
 returns-in-Live-clause-alone g c = on_ok_weaker c.serve_live.result
@@ -51,10 +51,10 @@ returns-in-Pending-clause-alone g c = quiet_for (grammar_in c.args.who) (source_
 
 pub returns-in-Done-clause-alone : goal.returns-in-Done-clause-alone
 returns-in-Done-clause-alone g c = on_ok_weaker c.refuse_closed.result
-    (λ told.
+    (λ reported.
     let segment = segment_of c.args.segment.now in
     refused_for (grammar_in c.args.who) (source_of segment) (as_closed c.args.who.local segment) c.args.turn.now.sent.items c.refuse_closed.new.turn.sent.items
-    (closed_back c.args.who.local segment (source_of segment) refl) told) c.refuse_closed.ensures
+    (closed_back c.args.who.local segment (source_of segment) refl) reported) c.refuse_closed.ensures
 
 pub returns-in-Live-clause-known : goal.returns-in-Live-clause-known
 returns-in-Live-clause-known g c = at_ok c.serve_live.result (sym (ap known_as c.in-Live.is))

@@ -19,11 +19,11 @@ tick_slot-requires g c = sound_at c.args.who c.loop-i.slots.entries c.loop-i.i c
 
 pub loop-i-preserved : goal.loop-i-preserved
 loop-i-preserved g c =
-    let told = rw c.in_ok-tick_slot.was at c.tick_slot.ensures in
+    let reported = rw c.in_ok-tick_slot.was at c.tick_slot.ensures in
     let within : c.loop-i.i < length c.loop-i.slots.entries = search rules in
     let service = machine (g.S.Service.started c.args.who.kind) g.S.Service.after g.S.Service.greeting in (
       length-set_value_at c.loop-i.slots.entries c.loop-i.i c.tick_slot.new.slot ∙ c.loop-i.invariant.0,
-      sound_put c.args.who c.loop-i.slots.entries c.loop-i.i c.key_at-key.result c.tick_slot.new.slot c.loop-i.invariant.1 c.key_at-key.ensures told.sound,
+      sound_put c.args.who c.loop-i.slots.entries c.loop-i.i c.key_at-key.result c.tick_slot.new.slot c.loop-i.invariant.1 c.key_at-key.ensures reported.sound,
       λ stage places st. first_more service (node_of c.args.who stage) Tick_comes places c.loop-i.i c.loop-i.slots.entries c.args.turn.now.sent.items
           c.loop-i.turn.sent.items c.tick_slot.new.turn.sent.items c.tick_slot.new.slot within (c.loop-i.invariant.2 stage places st)
           (λ key was place at stands.
@@ -31,19 +31,19 @@ loop-i-preserved g c =
           let here = subst (λ s. SlotStands service (node_of c.args.who stage) key s place)
           (value_at c.loop-i.slots.entries c.loop-i.i key was c.index_mut.result.now at c.index_mut.ensures.value) stands in
           subst (λ k. SlotGoes service (node_of c.args.who stage) Tick_comes k place c.tick_slot.new.slot c.loop-i.turn.sent.items c.tick_slot.new.turn.sent.items) (sym same)
-          (told.turn stage place tt (subst (λ k. SlotStands service (node_of c.args.who stage) k c.index_mut.result.now place) same here))),
+          (reported.turn stage place tt (subst (λ k. SlotStands service (node_of c.args.who stage) k c.index_mut.result.now place) same here))),
       λ stage.
           let sofar = c.loop-i.invariant.3 stage in
           let at : slice_get c.loop-i.slots.entries c.loop-i.i ≡ Some (c.key_at-key.result, c.index_mut.result.now) =
           entry_at c.loop-i.slots.entries c.loop-i.i c.key_at-key.result c.index_mut.result.now c.key_at-key.ensures c.index_mut.ensures.value in (
-            sofar.0 ++ told.alone.told,
-            told.alone.put ∙ (ap (λ ws. ws ++ told.alone.told) sofar.1 ∙ append_assoc c.args.turn.now.sent.items sofar.0 told.alone.told),
-            rw (add-one) (ticks_more service (node_of c.args.who stage) c.loop-i.i c.args.slots.now.entries c.loop-i.slots.entries sofar.0 told.alone.told c.key_at-key.result c.index_mut.result.now
+            sofar.0 ++ reported.alone.reported,
+            reported.alone.put ∙ (ap (λ ws. ws ++ reported.alone.reported) sofar.1 ∙ append_assoc c.args.turn.now.sent.items sofar.0 reported.alone.reported),
+            rw (add-one) (ticks_more service (node_of c.args.who stage) c.loop-i.i c.args.slots.now.entries c.loop-i.slots.entries sofar.0 reported.alone.reported c.key_at-key.result c.index_mut.result.now
                 c.tick_slot.new.slot at sofar.2
-                (ticks_slot service (node_of c.args.who stage) c.key_at-key.result c.index_mut.result.now c.tick_slot.new.slot c.loop-i.turn.sent.items c.tick_slot.new.turn.sent.items told.alone
-                (λ q stands. told.turn stage q tt stands))),
+                (ticks_slot service (node_of c.args.who stage) c.key_at-key.result c.index_mut.result.now c.tick_slot.new.slot c.loop-i.turn.sent.items c.tick_slot.new.turn.sent.items reported.alone
+                (λ q stands. reported.turn stage q tt stands))),
           ),
-      same_known_at c.loop-i.slots.entries c.loop-i.i c.index_mut.result.now c.tick_slot.new.slot c.index_mut.ensures.value told.known ∙ c.loop-i.invariant.4,
+      same_known_at c.loop-i.slots.entries c.loop-i.i c.index_mut.result.now c.tick_slot.new.slot c.index_mut.ensures.value reported.known ∙ c.loop-i.invariant.4,
     )
 
 pub returns-clause-turn : goal.returns-clause-turn

@@ -14,6 +14,6 @@ invariant-loop-i g l = (length l.slots.entries ≡ l.i-end)
     × AllSound l.who l.slots.entries
     × ((stage : Stage) (places : List Place) → AllStand (machine (g.S.Service.started l.who.kind) g.S.Service.after g.S.Service.greeting) (node_of l.who stage) l.initial.slots.entries places
     → FirstGo (machine (g.S.Service.started l.who.kind) g.S.Service.after g.S.Service.greeting) (node_of l.who stage) Tick_comes places l.i l.slots.entries l.initial.turn.sent.items l.turn.sent.items)
-    × ((stage : Stage) → (told : List Wire) × (l.turn.sent.items ≡ l.initial.turn.sent.items ++ told)
-    × TicksUpTo (machine (g.S.Service.started l.who.kind) g.S.Service.after g.S.Service.greeting) (node_of l.who stage) l.i l.initial.slots.entries l.slots.entries told)
+    × ((stage : Stage) → (reported : List Wire) × (l.turn.sent.items ≡ l.initial.turn.sent.items ++ reported)
+    × TicksUpTo (machine (g.S.Service.started l.who.kind) g.S.Service.after g.S.Service.greeting) (node_of l.who stage) l.i l.initial.slots.entries l.slots.entries reported)
     × (known_in l.slots.entries ≡ known_in l.initial.slots.entries)

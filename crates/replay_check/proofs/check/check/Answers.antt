@@ -3,7 +3,7 @@ use Rattle.sample_servers.specs.AnyService.{any_machine}
 use Rattle.trace_check.specs.Leads.{IsRejection}
 use Rattle.replay_check.specs.Checks.{report_limit, CheckStops}
 use Rattle.replay_check.specs.Stream.{stream}
-use Rattle.replay_check.proofs.Checking.{IsCounted, source_stops, judging_stops, telling_stops, finds}
+use Rattle.replay_check.proofs.Checking.{IsCounted, source_stops, judging_stops, reporting_stops, finds}
 use Rattle.replay_check.proofs.check.check.Goals as goal
 use Rattle.ft_io.proofs.Outcomes.{of_error}
 
@@ -29,7 +29,7 @@ returns-in_err-write_legal-clause-stops g c =
     let few : length c.in_ok-text.text.items ≤ report_limit = omega (arith, c.in_ok-text.ensures.within, ap length c.deref.ensures.value, c.deref.ensures.len) in
     of_error c.from_residual-in_err-write_legal.result c.from_residual-in_err-write_legal.ensures.1
     (λ end is. subst (CheckStops (stream g.I.Source.left g.I.Source.fault_count c.args.input.now c.read_to_limit.new.input) (stream g.O.Sink.taken g.O.Sink.fault_count c.args.out.now c.write_legal.new.out)) (sym is)
-    (telling_stops c.joint_traces_are_safe.ensures (stream g.I.Source.left g.I.Source.fault_count c.args.input.now c.read_to_limit.new.input)
+    (reporting_stops c.joint_traces_are_safe.ensures (stream g.I.Source.left g.I.Source.fault_count c.args.input.now c.read_to_limit.new.input)
     (stream g.O.Sink.taken g.O.Sink.fault_count c.args.out.now c.write_legal.new.out) c.in_ok-text.text.items c.in_ok-yes.yes.events c.in_ok-yes.yes.packets
     c.in_ok-text.ensures.end c.in_ok-text.ensures.no_fault c.in_ok-text.ensures.whole few
     (subst (λ text. IsCounted text c.in_ok-yes.yes.events c.in_ok-yes.yes.packets) c.deref.ensures.value c.in_ok-yes.ensures.legal)

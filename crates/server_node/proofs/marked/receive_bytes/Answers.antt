@@ -8,7 +8,7 @@ use Rattle.mark_laws.specs.MarkedNode.MarkedInput.{Plain_comes, Mark_comes}
 use Rattle.ft_model.specs.Node.Input.{Noise_comes}
 use Rattle.node_serving.specs.Identity.{service_of}
 use Rattle.server_node.specs.MarkedApart.{MarkedTurnsApart}
-use Rattle.server_node.specs.MarkedTurns.{BytesTurnMarked, heard_of}
+use Rattle.server_node.specs.MarkedTurns.{BytesTurnMarked, received_of}
 use Rattle.server_node.proofs.MarkedApart.{marked_still}
 use Rattle.server_node.proofs.marked.receive_bytes.Goals as goal
 
@@ -29,22 +29,22 @@ returns-then-m-who-clause-turn g c =
 
 pub returns-clause-turn : goal.returns-clause-turn
 returns-clause-turn g c = if_ok c.receive_mark.result
-    (λ after told.
-    subst (λ r. BytesTurnMarked g.S.Service (saving g.S.Saved.form g.S.Saved.state_of g.S.Saved.is_savable) c.args.who r c.args.node after c.receive_mark.new.turn.sent.items) c.in-Ok.ensures.value (told c.if-m-who.false))
+    (λ after reported.
+    subst (λ r. BytesTurnMarked g.S.Service (saving g.S.Saved.form g.S.Saved.state_of g.S.Saved.is_savable) c.args.who r c.args.node after c.receive_mark.new.turn.sent.items) c.in-Ok.ensures.value (reported c.if-m-who.false))
     c.receive_mark.ensures.turn
 
 pub returns-in_default-clause-apart : goal.returns-in_default-clause-apart
 returns-in_default-clause-apart g c =
-    subst (λ r. MarkedTurnsApart g.S.Service c.args.who (heard_of r) c.args.node c.args.node c.args.turn.now.sent.items) c.in_default.ensures.value
+    subst (λ r. MarkedTurnsApart g.S.Service c.args.who (received_of r) c.args.node c.args.node c.args.turn.now.sent.items) c.in_default.ensures.value
     (λ standing. marked_still (service_of g.S.Service c.args.who) c.args.who standing (Plain_comes Noise_comes) c.args.node c.args.turn.now.sent.items c.requires.empty (search rules) c.requires.sound (λ key. refl))
 
 pub returns-then-m-who-clause-apart : goal.returns-then-m-who-clause-apart
 returns-then-m-who-clause-apart g c =
-    subst (λ r. MarkedTurnsApart g.S.Service c.args.who (heard_of r) c.args.node c.args.node c.args.turn.now.sent.items) c.in-Ok.ensures.value
+    subst (λ r. MarkedTurnsApart g.S.Service c.args.who (received_of r) c.args.node c.args.node c.args.turn.now.sent.items) c.in-Ok.ensures.value
     (λ standing. marked_still (service_of g.S.Service c.args.who) c.args.who standing (Mark_comes (mark_message_of c.in-Ok.m)) c.args.node c.args.turn.now.sent.items c.requires.empty (search rules) c.requires.sound (λ key. refl))
 
 pub returns-clause-apart : goal.returns-clause-apart
 returns-clause-apart g c = if_ok c.receive_mark.result
-    (λ after told.
-    subst (λ r. MarkedTurnsApart g.S.Service c.args.who (heard_of r) c.args.node after c.receive_mark.new.turn.sent.items) c.in-Ok.ensures.value (told c.if-m-who.false))
+    (λ after reported.
+    subst (λ r. MarkedTurnsApart g.S.Service c.args.who (received_of r) c.args.node after c.receive_mark.new.turn.sent.items) c.in-Ok.ensures.value (reported c.if-m-who.false))
     c.receive_mark.ensures.apart

@@ -29,21 +29,21 @@ pub returns-in_ok-hold-in-Fetching-clause-turn : goal.returns-in_ok-hold-in-Fetc
 returns-in_ok-hold-in-Fetching-clause-turn g c = λ every standing awaits marking bytes lengths unfenced fair st.
     let by = marker_of g.S.Service (saving g.S.Saved.form g.S.Saved.state_of g.S.Saved.is_savable) c.args.who every in
     let here = subst (λ s. MarkedStands by (node_at c.args.who standing awaits marking) (record { stage = s; marks = c.args.node.marks })) c.in-Fetching.is st in
-    let told = rw c.in_ok-hold-in-Fetching.was at c.hold.ensures.held in
+    let reported = rw c.in_ok-hold-in-Fetching.was at c.hold.ensures.held in
     subst (λ n. TurnsOn by c.args.who bytes lengths (node_at c.args.who standing awaits marking) (Plain_comes (Packet_comes (segment_of c.args.segment.now))) n c.hold.new.turn.sent.items) (sym c.fetching_on.ensures)
     (held_at by c.args.who (segment_of c.args.segment.now) standing awaits marking bytes lengths c.in-Fetching.fetching c.args.node.marks c.hold.new.turn.sent.items
-    (λ count fetched stands. subst (λ (l : List Wire). ArePut (grammar_in c.args.who) (held (node_of c.args.who standing) fetched (segment_of c.args.segment.now)) l c.hold.new.turn.sent.items) c.requires.empty (told standing count fetched stands)) here)
+    (λ count fetched stands. subst (λ (l : List Wire). ArePut (grammar_in c.args.who) (held (node_of c.args.who standing) fetched (segment_of c.args.segment.now)) l c.hold.new.turn.sent.items) c.requires.empty (reported standing count fetched stands)) here)
 
 pub returns-in_ok-serve_packet_marked-in-Serving-clause-turn : goal.returns-in_ok-serve_packet_marked-in-Serving-clause-turn
 returns-in_ok-serve_packet_marked-in-Serving-clause-turn g c = λ every standing awaits marking bytes lengths unfenced fair st.
     let by = marker_of g.S.Service (saving g.S.Saved.form g.S.Saved.state_of g.S.Saved.is_savable) c.args.who every in
     let here = subst (λ s. MarkedStands by (node_at c.args.who standing awaits marking) (record { stage = s; marks = c.args.node.marks })) c.in-Serving.is st in
-    let told = rw c.in_ok-serve_packet_marked-in-Serving.was at c.serve_packet_marked.ensures.turn in
+    let reported = rw c.in_ok-serve_packet_marked-in-Serving.was at c.serve_packet_marked.ensures.turn in
     subst (λ n. TurnsOn by c.args.who bytes lengths (node_at c.args.who standing awaits marking) (Plain_comes (Packet_comes (segment_of c.args.segment.now))) n c.serve_packet_marked.new.turn.sent.items) (sym c.serving_on.ensures)
     (served_at by c.args.who (Packet_comes (segment_of c.args.segment.now)) standing awaits marking c.in-Serving.serving c.serve_packet_marked.new.serving c.args.node.marks c.serve_packet_marked.new.marks bytes lengths c.serve_packet_marked.new.turn.sent.items unfenced
     (λ opened places is keeps settled stands.
     subst (λ (l : List Wire). ServingGoesMarked by (node_at c.args.who standing awaits marking) (Packet_comes (segment_of c.args.segment.now)) opened places c.serve_packet_marked.new.serving c.serve_packet_marked.new.marks l c.serve_packet_marked.new.turn.sent.items) c.requires.empty
-    (told every standing awaits marking opened places (subst (AreNear c.args.who.local (segment_of c.args.segment.now)) is fair.near) keeps settled stands)) here)
+    (reported every standing awaits marking opened places (subst (AreNear c.args.who.local (segment_of c.args.segment.now)) is fair.near) keeps settled stands)) here)
 
 pub returns-in-Asking-clause-apart : goal.returns-in-Asking-clause-apart
 returns-in-Asking-clause-apart g c = λ standing.
@@ -66,9 +66,9 @@ pub returns-in_ok-serve_packet_marked-in-Serving-clause-apart : goal.returns-in_
 returns-in_ok-serve_packet_marked-in-Serving-clause-apart g c = λ standing.
     let service = service_of g.S.Service c.args.who in
     let node = node_of c.args.who standing in
-    let told = rw c.in_ok-serve_packet_marked-in-Serving.was at c.serve_packet_marked.ensures.alone in
+    let reported = rw c.in_ok-serve_packet_marked-in-Serving.was at c.serve_packet_marked.ensures.alone in
     let untouched = rw c.in_ok-serve_packet_marked-in-Serving.was at c.serve_packet_marked.ensures.untouched in
     subst (λ s. MarkedApart service node (Plain_comes (Packet_comes (segment_of c.args.segment.now))) (record { stage = s; marks = c.args.node.marks }) c.serving_on.result c.serve_packet_marked.new.turn.sent.items) (sym c.in-Serving.is)
     (subst (λ n. MarkedApart service node (Plain_comes (Packet_comes (segment_of c.args.segment.now))) (record { stage = marked.Serving c.in-Serving.serving; marks = c.args.node.marks }) n c.serve_packet_marked.new.turn.sent.items) (sym c.serving_on.ensures)
     (serving_beside service node (Plain_comes (Packet_comes (segment_of c.args.segment.now))) c.in-Serving.serving c.serve_packet_marked.new.serving c.args.node.marks c.serve_packet_marked.new.marks c.args.turn.now.sent.items
-    c.serve_packet_marked.new.turn.sent.items c.requires.empty (told standing) (λ nobody. untouched (not_true (is_for c.args.who.local (segment_of c.args.segment.now)) nobody))))
+    c.serve_packet_marked.new.turn.sent.items c.requires.empty (reported standing) (λ nobody. untouched (not_true (is_for c.args.who.local (segment_of c.args.segment.now)) nobody))))

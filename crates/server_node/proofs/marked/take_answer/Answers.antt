@@ -32,7 +32,7 @@ proceed-requires-clause-own g c = answer_kept g.S.Service.started g.S.Service.af
 pub returns-clause-turn : goal.returns-clause-turn
 returns-clause-turn g c =
     if_ok c.proceed.result
-    (λ after told every standing awaits marking bytes lengths unfenced fair st.
+    (λ after reported every standing awaits marking bytes lengths unfenced fair st.
     let by = marker_of g.S.Service (saving g.S.Saved.form g.S.Saved.state_of g.S.Saved.is_savable) c.args.who every in
     let fits : c.in_ok-on_answer.field-0 ≡ true = search rules in
     took_at by c.args.who standing awaits marking bytes lengths (any_of c.args.m.now) c.args.fetching c.on_answer.new.self c.in_ok-on_answer.field-0 c.args.marks c.note_last.new.marks after c.proceed.new.turn.sent.items unfenced fair c.fit_part.ensures st
@@ -41,4 +41,4 @@ returns-clause-turn g c =
     → AnyLeads (machine (g.S.Service.started k) g.S.Service.after g.S.Service.greeting) (writing g.S.Saved.form (g.S.Saved.state_of k)) x (any_of c.args.m.now) c.in_ok-on_answer.field-0 c.args.fetching c.on_answer.new.self) c.requires.own.kind
     (c.in_ok-on_answer.ensures.law x))
     (λ no. absurd (true≢false (sym fits ∙ no)))
-    (λ yes. (c.in_ok-note_last.ensures, λ then_marking count more keeps stands sound. told every standing awaits marking then_marking count more keeps stands sound))) c.proceed.ensures.turn
+    (λ yes. (c.in_ok-note_last.ensures, λ then_marking count more keeps stands sound. reported every standing awaits marking then_marking count more keeps stands sound))) c.proceed.ensures.turn

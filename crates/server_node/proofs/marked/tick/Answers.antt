@@ -1,7 +1,7 @@
 use Rattle.std.proofs.Common.{◌≡◌, refl, sym, subst, true≢false, List, [], ◌∷◌}
 use Rattle.server_trait.specs.Service.{machine}
 use Rattle.mark_laws.specs.Restart.{next_question}
-use Rattle.ft_model.specs.Connection.{told_by}
+use Rattle.ft_model.specs.Connection.{reported_by}
 use Rattle.ft_model.specs.Node.Input.{Tick_comes}
 use Rattle.ft_model.specs.Wire.{Wire}
 use Rattle.seq_arith.specs.Message.Body.{HelloMsg}
@@ -25,10 +25,10 @@ pub returns-in_ok-send_hello-in-Asking-clause-turn : goal.returns-in_ok-send_hel
 returns-in_ok-send_hello-in-Asking-clause-turn g c = λ every standing awaits marking bytes lengths unfenced fair st.
     let by = marker_of g.S.Service (saving g.S.Saved.form g.S.Saved.state_of g.S.Saved.is_savable) c.args.who every in
     let here = subst (λ s. MarkedStands by (node_at c.args.who standing awaits marking) (record { stage = s; marks = c.args.node.marks })) c.in-Asking.is st in
-    let told = rw c.in_ok-send_hello-in-Asking.was at c.send_hello.ensures in
+    let reported = rw c.in_ok-send_hello-in-Asking.was at c.send_hello.ensures in
     subst (λ n. TurnsOn by c.args.who bytes lengths (node_at c.args.who standing awaits marking) (Plain_comes Tick_comes) n c.send_hello.new.turn.sent.items) (sym c.asking.ensures)
     (hello_at by c.args.who standing awaits marking bytes lengths c.args.node.marks c.send_hello.new.turn.sent.items
-    (subst (λ xs. ArePut (grammar_in c.args.who) (told_by c.args.who.boot HelloMsg ∷ []) xs c.send_hello.new.turn.sent.items) c.requires.empty told) here)
+    (subst (λ xs. ArePut (grammar_in c.args.who) (reported_by c.args.who.boot HelloMsg ∷ []) xs c.send_hello.new.turn.sent.items) c.requires.empty reported) here)
 
 pub returns-in_ok-ask-in-Fetching-clause-turn : goal.returns-in_ok-ask-in-Fetching-clause-turn
 returns-in_ok-ask-in-Fetching-clause-turn g c = λ every standing awaits marking bytes lengths unfenced fair st.
@@ -45,12 +45,12 @@ pub returns-in_ok-serve_tick_marked-in-Serving-clause-turn : goal.returns-in_ok-
 returns-in_ok-serve_tick_marked-in-Serving-clause-turn g c = λ every standing awaits marking bytes lengths unfenced fair st.
     let by = marker_of g.S.Service (saving g.S.Saved.form g.S.Saved.state_of g.S.Saved.is_savable) c.args.who every in
     let here = subst (λ s. MarkedStands by (node_at c.args.who standing awaits marking) (record { stage = s; marks = c.args.node.marks })) c.in-Serving.is st in
-    let told = rw c.in_ok-serve_tick_marked-in-Serving.was at c.serve_tick_marked.ensures.turn in
+    let reported = rw c.in_ok-serve_tick_marked-in-Serving.was at c.serve_tick_marked.ensures.turn in
     subst (λ n. TurnsOn by c.args.who bytes lengths (node_at c.args.who standing awaits marking) (Plain_comes Tick_comes) n c.serve_tick_marked.new.turn.sent.items) (sym c.serving_on.ensures)
     (served_at by c.args.who Tick_comes standing awaits marking c.in-Serving.serving c.serve_tick_marked.new.serving c.args.node.marks c.args.node.marks bytes lengths c.serve_tick_marked.new.turn.sent.items unfenced
     (λ opened places is keeps settled stands.
     subst (λ (l : List Wire). ServingGoesMarked by (node_at c.args.who standing awaits marking) Tick_comes opened places c.serve_tick_marked.new.serving c.args.node.marks l c.serve_tick_marked.new.turn.sent.items) c.requires.empty
-    (told every standing awaits marking opened places tt keeps settled stands)) here)
+    (reported every standing awaits marking opened places tt keeps settled stands)) here)
 
 pub returns-in_ok-send_hello-in-Asking-clause-apart : goal.returns-in_ok-send_hello-in-Asking-clause-apart
 returns-in_ok-send_hello-in-Asking-clause-apart g c = λ standing.
@@ -70,8 +70,8 @@ pub returns-in_ok-serve_tick_marked-in-Serving-clause-apart : goal.returns-in_ok
 returns-in_ok-serve_tick_marked-in-Serving-clause-apart g c = λ standing.
     let service = service_of g.S.Service c.args.who in
     let node = node_of c.args.who standing in
-    let told = rw c.in_ok-serve_tick_marked-in-Serving.was at c.serve_tick_marked.ensures.alone in
+    let reported = rw c.in_ok-serve_tick_marked-in-Serving.was at c.serve_tick_marked.ensures.alone in
     subst (λ s. MarkedApart service node (Plain_comes Tick_comes) (record { stage = s; marks = c.args.node.marks }) c.serving_on.result c.serve_tick_marked.new.turn.sent.items) (sym c.in-Serving.is)
     (subst (λ n. MarkedApart service node (Plain_comes Tick_comes) (record { stage = marked.Serving c.in-Serving.serving; marks = c.args.node.marks }) n c.serve_tick_marked.new.turn.sent.items) (sym c.serving_on.ensures)
     (serving_beside service node (Plain_comes Tick_comes) c.in-Serving.serving c.serve_tick_marked.new.serving c.args.node.marks c.args.node.marks c.args.turn.now.sent.items c.serve_tick_marked.new.turn.sent.items
-    c.requires.empty (told standing) (λ nobody. absurd (true≢false (sym nobody)))))
+    c.requires.empty (reported standing) (λ nobody. absurd (true≢false (sym nobody)))))

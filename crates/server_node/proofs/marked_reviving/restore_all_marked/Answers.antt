@@ -30,16 +30,16 @@ restore_marked-requires-clause-sound g c = c.loop-entry.invariant.0
 pub loop-entry-preserved : goal.loop-entry-preserved
 loop-entry-preserved g c =
     let service = service_of g.S.Service c.args.who in
-    let told = rw c.in_ok-restore_marked.was at c.restore_marked.ensures in (
-      told.sound,
-      told.counted c.loop-entry.invariant.1,
+    let reported = rw c.in_ok-restore_marked.was at c.restore_marked.ensures in (
+      reported.sound,
+      reported.counted c.loop-entry.invariant.1,
       λ every standing marking fetched st distinct sound bytes keeps.
           let by = marker_of g.S.Service (saving g.S.Saved.form g.S.Saved.state_of g.S.Saved.is_savable) c.args.who every in
           restores_more service (RestoredSoFar by (node_of c.args.who standing) marking) fetched c.loop-entry.entries c.advance.new.self c.in-Some.entry
           (c.loop-entry.serving, c.loop-entry.marks) (c.restore_marked.new.serving, c.restore_marked.new.marks)
           c.args.turn.now.sent.items c.loop-entry.turn.sent.items c.restore_marked.new.turn.sent.items (c.loop-entry.invariant.2 every standing marking fetched st distinct sound bytes keeps)
           (λ left waits. subst (λ o. FirstIs service left o c.advance.new.self) c.in-Some.is (c.advance.ensures.law (g.S.Service.started c.args.who.kind) left waits))
-          (λ front f done there whole is sofar. told.turn every standing marking f done c.args.turn.now.sent.items is
+          (λ front f done there whole is sofar. reported.turn every standing marking f done c.args.turn.now.sent.items is
           (λ live. sound_at service front f done (subst (AreSound service) there sound) live whole)
           (bytes_at front f done (subst AllBytes there bytes)) (distinct_at front f done (subst AreDistinct there distinct)) sofar),
     )

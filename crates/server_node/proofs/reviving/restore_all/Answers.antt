@@ -30,18 +30,18 @@ pub loop-entry-preserved : goal.loop-entry-preserved
 loop-entry-preserved g c =
     let fresh = g.S.Service.started c.args.who.kind in
     let service = machine fresh g.S.Service.after g.S.Service.greeting in
-    let told = rw c.in_ok-restore.was at c.restore.ensures in (
-      told.sound,
-      told.counted c.loop-entry.invariant.1,
+    let reported = rw c.in_ok-restore.was at c.restore.ensures in (
+      reported.sound,
+      reported.counted c.loop-entry.invariant.1,
       λ standing fetched st distinct sound. restores_more service (AreRestored service (node_of c.args.who standing)) fetched c.loop-entry.entries c.advance.new.self c.in-Some.entry c.loop-entry.serving c.restore.new.serving
           c.args.turn.now.sent.items c.loop-entry.turn.sent.items c.restore.new.turn.sent.items (c.loop-entry.invariant.2 standing fetched st distinct sound)
           (λ left waits. subst (λ o. FirstIs service left o c.advance.new.self) c.in-Some.is (c.advance.ensures.law fresh left waits))
-          (λ front f done there whole is sofar. told.turn standing f done c.args.turn.now.sent.items is (λ live. sound_at service front f done (subst (AreSound service) there sound) live whole)
+          (λ front f done there whole is sofar. reported.turn standing f done c.args.turn.now.sent.items is (λ live. sound_at service front f done (subst (AreSound service) there sound) live whole)
           (distinct_at front f done (subst AreDistinct there distinct)) sofar),
       λ standing fetched st distinct. restores_more service (RestoredAlone service (node_of c.args.who standing)) fetched c.loop-entry.entries c.advance.new.self c.in-Some.entry c.loop-entry.serving c.restore.new.serving
           c.args.turn.now.sent.items c.loop-entry.turn.sent.items c.restore.new.turn.sent.items (c.loop-entry.invariant.3 standing fetched st distinct)
           (λ left waits. subst (λ o. FirstIs service left o c.advance.new.self) c.in-Some.is (c.advance.ensures.law fresh left waits))
-          (λ front f done there whole is sofar. told.alone standing f done c.args.turn.now.sent.items is (distinct_at front f done (subst AreDistinct there distinct)) sofar),
+          (λ front f done there whole is sofar. reported.alone standing f done c.args.turn.now.sent.items is (distinct_at front f done (subst AreDistinct there distinct)) sofar),
     )
 
 pub returns-clause-turn : goal.returns-clause-turn

@@ -23,21 +23,21 @@ use Rattle.server_node.proofs.serving_turn.serve.Goals as goal
 pub returns-in_ok-serve_tick-in-Tick-clause-turn : goal.returns-in_ok-serve_tick-in-Tick-clause-turn
 returns-in_ok-serve_tick-in-Tick-clause-turn g c =
     let service = machine (g.S.Service.started c.args.who.kind) g.S.Service.after g.S.Service.greeting in
-    let told = rw c.in_ok-serve_tick-in-Tick.was at c.serve_tick.ensures.turn in
+    let reported = rw c.in_ok-serve_tick-in-Tick.was at c.serve_tick.ensures.turn in
     subst (λ i. StageTurns g.S.Service c.args.who i (stage.Serving c.args.serving.now) (stage.Serving c.serve_tick.new.serving) c.serve_tick.new.turn.sent.items)
     (sym (ap (input_of (grammar_in c.args.who)) c.in-Tick.is))
     (λ standing near sound st. serves_on service c.args.who standing Tick_comes c.args.serving.now c.serve_tick.new.serving c.serve_tick.new.turn.sent.items refl st
     (λ opened places is stands. subst (λ xs. ServingGoes service (node_of c.args.who standing) Tick_comes opened places c.serve_tick.new.serving xs c.serve_tick.new.turn.sent.items) c.requires.empty
-    (told standing opened places tt stands)))
+    (reported standing opened places tt stands)))
 
 pub returns-in_ok-serve_tick-in-Tick-clause-apart : goal.returns-in_ok-serve_tick-in-Tick-clause-apart
 returns-in_ok-serve_tick-in-Tick-clause-apart g c =
     let service = machine (g.S.Service.started c.args.who.kind) g.S.Service.after g.S.Service.greeting in
-    let told = rw c.in_ok-serve_tick-in-Tick.was at c.serve_tick.ensures.alone in
+    let reported = rw c.in_ok-serve_tick-in-Tick.was at c.serve_tick.ensures.alone in
     let known = rw c.in_ok-serve_tick-in-Tick.was at c.serve_tick.ensures.known in
     subst (λ i. TurnsApart service c.args.who i (stage.Serving c.args.serving.now) (stage.Serving c.serve_tick.new.serving) c.serve_tick.new.turn.sent.items)
     (sym (ap (input_of (grammar_in c.args.who)) c.in-Tick.is))
-    (serving_apart service c.args.who Tick_comes c.args.serving.now c.serve_tick.new.serving c.args.turn.now.sent.items c.serve_tick.new.turn.sent.items c.requires.empty told
+    (serving_apart service c.args.who Tick_comes c.args.serving.now c.serve_tick.new.serving c.args.turn.now.sent.items c.serve_tick.new.turn.sent.items c.requires.empty reported
     (λ standing nobody. absurd (true≢false (sym nobody))) (λ standing. tt) known)
 
 pub serve_bytes-requires-clause-read : goal.serve_bytes-requires-clause-read
@@ -49,11 +49,11 @@ returns-in_ok-serve_bytes-in-Ok-clause-turn g c =
     let service = machine (g.S.Service.started c.args.who.kind) g.S.Service.after g.S.Service.greeting in
     let reads : reading c.in-Packet.bytes.now ≡ Ok segment = sym c.read_packet.ensures ∙ ap packets.seen c.in-Ok.is in
     let input : input_of (grammar_in c.args.who) c.args.input ≡ Packet_comes segment = ap (input_of (grammar_in c.args.who)) c.in-Packet.is ∙ ap segment_or_noise reads in
-    let told = rw c.in_ok-serve_bytes-in-Ok.was at c.serve_bytes.ensures.turn in
+    let reported = rw c.in_ok-serve_bytes-in-Ok.was at c.serve_bytes.ensures.turn in
     subst (λ i. StageTurns g.S.Service c.args.who i (stage.Serving c.args.serving.now) (stage.Serving c.serve_bytes.new.serving) c.serve_bytes.new.turn.sent.items) (sym input)
     (λ standing near sound st. serves_on service c.args.who standing (Packet_comes segment) c.args.serving.now c.serve_bytes.new.serving c.serve_bytes.new.turn.sent.items refl st
     (λ opened places is stands. subst (λ xs. ServingGoes service (node_of c.args.who standing) (Packet_comes segment) opened places c.serve_bytes.new.serving xs c.serve_bytes.new.turn.sent.items) c.requires.empty
-    (told standing opened places (subst (AreNear c.args.who.local segment) is near) stands)))
+    (reported standing opened places (subst (AreNear c.args.who.local segment) is near) stands)))
 
 pub returns-in_ok-serve_bytes-in-Ok-clause-apart : goal.returns-in_ok-serve_bytes-in-Ok-clause-apart
 returns-in_ok-serve_bytes-in-Ok-clause-apart g c =
@@ -114,10 +114,10 @@ pub returns-in-Ok-read_message-clause-unfenced : goal.returns-in-Ok-read_message
 returns-in-Ok-read_message-clause-unfenced g c =
     let is : input_of (grammar_in c.args.who) c.args.input ≡ Message_comes (messages.message_of c.in-Ok-read_message.m) =
     ap (input_of (grammar_in c.args.who)) c.in-Message.is ∙ ap message_or_noise (sym c.read_message.ensures.value ∙ ap messages.seen c.in-Ok-read_message.is) in
-    subst (λ i. OnOk c.hear.result (IsUnfenced c.args.who i)) (sym is) c.hear.ensures.unfenced
+    subst (λ i. OnOk c.receive.result (IsUnfenced c.args.who i)) (sym is) c.receive.ensures.unfenced
 
 pub returns-in-Ok-read_message-clause-memory : goal.returns-in-Ok-read_message-clause-memory
 returns-in-Ok-read_message-clause-memory g c =
     let is : input_of (grammar_in c.args.who) c.args.input ≡ Message_comes (messages.message_of c.in-Ok-read_message.m) =
     ap (input_of (grammar_in c.args.who)) c.in-Message.is ∙ ap message_or_noise (sym c.read_message.ensures.value ∙ ap messages.seen c.in-Ok-read_message.is) in
-    subst (λ i. IsErrOf c.hear.result NoMemory → IsUnfenced c.args.who i) (sym is) c.hear.ensures.memory
+    subst (λ i. IsErrOf c.receive.result NoMemory → IsUnfenced c.args.who i) (sym is) c.receive.ensures.memory

@@ -15,9 +15,9 @@ use Rattle.server_node.proofs.StagedApart.{rest_apart, noise_knows}
 use Rattle.ft_io.proofs.Choices.{by_cases}
 use Rattle.node_serving.specs.Identity.{node_of, grammar_in}
 use Rattle.server_node.specs.Stages.{is_marked}
-use Rattle.server_node.proofs.MarkedStage.{stands_plain, marked_apart, unheard, unheard_apart}
+use Rattle.server_node.proofs.MarkedStage.{stands_plain, marked_apart, unreceived, unreceived_apart}
 use Rattle.node_serving.specs.Markers.{saving}
-use Rattle.server_node.specs.MarkedTurns.{IsTurnMarked, marked_input_of, heard_of}
+use Rattle.server_node.specs.MarkedTurns.{IsTurnMarked, marked_input_of, received_of}
 use Rattle.mark_laws.specs.MarkedNode.MarkedInput.{Plain_comes}
 use Rattle.seq_arith.specs.MarkGrammar.{reading as mark_reading}
 use Rattle.server_node.proofs.MarkedNodes.{noise_turn, not_of_log, of_the_log}
@@ -70,7 +70,7 @@ returns-in_ok-receive_about_mark-in-Err-read_message-clause-turn g c = λ standi
     let service = machine (g.S.Service.started c.args.who.kind) g.S.Service.after g.S.Service.greeting in
     let noise : input_of (grammar_in c.args.who) c.args.input ≡ Noise_comes = ap (input_of (grammar_in c.args.who)) c.in-Message.is ∙ ap message_or_noise (sym c.read_message.ensures.value ∙ ap messages.seen c.in-Err-read_message.is) in
     let rests = c.in_ok-receive_about_mark-in-Err-read_message.ensures.plain (stands_plain service (node_of c.args.who standing) c.args.stage st) in
-    unheard service c.args.who standing (input_of (grammar_in c.args.who) c.args.input) c.args.stage c.in_ok-receive_about_mark-in-Err-read_message.field-0 c.receive_about_mark.new.turn.sent.items noise rests.0 (rests.1 ∙ c.requires.empty) st
+    unreceived service c.args.who standing (input_of (grammar_in c.args.who) c.args.input) c.args.stage c.in_ok-receive_about_mark-in-Err-read_message.field-0 c.receive_about_mark.new.turn.sent.items noise rests.0 (rests.1 ∙ c.requires.empty) st
 
 pub returns-in_ok-receive_about_mark-in-Err-read_message-clause-apart : goal.returns-in_ok-receive_about_mark-in-Err-read_message-clause-apart
 returns-in_ok-receive_about_mark-in-Err-read_message-clause-apart g c =
@@ -80,7 +80,7 @@ returns-in_ok-receive_about_mark-in-Err-read_message-clause-apart g c =
     (λ on. marked_apart service c.args.who (input_of (grammar_in c.args.who) c.args.input) c.args.stage c.in_ok-receive_about_mark-in-Err-read_message.field-0 c.receive_about_mark.new.turn.sent.items on)
     (λ off.
     let rests = c.in_ok-receive_about_mark-in-Err-read_message.ensures.plain off in
-    unheard_apart service c.args.who (input_of (grammar_in c.args.who) c.args.input) c.args.stage c.in_ok-receive_about_mark-in-Err-read_message.field-0 c.receive_about_mark.new.turn.sent.items noise rests.0 (rests.1 ∙ c.requires.empty)
+    unreceived_apart service c.args.who (input_of (grammar_in c.args.who) c.args.input) c.args.stage c.in_ok-receive_about_mark-in-Err-read_message.field-0 c.receive_about_mark.new.turn.sent.items noise rests.0 (rests.1 ∙ c.requires.empty)
     (search rules) c.requires.sound)
 
 pub returns-in-Ok-read_message-clause-turn : goal.returns-in-Ok-read_message-clause-turn
@@ -132,7 +132,7 @@ returns-in-Err-clause-marked g c =
 
 pub returns-in_ok-receive_about_mark-in-Err-read_message-clause-marked : goal.returns-in_ok-receive_about_mark-in-Err-read_message-clause-marked
 returns-in_ok-receive_about_mark-in-Err-read_message-clause-marked g c =
-    let is : marked_input_of (grammar_in c.args.who) c.args.input ≡ heard_of (mark_reading c.in-Message.bytes.now) =
+    let is : marked_input_of (grammar_in c.args.who) c.args.input ≡ received_of (mark_reading c.in-Message.bytes.now) =
     ap (marked_input_of (grammar_in c.args.who)) c.in-Message.is ∙ not_of_log (grammar_in c.args.who) c.in-Message.bytes.now c.in-Err-read_message.field-0 (sym c.read_message.ensures.value ∙ ap messages.seen c.in-Err-read_message.is) in
     subst (λ i. IsTurnMarked g.S.Service (saving g.S.Saved.form g.S.Saved.state_of g.S.Saved.is_savable) c.args.who i c.args.stage c.in_ok-receive_about_mark-in-Err-read_message.field-0 c.receive_about_mark.new.turn.sent.items) (sym is) c.in_ok-receive_about_mark-in-Err-read_message.ensures.marked
 

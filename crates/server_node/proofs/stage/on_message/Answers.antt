@@ -33,11 +33,11 @@ pub returns-in_ok-serve_message-in-Serving-clause-turn : goal.returns-in_ok-serv
 returns-in_ok-serve_message-in-Serving-clause-turn g c = λ boot unfenced standing near sound st.
     let service = machine (g.S.Service.started c.args.who.kind) g.S.Service.after g.S.Service.greeting in
     let input = Message_comes (message_of c.args.m.now) in
-    let told = rw c.in_ok-serve_message-in-Serving.was at c.serve_message.ensures.turn in
+    let reported = rw c.in_ok-serve_message-in-Serving.was at c.serve_message.ensures.turn in
     serves_on service c.args.who standing input c.in-Serving.serving c.serve_message.new.serving c.serve_message.new.turn.sent.items (unfenced standing)
     (subst (λ s. StageStands service (node_of c.args.who standing) s) c.in-Serving.is st)
     (λ opened places is stands. subst (λ xs. ServingGoes service (node_of c.args.who standing) input opened places c.serve_message.new.serving xs c.serve_message.new.turn.sent.items) c.requires.empty
-    (told boot standing opened places tt stands))
+    (reported boot standing opened places tt stands))
 
 pub returns-in-Fetching-clause-turn : goal.returns-in-Fetching-clause-turn
 returns-in-Fetching-clause-turn g c =
@@ -78,11 +78,11 @@ returns-in-Fetching-clause-apart g c = if_ok c.take_answer.result
 pub returns-in_ok-serve_message-in-Serving-clause-apart : goal.returns-in_ok-serve_message-in-Serving-clause-apart
 returns-in_ok-serve_message-in-Serving-clause-apart g c = λ boot.
     let service = machine (g.S.Service.started c.args.who.kind) g.S.Service.after g.S.Service.greeting in
-    let told = rw c.in_ok-serve_message-in-Serving.was at c.serve_message.ensures.alone in
+    let reported = rw c.in_ok-serve_message-in-Serving.was at c.serve_message.ensures.alone in
     let known = rw c.in_ok-serve_message-in-Serving.was at c.serve_message.ensures.known in
     subst (λ s. TurnsApart service c.args.who (Message_comes (message_of c.args.m.now)) s (stage.Serving c.serve_message.new.serving) c.serve_message.new.turn.sent.items) (sym c.in-Serving.is)
     (serving_apart service c.args.who (Message_comes (message_of c.args.m.now)) c.in-Serving.serving c.serve_message.new.serving c.args.turn.now.sent.items c.serve_message.new.turn.sent.items
-    c.requires.empty (told boot) (λ standing nobody. absurd (true≢false (sym nobody ∙ ap not (eq-eqb c.args.m.now.boot c.args.who.boot boot)))) (λ standing. tt) (known boot))
+    c.requires.empty (reported boot) (λ standing nobody. absurd (true≢false (sym nobody ∙ ap not (eq-eqb c.args.m.now.boot c.args.who.boot boot)))) (λ standing. tt) (known boot))
 
 pub returns-in_ok-receive-in-Marked-clause-turn : goal.returns-in_ok-receive-in-Marked-clause-turn
 returns-in_ok-receive-in-Marked-clause-turn g c = λ boot unfenced standing near sound st.

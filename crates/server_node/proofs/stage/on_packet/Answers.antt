@@ -34,19 +34,19 @@ pub returns-in_ok-serve_bytes-in-Serving-clause-turn : goal.returns-in_ok-serve_
 returns-in_ok-serve_bytes-in-Serving-clause-turn g c = λ standing near sound st.
     let segment = segment_of c.args.segment.now in
     let service = machine (g.S.Service.started c.args.who.kind) g.S.Service.after g.S.Service.greeting in
-    let told = rw c.in_ok-serve_bytes-in-Serving.was at c.serve_bytes.ensures.turn in
+    let reported = rw c.in_ok-serve_bytes-in-Serving.was at c.serve_bytes.ensures.turn in
     serves_on service c.args.who standing (Packet_comes segment) c.in-Serving.serving c.serve_bytes.new.serving c.serve_bytes.new.turn.sent.items refl
     (subst (λ s. StageStands service (node_of c.args.who standing) s) c.in-Serving.is st)
     (λ opened places is stands. subst (λ xs. ServingGoes service (node_of c.args.who standing) (Packet_comes segment) opened places c.serve_bytes.new.serving xs c.serve_bytes.new.turn.sent.items) c.requires.empty
-    (told standing opened places (subst (AreNear c.args.who.local segment) is near) stands))
+    (reported standing opened places (subst (AreNear c.args.who.local segment) is near) stands))
 
 pub returns-in_ok-hold-in-Fetching-clause-turn : goal.returns-in_ok-hold-in-Fetching-clause-turn
 returns-in_ok-hold-in-Fetching-clause-turn g c = λ standing near sound st.
     let segment = segment_of c.args.segment.now in
     let service = machine (g.S.Service.started c.args.who.kind) g.S.Service.after g.S.Service.greeting in
-    let told = rw c.in_ok-hold-in-Fetching.was at c.hold.ensures.held in
+    let reported = rw c.in_ok-hold-in-Fetching.was at c.hold.ensures.held in
     holds_on service c.args.who standing segment c.in-Fetching.fetching c.hold.new.turn.sent.items (subst (λ s. StageStands service (node_of c.args.who standing) s) c.in-Fetching.is st)
-    (λ count fetched stands. subst (λ xs. ArePut (grammar_in c.args.who) (held (node_of c.args.who standing) fetched segment) xs c.hold.new.turn.sent.items) c.requires.empty (told standing count fetched stands))
+    (λ count fetched stands. subst (λ xs. ArePut (grammar_in c.args.who) (held (node_of c.args.who standing) fetched segment) xs c.hold.new.turn.sent.items) c.requires.empty (reported standing count fetched stands))
 
 pub returns-in-Asking-clause-apart : goal.returns-in-Asking-clause-apart
 returns-in-Asking-clause-apart g c =

@@ -11,7 +11,7 @@ use Rattle.server_node.specs.Stages.{NodeGoes}
 use Rattle.server_node.proofs.Ranged.{count_in_range}
 use Rattle.server_node.proofs.Resuming.{begins_on}
 use Rattle.server_node.proofs.Staged.{unanswered}
-use Rattle.server_node.proofs.StagedApart.{begun_restarts, untold_restarts}
+use Rattle.server_node.proofs.StagedApart.{begun_restarts, unreported_restarts}
 use Rattle.server_node.proofs.stage.on_summary.Goals as goal
 use Rattle.ft_io.proofs.Outcomes.{if_ok}
 
@@ -36,7 +36,7 @@ returns-clause-turn g c = if_ok c.begin_fetching.result
 pub returns-in_default-clause-restarts : goal.returns-in_default-clause-restarts
 returns-in_default-clause-restarts g c = λ boot standing.
     let none : summary_count (body_of c.args.m.now.body) ≡ None = search rules in
-    untold_restarts (machine (g.S.Service.started c.args.who.kind) g.S.Service.after g.S.Service.greeting) (node_of c.args.who standing) (message_of c.args.m.now) c.args.turn.now.sent.items boot none c.requires.empty
+    unreported_restarts (machine (g.S.Service.started c.args.who.kind) g.S.Service.after g.S.Service.greeting) (node_of c.args.who standing) (message_of c.args.m.now) c.args.turn.now.sent.items boot none c.requires.empty
 
 pub returns-clause-restarts : goal.returns-clause-restarts
 returns-clause-restarts g c = if_ok c.begin_fetching.result

@@ -1,7 +1,7 @@
 use Rattle.std.proofs.Common.{◌∷◌, [], refl, subst, sym, true≢false, ap}
 use Rattle.server_trait.specs.Service.{machine}
 use Rattle.seq_arith.specs.Message.Body.{HelloMsg}
-use Rattle.ft_model.specs.Connection.{told_by}
+use Rattle.ft_model.specs.Connection.{reported_by}
 use Rattle.ft_model.specs.Lawful.{asked}
 use Rattle.ft_model.specs.Restart.{wanted}
 use Rattle.ft_model.specs.Node.Input.{Tick_comes}
@@ -24,26 +24,26 @@ use Rattle.server_node.proofs.MarkedStage.{marked_apart}
 pub returns-in_ok-send_hello-in-Asking-clause-turn : goal.returns-in_ok-send_hello-in-Asking-clause-turn
 returns-in_ok-send_hello-in-Asking-clause-turn g c = λ standing near sound st.
     let service = machine (g.S.Service.started c.args.who.kind) g.S.Service.after g.S.Service.greeting in
-    let told = rw c.in_ok-send_hello-in-Asking.was at c.send_hello.ensures in
-    asks_on service c.args.who standing Tick_comes (told_by c.args.who.boot HelloMsg ∷ []) c.send_hello.new.turn.sent.items
+    let reported = rw c.in_ok-send_hello-in-Asking.was at c.send_hello.ensures in
+    asks_on service c.args.who standing Tick_comes (reported_by c.args.who.boot HelloMsg ∷ []) c.send_hello.new.turn.sent.items
     (subst (λ s. StageStands service (node_of c.args.who standing) s) c.in-Asking.is st) refl (refl, refl)
-    (subst (λ xs. ArePut (grammar_in c.args.who) (told_by c.args.who.boot HelloMsg ∷ []) xs c.send_hello.new.turn.sent.items) c.requires.empty told)
+    (subst (λ xs. ArePut (grammar_in c.args.who) (reported_by c.args.who.boot HelloMsg ∷ []) xs c.send_hello.new.turn.sent.items) c.requires.empty reported)
 
 pub returns-in_ok-serve_tick-in-Serving-clause-turn : goal.returns-in_ok-serve_tick-in-Serving-clause-turn
 returns-in_ok-serve_tick-in-Serving-clause-turn g c = λ standing near sound st.
     let service = machine (g.S.Service.started c.args.who.kind) g.S.Service.after g.S.Service.greeting in
-    let told = rw c.in_ok-serve_tick-in-Serving.was at c.serve_tick.ensures.turn in
+    let reported = rw c.in_ok-serve_tick-in-Serving.was at c.serve_tick.ensures.turn in
     serves_on service c.args.who standing Tick_comes c.in-Serving.serving c.serve_tick.new.serving c.serve_tick.new.turn.sent.items refl
     (subst (λ s. StageStands service (node_of c.args.who standing) s) c.in-Serving.is st)
     (λ opened places is stands. subst (λ xs. ServingGoes service (node_of c.args.who standing) Tick_comes opened places c.serve_tick.new.serving xs c.serve_tick.new.turn.sent.items) c.requires.empty
-    (told standing opened places tt stands))
+    (reported standing opened places tt stands))
 
 pub returns-in_ok-ask-in-Fetching-clause-turn : goal.returns-in_ok-ask-in-Fetching-clause-turn
 returns-in_ok-ask-in-Fetching-clause-turn g c = λ standing near sound st.
     let service = machine (g.S.Service.started c.args.who.kind) g.S.Service.after g.S.Service.greeting in
-    let told = rw c.in_ok-ask-in-Fetching.was at c.ask.ensures.turn in
+    let reported = rw c.in_ok-ask-in-Fetching.was at c.ask.ensures.turn in
     ticks_on service c.args.who standing c.in-Fetching.fetching c.ask.new.turn.sent.items (subst (λ s. StageStands service (node_of c.args.who standing) s) c.in-Fetching.is st)
-    (λ count fetched stands. subst (λ xs. ArePut (grammar_in c.args.who) (asked (node_of c.args.who standing) (wanted count fetched)) xs c.ask.new.turn.sent.items) c.requires.empty (told standing count fetched stands))
+    (λ count fetched stands. subst (λ xs. ArePut (grammar_in c.args.who) (asked (node_of c.args.who standing) (wanted count fetched)) xs c.ask.new.turn.sent.items) c.requires.empty (reported standing count fetched stands))
 
 pub returns-in_ok-send_hello-in-Asking-clause-apart : goal.returns-in_ok-send_hello-in-Asking-clause-apart
 returns-in_ok-send_hello-in-Asking-clause-apart g c =
@@ -58,10 +58,10 @@ returns-in_ok-ask-in-Fetching-clause-apart g c =
 pub returns-in_ok-serve_tick-in-Serving-clause-apart : goal.returns-in_ok-serve_tick-in-Serving-clause-apart
 returns-in_ok-serve_tick-in-Serving-clause-apart g c =
     let service = machine (g.S.Service.started c.args.who.kind) g.S.Service.after g.S.Service.greeting in
-    let told = rw c.in_ok-serve_tick-in-Serving.was at c.serve_tick.ensures.alone in
+    let reported = rw c.in_ok-serve_tick-in-Serving.was at c.serve_tick.ensures.alone in
     let known = rw c.in_ok-serve_tick-in-Serving.was at c.serve_tick.ensures.known in
     subst (λ s. TurnsApart service c.args.who Tick_comes s (stage.Serving c.serve_tick.new.serving) c.serve_tick.new.turn.sent.items) (sym c.in-Serving.is)
-    (serving_apart service c.args.who Tick_comes c.in-Serving.serving c.serve_tick.new.serving c.args.turn.now.sent.items c.serve_tick.new.turn.sent.items c.requires.empty told
+    (serving_apart service c.args.who Tick_comes c.in-Serving.serving c.serve_tick.new.serving c.args.turn.now.sent.items c.serve_tick.new.turn.sent.items c.requires.empty reported
     (λ standing nobody. absurd (true≢false (sym nobody))) (λ standing. tt) known)
 
 pub returns-in_ok-tick-in-Marked-clause-turn : goal.returns-in_ok-tick-in-Marked-clause-turn

@@ -1,7 +1,7 @@
 use Rattle.std.proofs.Common.{codes, sym, ap, ◌∙◌}
 use Rattle.std.proofs.lemmas.List.{take_rest}
 use Rattle.report_laws.specs.Transitions.{begins_with}
-use Rattle.trace_check.proofs.ToldTurns.{no_packet_begins}
+use Rattle.trace_check.proofs.ReportedTurns.{no_packet_begins}
 use Rattle.trace_check.proofs.turn.another_follows.Goals as goal
 
 pub returns-then-not-starts_with-clause-no : goal.returns-then-not-starts_with-clause-no

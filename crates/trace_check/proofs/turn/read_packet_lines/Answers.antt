@@ -11,7 +11,7 @@ loop-end-preserved g c =
     let text : List ℕ = c.args.text.now in
     let at : ℕ = c.loop-end.end in
     let end : ℕ = c.line_end-next.result in
-    let n : ℕ = c.args.told + c.loop-end.count + 1 in
+    let n : ℕ = c.args.reported + c.loop-end.count + 1 in
     let first : c.args.at ≤ at = c.loop-end.invariant.0 in
     let more : at < end = omega arith in
     let within : end ≤ length text = omega arith in
@@ -21,11 +21,11 @@ loop-end-preserved g c =
       omega arith,
       within,
       omega (arith, few),
-      all_grow (machines g.S.Service.started g.S.Service.after g.S.Service.greeting) text c.args.schedule.now c.args.at at end c.args.told c.loop-end.count c.is_packet_line.result first more within c.line_end-next.ensures.line iff
+      all_grow (machines g.S.Service.started g.S.Service.after g.S.Service.greeting) text c.args.schedule.now c.args.at at end c.args.reported c.loop-end.count c.is_packet_line.result first more within c.line_end-next.ensures.line iff
           c.if-not-is_packet_line.false c.loop-end.invariant.3,
     )
 
 pub returns-clause-complete : goal.returns-clause-complete
 returns-clause-complete g c =
     let end : c.loop-end.end ≤ length c.args.text.now = c.loop-end.invariant.1 in
-    turn_ends_with_text c.args.schedule.now c.args.text.now c.loop-end.end (c.args.told + c.loop-end.count + 1) (omega arith)
+    turn_ends_with_text c.args.schedule.now c.args.text.now c.loop-end.end (c.args.reported + c.loop-end.count + 1) (omega arith)

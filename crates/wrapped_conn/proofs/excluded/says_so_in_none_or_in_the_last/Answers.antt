@@ -7,6 +7,6 @@ use Rattle.wrapped_conn.proofs.excluded.says_so_in_none_or_in_the_last.Goals as 
 
 pub returns : goal.returns
 returns g c = if_ok (reading c.args.packet.now)
-    (λ segment told first last own further.
-    told ∙ ap₂ (λ wide bodies. spelled wide c.args.conn.now.boot bodies) c.requires.batches (two_copied c.args.before segment c.args.conn.now first last c.requires.batches own further))
-    c.send_copy.ensures.told
+    (λ segment reported first last own further.
+    reported ∙ ap₂ (λ wide bodies. spelled wide c.args.conn.now.boot bodies) c.requires.batches (two_copied c.args.before segment c.args.conn.now first last c.requires.batches own further))
+    c.send_copy.ensures.reported

@@ -1,5 +1,5 @@
 use Rattle.server_trait.specs.Service.{machine}
-use Rattle.wrapped_conn.proofs.Hearing.{starts}
+use Rattle.wrapped_conn.proofs.Arrivals.{starts}
 use Rattle.wrapped_conn.proofs.Joining.{new_starts}
 use Rattle.wrapped_conn.proofs.laws.connections_start_as_the_law_says.Goals as goal
 

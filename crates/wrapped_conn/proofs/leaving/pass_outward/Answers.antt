@@ -7,7 +7,7 @@ use Rattle.seq_arith.specs.PacketGrammar.{reading, spelling}
 use Rattle.south_wrap.specs.Translation.{passed_out}
 use Rattle.ft_model.proofs.Lists.{all_slice_get}
 use Rattle.tcp_endpoint.specs.Packets.{byte_count}
-use Rattle.wrapped_conn.proofs.PassedOn.{Passes, goes_on, passed_all, has_a_rst, passed_none, same_there, same_bytes, packets_count}
+use Rattle.wrapped_conn.proofs.PassedOn.{Passes, proceeds, passed_all, has_a_rst, passed_none, same_there, same_bytes, packets_count}
 use Rattle.wrapped_conn.proofs.leaving.pass_outward.Goals as goal
 
 pub packet_mut-requires : goal.packet_mut-requires
@@ -30,7 +30,7 @@ loop-i-preserved c =
       count = ap length is ∙ length-set out i packet ∙ inv.count;
       bytes = ap byte_count is ∙ same_bytes out i c.packet_mut.result.now packet c.packet_mut.ensures.value c.outward.auto.packet ∙ inv.bytes;
       rest = ap (drop (i + 1)) is ∙ drop-set-lt (i + 1) out i packet (omega arith) ∙ drop_more_same out c.args.out.now i inv.rest;
-      passed = λ segments first readable. rw (add-one, is) (goes_on c.args.south.now i segments out c.packet_mut.result.now packet c.requires.off (inv.passed segments first readable) readable
+      passed = λ segments first readable. rw (add-one, is) (proceeds c.args.south.now i segments out c.packet_mut.result.now packet c.requires.off (inv.passed segments first readable) readable
           c.packet_mut.ensures.value (subst (Passes c.args.south.now c.packet_mut.result.now packet) c.if-not-outward.false (record {
             answered = c.outward.ensures.answer;
             canonical = subst (λ s. (x : Segment) → reading c.packet_mut.result.now ≡ Ok x → c.packet_mut.result.now ≡ spelling x → packet ≡ spelling (passed_out s x)) inv.south c.outward.ensures.canonical;

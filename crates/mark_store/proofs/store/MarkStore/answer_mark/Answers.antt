@@ -1,7 +1,7 @@
 use Rattle.std.proofs.Common.{◌≡◌, ◌∙◌, ◌==◌, ◌&&◌, not, nat_lt, false, sym, ap, subst, arith, Some, None, if◌then◌else◌}
 use Rattle.seq_arith.specs.Message.Body.{StaleMsg}
 use Rattle.logger_wire.specs.MarkValue.{body_of, message_of}
-use Rattle.mark_laws.specs.MarkedLog.{with_mark_body, is_mark_answer, told_of_mark}
+use Rattle.mark_laws.specs.MarkedLog.{with_mark_body, is_mark_answer, reported_of_mark}
 use Rattle.mark_laws.specs.MarkedLog.AnyMessage.{Of_log}
 use Rattle.mark_store.specs.Bytes.{reply_bytes_by}
 use Rattle.mark_store.specs.Refinement.{IsLeftOfMarked}
@@ -17,7 +17,7 @@ pub returns-then-m-boot-clause-answer : goal.returns-then-m-boot-clause-answer
 returns-then-m-boot-clause-answer c =
     let own : c.args.m.now.boot ≡ c.args.self.now.trimmed.log.boot = grind arith in
     λ l a. c.write_answer.ensures (with_mark_body (body_of c.args.m.now.body) l) (c.in_ok-take.ensures.ok l a)
-    ∙ replies_alike c.args.grammar c.args.m.now.boot (told_of_mark (body_of c.args.m.now.body) (with_mark_body (body_of c.args.m.now.body) l))
+    ∙ replies_alike c.args.grammar c.args.m.now.boot (reported_of_mark (body_of c.args.m.now.body) (with_mark_body (body_of c.args.m.now.body) l))
     ∙ ap (reply_bytes_by c.args.grammar) (sym (own_answer l (message_of c.args.m.now) (own ∙ a.left.boot)))
 
 pub returns-clause-next : goal.returns-clause-next

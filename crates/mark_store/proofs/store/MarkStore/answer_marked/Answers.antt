@@ -3,7 +3,7 @@ use Rattle.seq_arith.specs.Mark.MarkBody.{MarkedMsg}
 use Rattle.log_pages.specs.Pages.{place_of}
 use Rattle.mark_laws.specs.MarkedLog.{about_mark, no_mark}
 use Rattle.mark_store.specs.Bytes.{reply_bytes}
-use Rattle.mark_store.proofs.Steps.{told_reads, told_no_reads}
+use Rattle.mark_store.proofs.Steps.{reported_reads, reported_no_reads}
 use Rattle.mark_store.proofs.store.MarkStore.answer_marked.Goals as goal
 
 pub returns-in-Some : goal.returns-in-Some
@@ -13,7 +13,7 @@ returns-in-Some c =
     let at : place_of c.args.key c.args.self.now.trimmed.log ≡ Some c.in-Some.place =
     ap (λ s. place_of c.args.key s.trimmed.log) (sym c.self.view_is) ∙ (sym c.place_of.ensures.value ∙ some) in
     λ l a. c.answer_marked.ensures ∙ (ap (λ m. reply_bytes (Some (about_mark c.args.boot (MarkedMsg c.args.key m.reads)))) c.mark_at.ensures.value
-    ∙ sym (ap (λ o. reply_bytes (option_map (about_mark c.args.boot) o)) (told_reads c.args.self.now l c.args.key c.in-Some.place no_mark a few at)))
+    ∙ sym (ap (λ o. reply_bytes (option_map (about_mark c.args.boot) o)) (reported_reads c.args.self.now l c.args.key c.in-Some.place no_mark a few at)))
 
 pub returns-in_default : goal.returns-in_default
 returns-in_default c =
@@ -21,4 +21,4 @@ returns-in_default c =
     let none : c.place_of.result ≡ None = search rules in
     let at : place_of c.args.key c.args.self.now.trimmed.log ≡ None =
     ap (λ s. place_of c.args.key s.trimmed.log) (sym c.self.view_is) ∙ (sym c.place_of.ensures.value ∙ none) in
-    λ l a. c.requires.empty ∙ sym (ap (λ o. reply_bytes (option_map (about_mark c.args.boot) o)) (told_no_reads c.args.self.now l c.args.key no_mark a few at))
+    λ l a. c.requires.empty ∙ sym (ap (λ o. reply_bytes (option_map (about_mark c.args.boot) o)) (reported_no_reads c.args.self.now l c.args.key no_mark a few at))

@@ -8,10 +8,10 @@ use Rattle.node_serving.specs.Markers.{saving}
 use Rattle.net_schedule.specs.MarkedTurns.{marker_in}
 use Rattle.net_schedule.specs.WorldView.{kept, service_of}
 use Rattle.mark_laws.specs.MarkedWorld.{ComesAs as MarkedComes}
-use Rattle.net_schedule.specs.MarkedRefinement.{MarkedGoesOn, MarkedComesAs}
+use Rattle.net_schedule.specs.MarkedRefinement.{MarkedProceeds, MarkedComesAs}
 use Rattle.net_schedule.specs.Premises.{ComesAs}
 use Rattle.net_schedule.specs.Refinement.{ReachesNext}
-use Rattle.net_schedule.specs.TwinRefinement.{TwinGoesOn, ParcelComesAs, MayComeAs}
+use Rattle.net_schedule.specs.TwinRefinement.{TwinProceeds, ParcelComesAs, MayComeAs}
 use Rattle.net_schedule.proofs.Events.{flips, refuses_no_packet, refuses_bit}
 use Rattle.net_schedule.proofs.MarkedEvents.{marked_flips, marked_refuses_no_packet, marked_refuses_bit}
 use Rattle.net_schedule.proofs.MarkedParcels.{no_marked_way, no_marked_bytes}
@@ -77,10 +77,10 @@ returns-clause-done g c =
           (so.one v packet st p goes (subst (ComesAs v packet) (sym is) came)));
       two = λ v st p.
           twin_flips (service_of w) (kept w) (kept c.bring.new.self) v c.args.number c.args.bit c.in-Some.way c.in-Some-bytes.bytes.now st p way_is (sym c.in-Some-bytes.ensures) within
-          (λ parcel goes came. subst (λ b. TwinGoesOn (service_of w) (ParcelComesAs (service_of w) parcel b v) v (kept c.bring.new.self)) is
+          (λ parcel goes came. subst (λ b. TwinProceeds (service_of w) (ParcelComesAs (service_of w) parcel b v) v (kept c.bring.new.self)) is
           (so.two v parcel st p goes (subst (MayComeAs (seen v p.packets) parcel) (sym is) came)));
       marked = λ savable every v st p.
           marked_flips (marker_in (saving g.S.Saved.form g.S.Saved.state_of g.S.Saved.is_savable) every w) (kept w) (kept c.bring.new.self) v c.args.number c.args.bit c.in-Some.way c.in-Some-bytes.bytes.now st p way_is (sym c.in-Some-bytes.ensures) within
-          (λ parcel goes came. subst (λ b. MarkedGoesOn (marker_in (saving g.S.Saved.form g.S.Saved.state_of g.S.Saved.is_savable) every w) (MarkedComes (marker_in (saving g.S.Saved.form g.S.Saved.state_of g.S.Saved.is_savable) every w) parcel b v) v (kept c.bring.new.self)) is
+          (λ parcel goes came. subst (λ b. MarkedProceeds (marker_in (saving g.S.Saved.form g.S.Saved.state_of g.S.Saved.is_savable) every w) (MarkedComes (marker_in (saving g.S.Saved.form g.S.Saved.state_of g.S.Saved.is_savable) every w) parcel b v) v (kept c.bring.new.self)) is
           (so.marked savable every v parcel st p goes (subst (MarkedComesAs v parcel) (sym is) came)));
     }

@@ -1,14 +1,14 @@
 use Rattle.std.proofs.Common.{sym, subst}
 use Rattle.peer_client.specs.Live.{LiveState}
 use Rattle.peer_client.specs.Refinement.{IsDue, IsBetween}
-use Rattle.peer_client.proofs.Whole.{unread_is, unread_heard, due_handed, between_handed}
+use Rattle.peer_client.proofs.Whole.{unread_is, unread_received, due_handed, between_handed}
 use Rattle.peer_client.proofs.live.LiveClient.accept.Goals as goal
 
 pub returns-clause-accepted : goal.returns-clause-accepted
 returns-clause-accepted c = λ client h. unread_is c.args.self.now client h
 
 pub returns-clause-rest : goal.returns-clause-rest
-returns-clause-rest c = λ client h. unread_heard c.args.self.now client h
+returns-clause-rest c = λ client h. unread_received c.args.self.now client h
 
 pub returns-clause-due : goal.returns-clause-due
 returns-clause-due c = λ client h.

@@ -8,7 +8,7 @@ use Rattle.plain_connection.specs.State.{IsServed, ReadsOn}
 use Rattle.plain_connection.specs.Turn.{settled_since}
 use Rattle.plain_connection.proofs.Noting.{noted_served}
 use Rattle.plain_connection.proofs.Turns.{advanced}
-use Rattle.ft_model.proofs.ToldLast.{was_not_reset}
+use Rattle.ft_model.proofs.ReportedLast.{was_not_reset}
 use Rattle.plain_connection.proofs.connection.PlainConnection.advance.Goals as goal
 
 pub read_on-requires : goal.read_on-requires

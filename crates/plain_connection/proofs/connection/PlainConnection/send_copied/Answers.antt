@@ -3,7 +3,7 @@ use Rattle.std.specs.Prelude.{◌&&◌, ◌||◌, nat_lt, length}
 use Rattle.std.proofs.lemmas.Result.{on_ok_weaker}
 use Rattle.seq_arith.specs.Message.Body.{DataMsg}
 use Rattle.segment_codec.specs.Value.{segment_of}
-use Rattle.ft_model.specs.Connection.{told_by}
+use Rattle.ft_model.specs.Connection.{reported_by}
 use Rattle.ft_model.specs.Copy.{own_data, una_part}
 use Rattle.plain_packets.specs.Sent.{Appends}
 use Rattle.plain_point.specs.Copying.{further_part}
@@ -23,7 +23,7 @@ returns-in_ok-send_data-in-Some g c = λ p taken fin una.
     (λ e. with_own c.args.boot c.args.sent.now c.send_datas.new.sent p q segment further further_is c.send_data.new.sent (data_in c.in-Some.own) c.follows-more.result
     (ap (λ x. own_data x.point segment) (sym c.self.view_is) ∙ sym c.in-Some.ensures) refl (c.follows-more.ensures ∙ ap (λ b. (nat_lt 0 (length further.bytes) || further.fin) && b) batches_are)
     c.in_ok-send_data-in-Some.ensures
-    (subst (λ b. Appends c.send_data.new.sent c.send_datas.new.sent (map (told_by c.args.boot) (batched b (datas_of further)))) batches_are e))
+    (subst (λ b. Appends c.send_data.new.sent c.send_datas.new.sent (map (reported_by c.args.boot) (batched b (datas_of further)))) batches_are e))
     c.send_datas.ensures
 
 pub returns-then-has_any : goal.returns-then-has_any
@@ -36,7 +36,7 @@ returns-then-has_any g c = λ p taken fin una.
     on_ok_weaker c.send_datas-then-has_any.result
     (λ e. without_own c.args.boot c.args.sent.now c.send_datas-then-has_any.new.sent p q segment further further_is
     (ap (λ x. own_data x.point segment) (sym c.self.view_is) ∙ sym c.in-None.ensures) (sym c.has_any.ensures ∙ c.if-has_any.true)
-    (subst (λ b. Appends c.args.sent.now c.send_datas-then-has_any.new.sent (map (told_by c.args.boot) (batched b (datas_of further)))) batches_are e))
+    (subst (λ b. Appends c.args.sent.now c.send_datas-then-has_any.new.sent (map (reported_by c.args.boot) (batched b (datas_of further)))) batches_are e))
     c.send_datas-then-has_any.ensures
 
 pub returns-then-before-una : goal.returns-then-before-una
@@ -50,7 +50,7 @@ returns-then-before-una g c = λ p taken fin una.
     on_ok_weaker c.send_data-then-before-una.result
     (λ e. only_una c.args.boot c.args.sent.now c.send_data-then-before-una.new.sent p q segment further further_is
     (ap (λ x. own_data x.point segment) (sym c.self.view_is) ∙ sym c.in-None.ensures) (sym c.has_any.ensures ∙ c.if-has_any.false) (omega (arith, una, una_now, c.if-before-una.true))
-    (subst (λ x. Appends c.args.sent.now c.send_data-then-before-una.new.sent (told_by c.args.boot (DataMsg x) ∷ [])) part_now e))
+    (subst (λ x. Appends c.args.sent.now c.send_data-then-before-una.new.sent (reported_by c.args.boot (DataMsg x) ∷ [])) part_now e))
     c.send_data-then-before-una.ensures
 
 pub returns-else-before-una : goal.returns-else-before-una

@@ -9,7 +9,7 @@ use Rattle.plain_connection.specs.News.{news_in}
 use Rattle.plain_connection.specs.State.{IsServed}
 use Rattle.plain_connection.proofs.Noting.{reset_served}
 use Rattle.plain_connection.proofs.Turns.{live_taken, reset_taken}
-use Rattle.ft_model.proofs.ToldLast.{was_not_reset}
+use Rattle.ft_model.proofs.ReportedLast.{was_not_reset}
 use Rattle.plain_connection.proofs.connection.PlainConnection.turn.Goals as goal
 
 pub returns-then-before-clause-served : goal.returns-then-before-clause-served

@@ -10,7 +10,7 @@ use Rattle.replay_seed.specs.SeedSummaries.{StandsBehind}
 use Rattle.replay_seed.specs.SummaryText.{is_boot, is_crash}
 use Rattle.replay_seed.specs.declared.seed_progress.Progress.{Progress}
 use Rattle.replay_seed.proofs.Facts.{client_count, totals, few_boots}
-use Rattle.replay_seed.proofs.Stepping.{goes_on, goes_past, never_bad}
+use Rattle.replay_seed.proofs.Stepping.{proceeds, goes_past, never_bad}
 use Rattle.replay_seed.proofs.seed_progress.Progress.play_event.Goals as goal
 use Rattle.net_schedule.proofs.Outcomes.{same_there}
 
@@ -52,7 +52,7 @@ returns-in-Ok-clause-done c =
       boots = p.boots + one_if (is_boot c.next_event-event.result);
       crashes = p.crashes + one_if (is_crash c.next_event-event.result);
     }) c.next_event-event.ensures.counts))
-    (goes_on c.args.asked c.args.n (kept c.args.world.now) (kept c.step.new.self) c.args.self.now c.requires.stands c.next_event-event.result c.next_event-event.new.self.dice
+    (proceeds c.args.asked c.args.n (kept c.args.world.now) (kept c.step.new.self) c.args.self.now c.requires.stands c.next_event-event.result c.next_event-event.new.self.dice
     (c.next_event-event.ensures.drawn
     ∙ ap (λ up. next_event c.args.self.now.dice.draws.state c.args.self.now.packets c.args.world.now.clients.items (record { is_up = up; boots = c.args.self.now.boots })) (sym (same_there server_of c.args.world.now.node)))
     c.in-Ok.answer

@@ -29,9 +29,9 @@ pub returns-then-not-cover-clause-state : goal.returns-then-not-cover-clause-sta
 returns-then-not-cover-clause-state c =
     let some : 0 < length c.args.bytes.now = grind (arith, c.is_empty.ensures, c.if-is_empty.false) in
     let count = hold_counts c.self.inside.bytes.items c.args.bytes.now c.args.at c.self.inside.in_order c.self.inside.early c.self.invariant.1 c.requires.ahead some in
-    let told = c.if-not-cover.ensures.fits ∙ ap (λ n. nat_le n 16) count ∙ ap (λ (q : Queue). nat_le (run_count (laid c.args.at c.args.bytes.now q.early)) 16) c.self.view_is in
+    let reported = c.if-not-cover.ensures.fits ∙ ap (λ n. nat_le n 16) count ∙ ap (λ (q : Queue). nat_le (run_count (laid c.args.at c.args.bytes.now q.early)) 16) c.self.view_is in
     ap (shown c.self.inside.bytes.items c.self.inside.in_order) c.if-not-cover.ensures.full ∙ c.self.view_is
-    ∙ ap (λ l. record c.args.self.now { early = l }) (sym (not_held_by c.args.at c.args.bytes.now c.args.self.now.early (sym told)))
+    ∙ ap (λ l. record c.args.self.now { early = l }) (sym (not_held_by c.args.at c.args.bytes.now c.args.self.now.early (sym reported)))
 
 pub invariant_of-self-2 : goal.invariant_of-self-2
 invariant_of-self-2 c =
@@ -54,11 +54,11 @@ pub returns-clause-state : goal.returns-clause-state
 returns-clause-state c =
     let some : 0 < length c.args.bytes.now = grind (arith, c.is_empty.ensures, c.if-is_empty.false) in
     let count = hold_counts c.self.inside.bytes.items c.args.bytes.now c.args.at c.self.inside.in_order c.self.inside.early c.self.invariant.1 c.requires.ahead some in
-    let told = c.if-not-cover.ensures.fits ∙ ap (λ n. nat_le n 16) count ∙ ap (λ (q : Queue). nat_le (run_count (laid c.args.at c.args.bytes.now q.early)) 16) c.self.view_is in
+    let reported = c.if-not-cover.ensures.fits ∙ ap (λ n. nat_le n 16) count ∙ ap (λ (q : Queue). nat_le (run_count (laid c.args.at c.args.bytes.now q.early)) 16) c.self.view_is in
     let long : length (take c.self.inside.in_order c.self.inside.bytes.items) ≡ length c.args.self.now.unread = ap (λ (q : Queue). length q.unread) c.self.view_is in
     let fit : c.self.inside.in_order + c.args.at + length c.args.bytes.now ≤ 65535 =
     omega (arith, long, length-take c.self.inside.in_order c.self.inside.bytes.items, c.self.invariant.1.within, c.requires.fits) in
     (held_so c.self.inside.bytes.items c.args.bytes.now c.overwrite.new.queue.items c.args.at c.self.inside.in_order c.self.inside.early c.cover.new.self c.self.invariant.1 c.requires.ahead some fit
     c.overwrite.ensures.items c.if-not-cover.ensures.held).view
     ∙ ap (λ (q : Queue). record q { early = laid c.args.at c.args.bytes.now q.early }) c.self.view_is
-    ∙ ap (λ l. record c.args.self.now { early = l }) (sym (held_by c.args.at c.args.bytes.now c.args.self.now.early (sym told)))
+    ∙ ap (λ l. record c.args.self.now { early = l }) (sym (held_by c.args.at c.args.bytes.now c.args.self.now.early (sym reported)))

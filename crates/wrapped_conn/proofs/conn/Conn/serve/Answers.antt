@@ -4,7 +4,7 @@ use Rattle.wrapped_conn.specs.ConnState.{ConnState}
 use Rattle.connection_laws.specs.OutputFeed.{tcp_reader, tcp_writer}
 use Rattle.wrapped_conn.specs.Turn.{served}
 use Rattle.wrapped_conn.specs.Sound.{IsSound}
-use Rattle.wrapped_conn.proofs.Served.{served_sound, served_state, north_is, read_rises, news_are_tellable}
+use Rattle.wrapped_conn.proofs.Served.{served_sound, served_state, north_is, read_rises, news_are_writable}
 use Rattle.wrapped_conn.proofs.conn.Conn.serve.Goals as goal
 
 pub read_to-requires-clause-rises : goal.read_to-requires-clause-rises
@@ -25,10 +25,10 @@ returns-clause-state g c =
     subst (λ (x : ConnState _). record x { south = c.read_to.new.self; endpoint = c.turn.new.sock; north = c.turn.new.self } ≡ served c.turn.new.self c.turn.new.news c.args.self.now) (sym c.self.view_is)
     (served_state g.S.Service.after c.args.self.now c.una-una.result c.turn.new.news c.turn.new.self c.turn.new.sock c.read_to.new.self turn south)
 
-pub returns-clause-tellable : goal.returns-clause-tellable
-returns-clause-tellable g c =
+pub returns-clause-writable : goal.returns-clause-writable
+returns-clause-writable g c =
     let s = subst IsSound (sym c.self.view_is) c.requires.sound in
-    news_are_tellable g.S.Service.after g.met.S.Service.is_short _ c.una-una.result c.turn.new.news c.turn.new.self c.turn.new.sock s c.in_ok-turn.ensures.turn
+    news_are_writable g.S.Service.after g.met.S.Service.is_short _ c.una-una.result c.turn.new.news c.turn.new.self c.turn.new.sock s c.in_ok-turn.ensures.turn
 
 pub returns-clause-sound : goal.returns-clause-sound
 returns-clause-sound g c =

@@ -1,6 +1,0 @@
-use Rattle.server_trait.specs.Service.{machine}
-use Rattle.connection_laws.proofs.PointNumbers.{parts_tell}
-use Rattle.connection_laws.proofs.laws.parts_tell_the_point.Goals as goal
-
-pub returns : goal.returns
-returns g c = λ fresh u i delta given p n e stand. parts_tell (machine fresh g.S.Service.after g.S.Service.greeting) u i delta given p n e stand

@@ -1,6 +1,0 @@
-use Rattle.server_trait.specs.Service.{machine}
-use Rattle.connection_laws.proofs.Joining.{reset_hears}
-use Rattle.connection_laws.proofs.laws.reset_connections_hear_what_is_logged.Goals as goal
-
-pub returns : goal.returns
-returns g c = λ fresh boot given news before after n sent north turn. reset_hears (machine fresh g.S.Service.after g.S.Service.greeting) boot news before after given n sent north turn

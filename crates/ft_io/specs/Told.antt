@@ -1,9 +1,0 @@
--- The record of the calls on a link or a spawner: `Some` list of them, the oldest first, or `None` where calls aren't recorded.
-use Rattle.std.specs.Prelude.{◌≡◌, List, ◌++◌, ⊤, None, Some}
-use Rattle.std.specs.declared.option.Option.{Option}
-
--- these calls were appended to the record; or there is no record any more, and there won't be one again
-abbrev pub Tells : {A : Type 0} → Option (List A) → Option (List A) → List A → Type 0
-Tells old None calls = ⊤
-Tells None (Some now) calls = ⊥
-Tells (Some before) (Some now) calls = now ≡ before ++ calls

@@ -1,6 +1,0 @@
-use Rattle.server_trait.specs.Service.{machine}
-use Rattle.node_serving.proofs.LentConn.{tells_its_point}
-use Rattle.server_node.proofs.laws.lent_connections_tell_their_point.Goals as goal
-
-pub returns : goal.returns
-returns g c = λ fresh server boot p now sound stands. tells_its_point (machine fresh g.S.Service.after g.S.Service.greeting) server boot p now sound stands

@@ -1,5 +1,0 @@
-use Rattle.trace_check.proofs.excluded.a_packet_is_told_twice.Goals as goal
-
-pub returns : goal.returns
-returns g c = λ events trace event lines told leads.
-    let t = c.read_packet_lines.ensures.packets events trace event lines told leads in (t.sent, t.told)

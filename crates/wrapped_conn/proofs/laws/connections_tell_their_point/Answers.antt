@@ -1,6 +1,0 @@
-use Rattle.server_trait.specs.Service.{machine}
-use Rattle.wrapped_conn.proofs.Lending.{tells}
-use Rattle.wrapped_conn.proofs.laws.connections_tell_their_point.Goals as goal
-
-pub returns : goal.returns
-returns g c = λ fresh p now sound stands. tells (machine fresh g.S.Service.after g.S.Service.greeting) p now sound stands
