@@ -2,12 +2,12 @@
 //! has stopped. Each has its words, its turns and its ends. Nothing here needs the server, or a journal.
 #![tactic(auto)]
 
+pub use notifier::run_notifier;
 pub use pair_role::{AloneRole, PartRole, TwinRole, read_twin_role};
 pub use part::run_part;
-pub use notifier::run_notifier;
 
 mod excluded;
+mod notifier;
 mod pair_role;
 mod part;
 mod sending;
-mod notifier;

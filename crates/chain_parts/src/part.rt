@@ -99,7 +99,8 @@ fn take_turn<L: Link>(
     counts: &mut Counts,
 ) -> Result<(), NoMemory>
     requires { HasRoom (2 ^ 64) counts.old }
-    ensures turned { OnOk result (HasTurned other (standing_of twin.old) (standing_of twin.new) (L.reported link.old) (L.reported link.new) counts.old counts.new) }
+    ensures turned { OnOk result (HasTurned other (standing_of twin.old) (standing_of twin.new) (L.reported link.old)
+        (L.reported link.new) counts.old counts.new) }
     ensures cut_off { OnErr result ((calls : List LinkCall) × IsCutOff calls × Reports (L.reported link.old) (L.reported link.new) calls) }
     ensures no_bind_fault { L.bind_fault_count link.new ≡ L.bind_fault_count link.old }
 {

@@ -99,7 +99,8 @@ impl Marks {
     /// Returns the message with a connection's outstanding mark, if there is one.
     pub fn message(&self, boot: u64, key: Key) -> Option<MarkMsg<'_>>
         requires { 1 ≤ boot }
-        ensures value { option_map message_of result ≡ option_map (λ mark. record { boot = boot; body = Reported key mark }) (marking_in self.now key).outstanding }
+        ensures value { option_map message_of result
+            ≡ option_map (λ mark. record { boot = boot; body = Reported key mark }) (marking_in self.now key).outstanding }
         ensures sendable { IfSome result (λ m. IsSpellable (message_of m)) }
     {
         match self.of.get(&key) {

@@ -38,6 +38,7 @@ use Rattle.ft_io.proofs.Choices.{if_none}
 use Rattle.ft_io.proofs.Numbers.{equal_itself, not_less_itself}
 use Rattle.ft_model.proofs.Running.{none_made}
 use Rattle.endpoint_laws.proofs.Ends.{less_is, none_if}
+use Rattle.tcp_endpoint.proofs.Delayed.{without_ack}
 
 -- in what order the reasons for a segment are asked doesn't matter
 or_five : (o x y b r : Bool) → (((o || x) || y) || (b || r)) ≡ ((((o || b) || r) || x) || y)
@@ -101,12 +102,8 @@ out_by_laws service server u i news inner before after =
     if is_delayed news before after then full_by_laws (swallowing u service) server inner (inside u i before) (inside u i after)
     else segments_by_laws (swallowing u service) server inner (inside u i before) (inside u i after)
 
-quiet_or : (bare : Segment) (xs : List Segment) → or_bare false bare xs ≡ xs
-quiet_or bare [] = refl
-quiet_or bare (x ∷ xs) = refl
-
 delayed_or : (d o : Bool) (bare : Segment) (xs : List Segment) → (if d then xs else or_bare o bare xs) ≡ or_bare (not d && o) bare xs
-delayed_or true o bare xs = sym (quiet_or bare xs)
+delayed_or true o bare xs = sym (without_ack bare xs)
 delayed_or false o bare xs = refl
 
 -- where the ACK waits, none is pending besides
@@ -202,7 +199,7 @@ repeated service server boot segment p q sent u i delta above s few opens l laws
     ap (λ xs. leaves service server (Comes segment) p q (passed delta q xs)) (out_is service server u i (Comes segment) Begins p q)
     ∙ (λ j. or_bare (needs_ack_besides service (Comes segment) p q) (bare_segment server q) ((if opens j then syn_ack server q ∷ [] else [])
     ++ passed delta q (or_bare (quiet j) (bare_segment server (inside u i q)) (full (swallowing u service) server Begins (inside u i p) (inside u i q)))))
-    ∙ ap (λ xs. syn_ack server q ∷ xs) (passed_is service server (Comes segment) Begins p q u i delta false above s ∙ quiet_or (bare_segment server q) (full service server (Comes segment) p q))
+    ∙ ap (λ xs. syn_ack server q ∷ xs) (passed_is service server (Comes segment) Begins p q u i delta false above s ∙ without_ack (bare_segment server q) (full service server (Comes segment) p q))
     ∙ (λ j. or_bare (outer.is_ack_pending service (Comes segment) p q) (bare_segment server q) ((if sym opens j then syn_ack server q ∷ [] else []) ++ full service server (Comes segment) p q))
 
 four_of : (a b c d : Bool) → (a && not b && not c && d) ≡ true → (a ≡ true) × (b ≡ false) × (c ≡ false) × (d ≡ true)

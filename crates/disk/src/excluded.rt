@@ -38,7 +38,11 @@ fn a_file_in_use_is_opened(desk: &mut MemDesk) -> Result<(), ShelfEnd>
 }
 
 /// A send that comes after a sync is recorded behind it: the clause `noted` of `MemDisk::note`.
-fn a_send_reported_before_the_sync_that_came_first(disk: &mut MemDisk, to: Addr, bytes: Octets) -> bool
+fn a_send_reported_before_the_sync_that_came_first(
+    disk: &mut MemDisk,
+    to: Addr,
+    bytes: Octets,
+) -> bool
     requires { disk.old.calls ≡ OnDisk (Synced false) ∷ [] }
     ensures { OnTrue result (disk.new.calls ≡ OnDisk (Synced false) ∷ OnLink (Handed to bytes false) ∷ []) }
 {

@@ -18,7 +18,7 @@ ghost use Rattle.disk.specs.CallRecord.{on_link, disk_calls};
 ghost use Rattle.disk.specs.MemDesk.{fresh_desk, reported_of, waits_of, file_of, noted, starved, IsStarved};
 
 use crate::{Death, Desk, DeskCall, Disk, MemDisk, ShelfEnd};
-use ft_io::{Addr, Failed, Receipt, Link, LinkCall, NoMemory, Octets};
+use ft_io::{Addr, Failed, Link, LinkCall, NoMemory, Octets, Receipt};
 use ft_system::{MemLink, NumberedCalls};
 use std::alloc::Global;
 use std::marker::Model;

@@ -1,5 +1,5 @@
-//! A file in memory, for tests. It records its calls. It fails where it was made to fail, and where an allocation fails; once an allocation has failed, `reported`
-//! returns `None`. It can be asked what a death at any moment leaves of it.
+//! A file in memory, for tests. It records its calls. It fails where it was made to fail, and where an allocation fails; once an allocation has failed,
+//! `reported` returns `None`. It can be asked what a death at any moment leaves of it.
 
 ghost use Rattle.std.specs.Prelude.{◌≡◌, ◌≤◌, ◌<◌, ◌↔◌, ◌⊎◌, length, min, take, false, true, None, Some, [], ◌∷◌, ◌++◌, is_err, IfSome, IfOk, OnOk};
 ghost use Rattle.std.specs.Prelude.{OnErr, IsErr};

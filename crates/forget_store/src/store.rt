@@ -109,8 +109,8 @@ fn receive_forget(log: &mut LogStore, grammar: Grammar, m: &ForgetMsg, out: &mut
     }
 }
 
-/// Takes bytes, which may be a message of the log in this grammar, one about forgetting, or neither, and replaces the content of `out` by the answer, or by nothing. After
-/// `NoMemory` the log is unchanged, `out` empty.
+/// Takes bytes, which may be a message of the log in this grammar, one about forgetting, or neither, and replaces the content of `out` by the answer, or by
+/// nothing. After `NoMemory` the log is unchanged, `out` empty.
 pub fn answer(
     log: &mut LogStore,
     alloc: Global,

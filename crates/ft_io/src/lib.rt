@@ -3,7 +3,7 @@
 //! limit, and writes a complete text.
 #![tactic(auto)]
 
-pub use link::{Receipt, Link};
+pub use link::{Link, Receipt};
 pub use link_call::LinkCall;
 pub use memory::NoMemory;
 pub use octets::Octets;

@@ -1,6 +1,6 @@
 -- A text is accepted line by line, and each accepted line keeps what every accepted schedule keeps.
 use Rattle.std.proofs.Common.{◌≡◌, ℕ, ◌+◌, ◌-◌, ◌*◌, ◌<◌, ◌≤◌, ◌^◌, List, [], ◌∷◌, ◌++◌, length, drop, refl, sym, subst, arith, append_assoc, length-append, Bool, true, false}
-use Rattle.std.specs.Prelude.{cond, Option, Some, None, option_map, Result, Ok, Err, nat_le, ◌==◌, ◌&&◌, is_none}
+use Rattle.std.specs.Prelude.{cond, Option, Some, None, option_map, Result, Ok, Err, nat_le, ◌&&◌, is_none}
 use Rattle.std.specs.Option.{ok_or, option_and_then}
 use Rattle.std.specs.List.{AllByRecursion}
 use Rattle.std.proofs.lemmas.Bool.{ltb-true, leb-true, leb-false, eqb-true}
@@ -279,7 +279,7 @@ no_value : {A : Type 0} (o : Option A) (n : A) → is_none o ≡ true → o ≡ 
 no_value None n h e = absurd (cc)
 no_value (Some m) n h e = absurd (cc)
 
-none_is : {A : Type 0} (o : Option A) → is_none o ≡ true → o ≡ None
+pub none_is : {A : Type 0} (o : Option A) → is_none o ≡ true → o ≡ None
 none_is None h = refl
 none_is (Some m) h = absurd (cc)
 

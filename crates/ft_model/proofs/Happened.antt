@@ -88,7 +88,7 @@ pub segment_is_noise : (r : Result Segment BadPacket) → IsErr r → segment_or
 segment_is_noise (Err why) h = refl
 segment_is_noise (Ok segment) h = absurd (true≢false (sym h))
 
-message_is_noise : (r : Result Message BadMsg) → IsErr r → message_or_noise r ≡ Noise_comes
+pub message_is_noise : (r : Result Message BadMsg) → IsErr r → message_or_noise r ≡ Noise_comes
 message_is_noise (Err why) h = refl
 message_is_noise (Ok message) h = absurd (true≢false (sym h))
 

@@ -20,6 +20,7 @@ use Rattle.ft_model.specs.News.News.{Comes, Logged, Ticks, Begins}
 use Rattle.ft_model.specs.Point.{Point}
 use Rattle.ft_model.specs.Timestamps.{is_timely, timestamping_after}
 use Rattle.ft_model.proofs.Formed.{IsSize, IsShortEcho, HasRoom}
+use Rattle.ft_io.proofs.Booleans.{and_false}
 
 abbrev pub AreShort : Option Timestamps → Type 0
 AreShort timestamps = IfSome timestamps (λ t. (t.value < 2 ^ 32) × (t.echo < 2 ^ 32))
@@ -48,7 +49,7 @@ pub resumed_has_room : (uses : Bool) (mss : ℕ) → HasRoom mss (resumed_with u
 resumed_has_room false mss = tt
 resumed_has_room true mss = fitting_has_room Awaited mss tt
 
-newest_short : (recent value : ℕ) → recent < 2 ^ 32 → value < 2 ^ 32 → newest recent value < 2 ^ 32
+pub newest_short : (recent value : ℕ) → recent < 2 ^ 32 → value < 2 ^ 32 → newest recent value < 2 ^ 32
 newest_short recent value old new = holds_if (λ n. n < 2 ^ 32) (precedes_or_is recent value) value recent (λ t. new) (λ t. old)
 
 echo_has_room : (mss : ℕ) (timestamping : Timestamping) (timely : Bool) (timestamps : Option Timestamps) → HasRoom mss timestamping → AreShort timestamps
@@ -97,13 +98,9 @@ pub none_echoed : (uses : Bool) (mss : ℕ) → timestamps_sent (resumed_with us
 none_echoed false mss = refl
 none_echoed true mss = holds_if (λ t. timestamps_sent t ≡ None) (nat_le (mss + 12) 1460) Awaited Off (λ t. refl) (λ t. refl)
 
-and_none : (b : Bool) → (b && false) ≡ false
-and_none true = refl
-and_none false = refl
-
 late : (p : Point) (segment : Segment) → int_le (first_of p.cisn segment) (pos (acknowledgement p)) ≡ false → is_timely p segment ≡ false
 unfolding is_timely
-late p segment past = ap (λ b. (accepts p segment && not (has_rst segment)) && b) past ∙ and_none (accepts p segment && not (has_rst segment))
+late p segment past = ap (λ b. (accepts p segment && not (has_rst segment)) && b) past ∙ and_false (accepts p segment && not (has_rst segment))
 
 untimely : (before : Timestamping) (timestamps : Option Timestamps) → echo_after before false timestamps ≡ before
 untimely Off timestamps = refl

@@ -125,7 +125,8 @@ kept_words k = codes "key" ∷ key_text k.key ∷ codes "length" ∷ decimal k.l
 
 abbrev pub entry_words : EntryHead → List (List ℕ)
 entry_words e =
-    codes "key" ∷ key_text e.key ∷ codes "cisn" ∷ decimal e.cisn ∷ codes "sisn" ∷ decimal e.sisn ∷ codes "mss" ∷ decimal e.mss ∷ codes "length" ∷ decimal e.length
+    codes "key" ∷ key_text e.key ∷ codes "cisn" ∷ decimal e.cisn ∷ codes "sisn" ∷ decimal e.sisn ∷ codes "mss" ∷ decimal e.mss ∷ codes "length"
+    ∷ decimal e.length
     ∷ codes "fin" ∷ bit_text e.fin ∷ codes "done" ∷ bit_text e.done ∷ codes "reads" ∷ decimal e.reads ∷ codes "acked" ∷ decimal e.acked ∷ []
 
 abbrev pub part_words : Part → List (List ℕ)

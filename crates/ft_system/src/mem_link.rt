@@ -13,7 +13,7 @@ ghost use Rattle.ft_system.specs.MemLink.{receiving, without_arrival};
 
 use crate::mem_source::copy_front;
 use crate::numbered::NumberedCalls;
-use ft_io::{Addr, Failed, Receipt, Link, LinkCall, Octets};
+use ft_io::{Addr, Failed, Link, LinkCall, Octets, Receipt};
 use std::alloc::Global;
 use std::marker::Model;
 

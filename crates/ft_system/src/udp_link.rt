@@ -4,14 +4,14 @@ ghost use Rattle.std.specs.Prelude.{◌≡◌, ◌≤◌, IfSome, None, length};
 ghost use Rattle.ft_io.specs.Link.{HasAtMost};
 ghost use Rattle.ft_system.specs.UdpLink.{fresh_link};
 
-use ft_io::{Addr, Failed, Receipt, Link};
+use ft_io::{Addr, Failed, Link, Receipt};
 use std::io;
 use std::marker::Model;
 use std::net::{IpAddr, Ipv4Addr, Net, SocketAddr, UdpSocket};
 use std::time::{Clock, Duration, Instant};
 
-/// The receive timeout, in milliseconds: `Receipt::Nothing` is due this long after the last send and after the last `Receipt::Nothing`, whatever arrives. A timer
-/// that advanced only in silence would stop while datagrams arrive.
+/// The receive timeout, in milliseconds: `Receipt::Nothing` is due this long after the last send and after the last `Receipt::Nothing`, whatever arrives. A
+/// timer that advanced only in silence would stop while datagrams arrive.
 const PATIENCE: u64 = 20;
 
 /// The longest time from one `Receipt::Nothing` to the next, in milliseconds, however much is sent in the meantime. It is the minimum retransmission timeout of
@@ -26,10 +26,10 @@ const LEEWAY: u64 = 4;
 const SHORTEST: u64 = 1;
 
 /// A UDP socket. A call before the first successful bind is a fault. So are a datagram from an address that isn't IPv4, and a monotonic clock that can't be
-/// read. A receive returns the next datagram, or `Receipt::Nothing` once 20 milliseconds have passed since the bind, the last send and the last `Receipt::Nothing`,
-/// whatever arrives. A datagram that waits in the socket then stays there for the next receive. Sends put `Receipt::Nothing` off for at most a second: a process
-/// that answers what arrives doesn't wait for its peer, so its retransmission timer needn't advance. After a receive that timed out both times begin with the
-/// next receive.
+/// read. A receive returns the next datagram, or `Receipt::Nothing` once 20 milliseconds have passed since the bind, the last send and the last
+/// `Receipt::Nothing`, whatever arrives. A datagram that waits in the socket then stays there for the next receive. Sends put `Receipt::Nothing` off for at
+/// most a second: a process that answers what arrives doesn't wait for its peer, so its retransmission timer needn't advance. After a receive that timed out
+/// both times begin with the next receive.
 #[derive(Drop)]
 pub struct UdpLink<'a, R: Net + Clock> {
     system: &'a R,

@@ -2,7 +2,7 @@
 
 use crate::numbers;
 use disk::{Desk, Disk, FileDisk, HostDesk, MemFile, ShelfEnd, StdFile};
-use ft_io::{Addr, Failed, Receipt, NoMemory};
+use ft_io::{Addr, Failed, NoMemory, Receipt};
 use std::alloc::Global;
 use std::fs;
 use std::fs::{File, Files};

@@ -1,7 +1,7 @@
 //! A link in memory.
 
 use crate::numbers;
-use ft_io::{Addr, Failed, Receipt, Link, NoMemory, Octets};
+use ft_io::{Addr, Failed, Link, NoMemory, Octets, Receipt};
 use ft_system::{Arrival, MemLink};
 use std::alloc::Global;
 use test_data::Said;

@@ -1,6 +1,6 @@
 //! Std's UDP socket as a link.
 
-use ft_io::{Addr, Failed, Receipt, Link};
+use ft_io::{Addr, Failed, Link, Receipt};
 use ft_system::UdpLink;
 use std::net::Net;
 use std::time::Clock;

@@ -2,7 +2,7 @@
 
 use crate::sockets::PORT;
 use crate::watch::Watch;
-use ft_io::{Addr, Receipt, Link, NoMemory};
+use ft_io::{Addr, Link, NoMemory, Receipt};
 use ft_system::UdpLink;
 use std::alloc::Global;
 use std::net::Net;

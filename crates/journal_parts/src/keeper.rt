@@ -101,8 +101,10 @@ fn serve_and_report<K: Desk, O: Sink>(
 ) -> Result<(), ProcessEnd>
     requires within { turns ≤ most_turns }
     requires idle { kept.old.round ≡ [] }
-    ensures done { OnOk result (HasLived compact turns (place_of kept.old) (K.reported desk.old) (K.reported desk.new) (Appends (O.taken out.old) (O.taken out.new))) }
-    ensures stops { IfErr result (ServingStops compact turns (place_of kept.old) (K.reported desk.old) (K.reported desk.new) (O.taken out.old) (O.taken out.new)) }
+    ensures done { OnOk result (HasLived compact turns (place_of kept.old) (K.reported desk.old) (K.reported desk.new)
+        (Appends (O.taken out.old) (O.taken out.new))) }
+    ensures stops { IfErr result (ServingStops compact turns (place_of kept.old) (K.reported desk.old) (K.reported desk.new) (O.taken out.old)
+        (O.taken out.new)) }
     ensures cause { IsErrOf result ProcessEnd.JournalFault → Rose (K.fault_count desk.old) (K.fault_count desk.new) }
     ensures write_cause { result ≡ Err (ProcessEnd.Node NodeEnd.WriteFault) → Rose (O.fault_count out.old) (O.fault_count out.new) }
     ensures no_write_fault { UnlessFault result (O.fault_count out.new ≡ O.fault_count out.old) }

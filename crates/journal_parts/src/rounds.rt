@@ -22,7 +22,7 @@ ghost use Rattle.link_parts.specs.Ranges.{most_turns};
 use crate::answers::{Answer, reply_to_all};
 use crate::status::ProcessEnd;
 use disk::Desk;
-use ft_io::{Addr, Failed, Receipt, NoMemory};
+use ft_io::{Addr, Failed, NoMemory, Receipt};
 use kept_log::KeptLog;
 use link_parts::Counts;
 use logger_store::MsgOut;
@@ -125,7 +125,8 @@ fn gather<K: Desk>(
     requires counts { HasRoom 256 counts.old }
     requires room { 256 ≤ vec_capacity answers.old }
     ensures count { IfOk result (λ count. (1 ≤ count) × (count ≤ most)) }
-    ensures gathered { IfOk result (λ count. HasGathered count kept.old kept.new (K.reported desk.old) (K.reported desk.new) counts.old counts.new answers.new.items) }
+    ensures gathered { IfOk result (λ count. HasGathered count kept.old kept.new (K.reported desk.old)
+        (K.reported desk.new) counts.old counts.new answers.new.items) }
     ensures cut_off { OnErr result (IsCutGathering most kept.old.grammar kept.old.log (K.reported desk.old) (K.reported desk.new)) }
     ensures waited { IfOk result (λ count. Reports (K.beside desk.old).waits (K.beside desk.new).waits (waits_in count)) }
     ensures capacity { vec_capacity answers.new ≡ vec_capacity answers.old }
@@ -244,7 +245,8 @@ pub(crate) fn serve<K: Desk>(
 ) -> Result<Counts, ProcessEnd>
     requires within { turns ≤ most_turns }
     requires idle { kept.old.round ≡ [] }
-    ensures served { IfOk result (λ counts. HasServed compact turns (place_of kept.old) (place_of kept.new) (K.reported desk.old) (K.reported desk.new) counts) }
+    ensures served { IfOk result (λ counts. HasServed compact turns (place_of kept.old) (place_of kept.new) (K.reported desk.old)
+        (K.reported desk.new) counts) }
     ensures stopped { IfErr result (HasEndedBy compact turns (place_of kept.old) (K.reported desk.old) (K.reported desk.new)) }
     ensures ends { IfErr result IsServeEnd }
     ensures cause { IsErrOf result ProcessEnd.JournalFault → Rose (K.fault_count desk.old) (K.fault_count desk.new) }

@@ -130,7 +130,8 @@ fn take_place<K: Desk>(desk: &mut K) -> Result<(), Failed>
     ensures replaced { OnOk result ((bytes : List ℕ) → HasAside (K.aside_synced desk.old) bytes
         → Reports (K.reported desk.old) (K.reported desk.new) (on_disk (Replaced bytes false ∷ Synced false ∷ []))) }
     ensures failed { OnErr result ((bytes : List ℕ) → HasAside (K.aside_synced desk.old) bytes
-        → (done : List DiskCall) × IsFrontOf (Replaced bytes false ∷ Synced false ∷ []) done × Reports (K.reported desk.old) (K.reported desk.new) (on_disk done)) }
+        → (done : List DiskCall) × IsFrontOf (Replaced bytes false ∷ Synced false ∷ []) done
+        × Reports (K.reported desk.old) (K.reported desk.new) (on_disk done)) }
     ensures cause { OnErr result (Rose (K.fault_count desk.old) (K.fault_count desk.new)) }
     ensures never_falls { K.fault_count desk.old ≤ K.fault_count desk.new }
     ensures beside { K.beside desk.new ≡ K.beside desk.old }

@@ -39,6 +39,7 @@ use Rattle.report_laws.proofs.Fronts.{HasFront, front_of, no_feed, printable_of,
 use Rattle.report_laws.proofs.ReadLines.{Reads, IsClean, joined, joined_more, all_more, more_read, within_read, lines_back, spelled_by}
 use Rattle.line_check.specs.HeaderText.{IsHeaderSoFar, header_so_far, own_text, is_header_of, if_header, header_in, service_text_line, service_among, all_services, service_in}
 use Rattle.line_check.proofs.Spelled.{same_bytes, bytes_same}
+use Rattle.ft_model.proofs.AcceptedLemmas.{none_is}
 
 -- what the lines so far lead the grammar to
 pub service_follows : (kind : ServiceKind) → Follows Empty (says.Service kind)
@@ -148,10 +149,6 @@ text_read bytes front draft r schedule clean e = by_size (nat_le (length (bytes 
     )
     by_size false f g = absurd (cc)
 
-not_some : {A : Type 0} (o : Option A) → is_none o ≡ true → o ≡ None
-not_some None e = refl
-not_some (Some x) e = absurd (true≢false (sym e))
-
 is_read : (draft : Draft) (line : List ℕ) (schedule : Schedule) → IsHeaderSoFar draft → IsClean (take (length line - 1) line) → 0 < length line
     → header_in (codes "ftreplay 1\n" ++ (schedule_bytes draft ++ line)) ≡ Some schedule → IsRead draft line schedule
 is_read draft line schedule h clean some e = by_result (read_text (own_text text)) refl e
@@ -175,8 +172,8 @@ is_read draft line schedule h clean some e = by_result (read_text (own_text text
           after = after.1;
           short = after.0;
           one_logger = not_true schedule.twin (left_true (not schedule.twin) (is_none schedule.marks) plain);
-          unmarked = not_some schedule.marks (right_true (not schedule.twin) (is_none schedule.marks) plain);
-          fleeting = not_some schedule.lasting (right_true (not schedule.twin && is_none schedule.marks) (is_none schedule.lasting) all);
+          unmarked = none_is schedule.marks (right_true (not schedule.twin) (is_none schedule.marks) plain);
+          fleeting = none_is schedule.lasting (right_true (not schedule.twin && is_none schedule.marks) (is_none schedule.lasting) all);
           written = same_bytes (header schedule) text (right_true (not schedule.twin && is_none schedule.marks && is_none schedule.lasting) _ t);
         }
 

@@ -10,14 +10,13 @@ use Rattle.ft_io.proofs.Booleans.{left_true, right_true}
 use Rattle.server_trait.specs.Service.{AreBytes}
 use Rattle.seq_arith.specs.Message.{Body, Message}
 use Rattle.seq_arith.specs.Message.{Body as bodies}
-use Rattle.seq_arith.specs.MessageGrammar.{all_kinds, fields_of, is_in_range_by, all_in_range_by, most_ending, has_length, behind_at, kind_of, numbers_of, behind_of, lens_of, lens_in, lens_bytes, flag, body_in, message_length, AllFit, is_sound_by}
+use Rattle.seq_arith.specs.MessageGrammar.{all_kinds, fields_of, is_in_range_by, all_in_range_by, has_length, behind_at, kind_of, numbers_of, behind_of, lens_of, lens_in, lens_bytes, flag, body_in, message_length, AllFit, is_sound_by}
 use Rattle.seq_arith.specs.declared.kinds.Grammar.{Grammar}
-use Rattle.seq_arith.specs.declared.kinds.Grammar.TheVariants as grammars
 use Rattle.seq_arith.specs.declared.kinds.Field.{Field}
 use Rattle.seq_arith.specs.declared.kinds.Field.TheVariants as fields
 use Rattle.seq_arith.specs.declared.kinds.Kind.{Kind}
 use Rattle.seq_arith.specs.declared.kinds.Kind.TheVariants as kinds
-use Rattle.seq_arith.proofs.MessageSpelling.{lens_back}
+use Rattle.seq_arith.proofs.MessageSpelling.{lens_back, ending_small}
 use Rattle.ft_model.specs.Report.{name_of, field_words, message_words}
 use Rattle.ft_model.specs.Texts.{hex_text, list_text, bit_text, ending_text}
 use Rattle.ft_model.specs.Wire.{CanBeWrittenBy}
@@ -237,13 +236,9 @@ flag_range : (grammar : Grammar) (boot behind : ℕ) (all : List Field) (numbers
     → field_at all at ≡ Some fields.Flag → slice_index numbers at ≤ 1
 flag_range grammar boot behind all numbers at ranged is = leb-true (slice_index numbers at) 1 (range_at grammar boot behind fields.Flag all numbers at ranged is)
 
-ending_low : (grammar : Grammar) (n : ℕ) → nat_le n (most_ending grammar) ≡ true → n ≤ 2
-ending_low grammars.Plain n h = omega (arith, leb-true n 1 h)
-ending_low grammars.Wide n h = leb-true n 2 h
-
 ending_range : (grammar : Grammar) (boot behind : ℕ) (numbers : List ℕ) → all_in_range_by grammar boot behind (fields_of kinds.Data) numbers ≡ true → slice_index numbers 4 ≤ 2
 ending_range grammar boot behind numbers ranged =
-    ending_low grammar (slice_index numbers 4) (range_at grammar boot behind fields.Ending (fields_of kinds.Data) numbers 4 ranged refl)
+    ending_small grammar (slice_index numbers 4) (range_at grammar boot behind fields.Ending (fields_of kinds.Data) numbers 4 ranged refl)
 
 numbers_in_body : (grammar : Grammar) (kind : Kind) (boot behind : ℕ) (numbers bytes : List ℕ) → AllFit (fields_of kind) numbers → all_in_range_by grammar boot behind (fields_of kind) numbers ≡ true → numbers_of (body_in kind numbers bytes) ≡ numbers
 unfolding elements

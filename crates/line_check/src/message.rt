@@ -178,7 +178,8 @@ fn key_alone_fits(limits: Limits, words: Words<'_>) -> bool
 /// Returns whether the words begin with a key, and then this name and a number that fits its field.
 #[tactic(auto, using(ft_io::proofs::Booleans::and_true))]
 fn key_and_one_fit(limits: Limits, field: Field, name: &str, words: Words<'_>) -> bool
-    ensures { result ≡ spelled.columns_fit limits.grammar limits.boot limits.behind (KeyColumn ∷ NumberColumn name.now field ∷ []) (words_left words.entry.rest) }
+    ensures { result ≡ spelled.columns_fit limits.grammar limits.boot limits.behind (KeyColumn ∷ NumberColumn name.now field ∷ [])
+        (words_left words.entry.rest) }
 {
     let mut words = words;
     key_fits(&mut words) && number_fits(limits, field, name, &mut words)

@@ -20,7 +20,9 @@ ghost use Rattle.link_parts.specs.ClientRuns.{Runs, IsEndedBy, IsClient, IsScrip
 use crate::receiving::DATAGRAM_ROOM;
 use crate::role::ClientRole;
 use crate::status::NodeEnd;
-use ft_io::{Addr, Failed, Receipt, Link, NoMemory, ReadEnd, Sink, Source, read_to_limit, write_all};
+use ft_io::{
+    Addr, Failed, Link, NoMemory, ReadEnd, Receipt, Sink, Source, read_to_limit, write_all,
+};
 use ft_model::Script;
 use peer_client::{ClientEnd, LiveClient};
 use std::alloc::Global;

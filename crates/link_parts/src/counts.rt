@@ -10,7 +10,7 @@ ghost use Rattle.link_parts.specs.Ends.{UnlessFault};
 ghost use Rattle.link_parts.specs.LineOutput.{ReportStops};
 
 use crate::status::NodeEnd;
-use ft_io::{Failed, Receipt, NoMemory, Sink, write_all};
+use ft_io::{Failed, NoMemory, Receipt, Sink, write_all};
 use itoa::Buffer;
 use std::alloc::Global;
 

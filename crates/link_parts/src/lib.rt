@@ -12,12 +12,12 @@ pub use options::{OptionName, read_options};
 pub use pair::run_pair;
 pub use program::{Program, is_name};
 pub use receiving::{DATAGRAM_ROOM, receive};
+pub use reporting::report_end;
 pub use role::{
     ClientRole, LoggerRole, Loggers, NodeRole, PairRole, ServerRole, addr_at, logger_role,
     number_or, read_lasting_role, read_own_role, read_role,
 };
 pub use status::{NodeEnd, Status};
-pub use reporting::report_end;
 
 mod client;
 mod counts;
@@ -27,6 +27,6 @@ mod options;
 mod pair;
 mod program;
 mod receiving;
+mod reporting;
 mod role;
 mod status;
-mod reporting;

@@ -223,7 +223,8 @@ struct Children {
 /// Starts a child.
 fn start<P: Spawner>(words: &Words, children: &mut Children, kids: &mut P) -> Result<(), PairFault>
     requires { children.old.count ≤ 8 }
-    ensures done { OnOk result (StartDone words.now children.old children.new (P.started kids.old) (P.started kids.new) (P.reported kids.old) (P.reported kids.new)) }
+    ensures done { OnOk result (StartDone words.now children.old children.new (P.started kids.old) (P.started kids.new) (P.reported kids.old)
+        (P.reported kids.new)) }
     ensures stops { IfErr result (λ end. (end ≡ PairFault.Child) × Reports (P.reported kids.old) (P.reported kids.new) []) }
     ensures cause { OnErr result (Rose (P.fault_count kids.old) (P.fault_count kids.new)) }
     ensures never_falls { P.fault_count kids.old ≤ P.fault_count kids.new }
@@ -277,7 +278,8 @@ fn take_step<P: Spawner, O: Sink>(
     requires counted { IsCounted children.old (P.started kids.old) }
     requires fits { FitsStep children.old.count step.now }
     requires few { children.old.count ≤ 8 }
-    ensures done { OnOk result (StepDone step.now children.old children.new (P.started kids.old) (P.started kids.new) (P.reported kids.old) (P.reported kids.new)
+    ensures done { OnOk result (StepDone step.now children.old children.new (P.started kids.old) (P.started kids.new) (P.reported kids.old)
+        (P.reported kids.new)
         (Appends (O.taken out.old) (O.taken out.new))) }
     ensures stops { IfErr result (StepStops step.now children.old (P.started kids.old) (P.reported kids.old) (P.reported kids.new)
         (O.taken out.old) (O.taken out.new)) }
@@ -307,7 +309,8 @@ fn take_steps<P: Spawner, O: Sink>(
 ) -> Result<(), PairFault>
     requires fit { FitSteps 0 steps.now }
     requires few { length steps.now ≤ 8 }
-    ensures done { OnOk result (IsPair steps.now (P.started kids.old) (P.reported kids.old) (P.reported kids.new) (Appends (O.taken out.old) (O.taken out.new))) }
+    ensures done { OnOk result (IsPair steps.now (P.started kids.old) (P.reported kids.old) (P.reported kids.new)
+        (Appends (O.taken out.old) (O.taken out.new))) }
     ensures stops { IfErr result (StepsStop steps.now (P.started kids.old) (P.reported kids.old) (P.reported kids.new) (O.taken out.old) (O.taken out.new)) }
     ensures child_cause { IsErrOf result PairFault.Child → Rose (P.fault_count kids.old) (P.fault_count kids.new) }
     ensures write_cause { IsErrOf result PairFault.Write → Rose (O.fault_count out.old) (O.fault_count out.new) }

@@ -6,7 +6,7 @@ ghost use Rattle.link_parts.specs.Counts.{with_calls, HasRoom};
 ghost use Rattle.link_parts.specs.Receipt.{Received, datagram, received_as, IsQuiet};
 
 use crate::counts::Counts;
-use ft_io::{Addr, Receipt, Link};
+use ft_io::{Addr, Link, Receipt};
 
 /// The length of the buffer for a datagram, in bytes: no packet and no message is longer.
 pub const DATAGRAM_ROOM: usize = 2_048;

@@ -2,7 +2,7 @@
 //! makes. So it starts itself again.
 
 use disk::FileDisk;
-use ft_io::{Addr, Receipt, Link};
+use ft_io::{Addr, Link, Receipt};
 use ft_system::UdpLink;
 use std::alloc::Global;
 use std::fs::{File, Files};

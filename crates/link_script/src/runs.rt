@@ -97,7 +97,12 @@ pub fn run(alloc: Global, words: &[String], setting: Setting, said: &mut Said) {
     write!(said, "status {code}\n");
     said.add(process.out.written());
     said.add(process.err.written());
-    write_sent(process.link.reported(), process.children.reported(), way, said);
+    write_sent(
+        process.link.reported(),
+        process.children.reported(),
+        way,
+        said,
+    );
 }
 
 /// Says what was called on the link and on the spawner.

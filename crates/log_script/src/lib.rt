@@ -6,8 +6,8 @@
 //! - `byte I AT` and `length I AT` print the byte and the length at place AT of the entry at place I;
 //! - `trim I READS` trims the entry at place I by its first READS reads, and prints how many bytes these took; `kept I` prints how many bytes are kept;
 //! - `marks` begins with an empty log with marks, next to the other one; `give HEX` gives it bytes, `mark BOOT IP PORT READS LENGTH MADE STATE` a mark
-//!   with a state in hexadecimal, and `ask BOOT IP PORT` a question for a mark; the answer is printed as `out HEX`, or `out -` where there is none; `kept marked I`
-//!   prints how many bytes it keeps of the entry at place I;
+//!   with a state in hexadecimal, and `ask BOOT IP PORT` a question for a mark; the answer is printed as `out HEX`, or `out -` where there is none;
+//!   `kept marked I` prints how many bytes it keeps of the entry at place I;
 //! - `random COUNT SEED` gives COUNT datagrams that are drawn from SEED, and prints how many of them were refused, answered and passed over, and a
 //!   number that follows from all answers.
 //!

@@ -10,7 +10,7 @@ pub use trimming::{Trim, TrimStore};
 mod excluded;
 pub mod laws;
 mod msg_out;
+mod reporting;
 mod store;
 mod stored_entry;
-mod reporting;
 mod trimming;

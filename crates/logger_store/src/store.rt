@@ -18,11 +18,11 @@ ghost use Rattle.log_pages.specs.Pages.{changed_at, reads_on, took, without, pla
 ghost use Rattle.logger_store.specs.StoreState.{adds, answer_bytes, answer_bytes_by, acknowledging, with_boot, wants_memory, bytes_of, lengths_of};
 
 use crate::msg_out::MsgOut;
-use crate::stored_entry::StoredEntry;
 use crate::reporting::{
     answer_count, answer_ended, answer_head, answer_lengths, answer_opened, answer_part,
     answer_reads, answer_stable, answer_stale,
 };
+use crate::stored_entry::StoredEntry;
 use ft_io::{Key, NoMemory};
 use indexmap::IndexMap;
 use limits::ENTRIES;

@@ -22,11 +22,10 @@ use Rattle.ft_model.specs.Node.Input.{Packet_comes, Message_comes, Noise_comes, 
 use Rattle.ft_model.specs.World.{World, Happens, Moves, ServerMoves, ServerTurn, Delivered, ClientReceives, ClientReads, LogReceives, Flipped, IsNextBoot, segment_or_noise, message_or_noise}
 use Rattle.ft_model.specs.declared.event.Event.{Event}
 use Rattle.ft_model.specs.declared.event.Event.TheVariants.{Boot, Crash, Tick, Deliver, Flip, Begin, Send, Fin, Ack, Reset, Stop}
-use Rattle.ft_model.proofs.Happened.{IsUnderWay, IsBrought, segment_is_noise, flip_is_quiet}
+use Rattle.ft_model.proofs.Happened.{IsUnderWay, IsBrought, segment_is_noise, flip_is_quiet, message_is_noise}
 use Rattle.ft_model.proofs.LogAnswers.{all_answers}
 use Rattle.long_laws.specs.LongTrace.{asks_about}
 use Rattle.long_laws.specs.QuarantineWorld.{arriving, arriving_as, event_input}
-use Rattle.long_laws.proofs.Spared.{message_is_noise}
 
 -- it says nothing to the log
 abbrev pub SaysNothing : Packet → Type 0

@@ -1,15 +1,14 @@
 -- No RST goes to a client whose entry is in the log and not done, in any moment of a long trace in which the server doesn't hear that the log is full.
-use Rattle.std.proofs.Common.{◌≡◌, ℕ, suc, Bool, true, false, refl, sym, ap, ◌∙◌, subst, true≢false, inl, inr, ⊎_elim, Result, Ok, Err, IsErr, Option, Some, None, option_to_list, List, [], ◌∷◌, ◌++◌, length}
+use Rattle.std.proofs.Common.{◌≡◌, ℕ, suc, Bool, true, false, refl, sym, ap, ◌∙◌, subst, true≢false, inl, inr, ⊎_elim, Result, Ok, Err, Option, Some, None, option_to_list, List, [], ◌∷◌, ◌++◌, length}
 use Rattle.std.specs.List.{AllByRecursion, list_any}
 use Rattle.std.proofs.lemmas.Bool.{or_parts}
 use Rattle.ft_io.specs.declared.Addr.{Addr}
 use Rattle.ft_io.specs.declared.Key.{Key}
 use Rattle.ft_io.specs.Key.{key_eq}
 use Rattle.seq_arith.specs.Packet.{Segment}
-use Rattle.seq_arith.specs.Message.{Body, Message}
+use Rattle.seq_arith.specs.Message.{Body}
 use Rattle.seq_arith.specs.Message.Body.{OpenMsg, EndedMsg}
 use Rattle.seq_arith.specs.declared.BadPacket.{BadPacket}
-use Rattle.seq_arith.specs.declared.kinds.BadMsg.{BadMsg}
 use Rattle.server_trait.specs.Service.{Machine}
 use Rattle.ft_model.specs.Client.{Client}
 use Rattle.ft_model.specs.Log.{Log, Entry, entry_of}
@@ -21,13 +20,13 @@ use Rattle.ft_model.specs.Node.Stage.{Asking, Fetching, Serving, Fenced}
 use Rattle.ft_model.specs.Node.Input.{Packet_comes, Message_comes, Noise_comes, Tick_comes}
 use Rattle.ft_model.specs.Point.{Point}
 use Rattle.ft_model.specs.Resets.{ResetsNoLogged}
-use Rattle.ft_model.specs.World.{World, Happens, IsStart, ServerTurn, ServerMoves, Delivered, Flipped, ClientReads, Moves, message_or_noise}
+use Rattle.ft_model.specs.World.{World, Happens, IsStart, ServerTurn, ServerMoves, Delivered, Flipped, ClientReads, Moves}
 use Rattle.ft_model.specs.declared.event.Event.{Event}
 use Rattle.ft_model.specs.declared.event.Event.TheVariants.{Boot, Crash, Tick, Deliver, Flip, Begin, Send, Fin, Ack, Reset, Stop}
 use Rattle.ft_model.proofs.Authored.{Speaks}
 use Rattle.ft_model.proofs.AuthorTurns.{is_settled}
 use Rattle.ft_model.proofs.Backed.{PacketBacked}
-use Rattle.ft_model.proofs.Happened.{Happened, IsBrought, IsUnderWay, happened, flip_is_quiet, bit_changed, message_bit_changed, segment_is_noise}
+use Rattle.ft_model.proofs.Happened.{Happened, IsBrought, IsUnderWay, happened, flip_is_quiet, bit_changed, message_bit_changed, segment_is_noise, message_is_noise}
 use Rattle.ft_model.proofs.Happened.Happened.{server_turned}
 use Rattle.ft_model.proofs.Lists.{all_both, all_weaker, all_append, all_find, none_is_some, some_is, same_key}
 use Rattle.ft_model.proofs.LogAnswers.{all_answers}
@@ -236,11 +235,6 @@ kept_answering service key w sent after k l =
     )
 
 -- What an event sends
-
--- bytes that are no message are noise
-pub message_is_noise : (r : Result Message BadMsg) → IsErr r → message_or_noise r ≡ Noise_comes
-message_is_noise (Err why) h = refl
-message_is_noise (Ok message) h = absurd (true≢false (sym h))
 
 turn_spares : {State : Type 0} (service : Machine State) (w : World) (input : Input) (sent : List Packet) (o : Option Node) (later : Option Node) → Stands service w → IsAnswering w → w.node ≡ o
     → IsBrought w input → is_full_input input ≡ false → ServerTurn service input o sent later → AllByRecursion (ResetsNoLogged w.log) sent

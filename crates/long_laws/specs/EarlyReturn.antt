@@ -89,7 +89,8 @@ moment_21 = moment (Joint_event (Deliver 5)) (from_log 1 (OpenedMsg numbers) ∷
 
 abbrev pub opened_trace : List LongMoment
 opened_trace =
-    moment_21 ∷ moment_20 ∷ moment_19 ∷ moment_18 ∷ moment_17 ∷ moment_16 ∷ moment_15 ∷ moment_14 ∷ moment_13 ∷ moment_12 ∷ moment_11 ∷ map joint_moment opening_trace
+    moment_21 ∷ moment_20 ∷ moment_19 ∷ moment_18 ∷ moment_17 ∷ moment_16 ∷ moment_15 ∷ moment_14 ∷ moment_13 ∷ moment_12 ∷ moment_11
+    ∷ map joint_moment opening_trace
 
 -- the RST arrives
 abbrev pub moment_22 : LongMoment

@@ -90,4 +90,5 @@ moment_15 = moment (Deliver 13) (ended ∷ []) (record moment_14.world { log = l
 
 abbrev pub trace : List Moment
 trace =
-    moment_15 ∷ moment_14 ∷ moment_13 ∷ moment_12 ∷ moment_11 ∷ moment_10 ∷ moment_9 ∷ moment_8 ∷ moment_7 ∷ moment_6 ∷ moment_5 ∷ moment_4 ∷ moment_3 ∷ moment_2 ∷ moment_1 ∷ []
+    moment_15 ∷ moment_14 ∷ moment_13 ∷ moment_12 ∷ moment_11 ∷ moment_10 ∷ moment_9 ∷ moment_8 ∷ moment_7 ∷ moment_6 ∷ moment_5 ∷ moment_4 ∷ moment_3
+    ∷ moment_2 ∷ moment_1 ∷ []

@@ -44,4 +44,5 @@ moment_22 = moment (Joint_event (Deliver 6)) [] past (record moment_21.world.now
 
 abbrev pub trace : List LongMoment
 trace =
-    moment_22 ∷ moment_21 ∷ moment_20 ∷ moment_19 ∷ moment_18 ∷ moment_17 ∷ moment_16 ∷ moment_15 ∷ moment_14 ∷ moment_13 ∷ moment_12 ∷ moment_11 ∷ map joint_moment opening_trace
+    moment_22 ∷ moment_21 ∷ moment_20 ∷ moment_19 ∷ moment_18 ∷ moment_17 ∷ moment_16 ∷ moment_15 ∷ moment_14 ∷ moment_13 ∷ moment_12 ∷ moment_11
+    ∷ map joint_moment opening_trace

@@ -6,5 +6,5 @@ pub use store::MarkStore;
 
 mod excluded;
 mod kept_mark;
-mod store;
 mod reporting;
+mod store;

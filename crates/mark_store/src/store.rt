@@ -207,7 +207,8 @@ impl MarkStore {
     fn answer_marked(&self, boot: u64, key: Key, out: &mut MsgOut)
         requires boot { 1 ≤ boot }
         requires empty { out.old ≡ [] }
-        ensures { (l : MarkedLog) → IsLeftOfMarked self.now l → out.new ≡ reply_bytes (option_map (about_mark boot) (reported_of_mark (Marking key no_mark) l)) }
+        ensures { (l : MarkedLog) → IsLeftOfMarked self.now l
+            → out.new ≡ reply_bytes (option_map (about_mark boot) (reported_of_mark (Marking key no_mark) l)) }
     {
         if let Some(place) = self.log.place_of(key) {
             answer_marked(boot, key, self.mark_at(place).reads, out);
@@ -275,7 +276,8 @@ impl MarkStore {
         self.answer_by(alloc, Grammar::Plain, bytes, out)
     }
 
-    /// Takes bytes, which may be a message of the log in a grammar, one about marks, or neither, and replaces the content of `out` by the answer, or by nothing.
+    /// Takes bytes, which may be a message of the log in a grammar, one about marks, or neither, and replaces the content of `out` by the answer, or by
+    /// nothing.
     pub fn answer_by(
         &mut self,
         alloc: Global,

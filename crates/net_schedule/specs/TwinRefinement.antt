@@ -83,7 +83,8 @@ abbrev pub ParcelComesAs : {State : Type 0} → Machine State → Parcel → Lis
 ParcelComesAs service (Outside (To_logger message)) bytes before sent after =
     LoggerHas before.pair.head_stopped (comes_from (grammar_of before.profile) sides.Server bytes) before sent after
 ParcelComesAs service (Outside packet) bytes before sent after = Elsewhere (λ w. DeliveredAs service w packet bytes) before sent after
-ParcelComesAs service (Inside (Forward number request)) bytes before sent after = TailHas (comes_from (grammar_of before.profile) sides.Other bytes) before sent after
+ParcelComesAs service (Inside (Forward number request)) bytes before sent after = TailHas
+    (comes_from (grammar_of before.profile) sides.Other bytes) before sent after
 ParcelComesAs service (Inside (Got number)) bytes before sent after = HeadHas (comes_from (grammar_of before.profile) sides.Other bytes) before sent after
 
 -- what these bytes say may arrive at the addressee of a parcel; between the two loggers anything may arrive

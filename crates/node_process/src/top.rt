@@ -12,7 +12,7 @@ ghost use Rattle.node_process.specs.Run.{RunsAs, Runs, HasRun};
 
 use crate::process::Process;
 use crate::role::{Role, Services, read_role};
-use chain_parts::{TwinRole, run_part, run_notifier};
+use chain_parts::{TwinRole, run_notifier, run_part};
 use disk::Desk;
 use ft_io::{Link, Sink, Source, Spawner};
 use journal_parts::{ProcessEnd, report_end, run_keeper};

@@ -17,7 +17,8 @@ const FROM: Key = Key {
     port: 666,
 };
 
-/// What a line asks for: how many strikes, from which seed, of how many kinds, with timestamps or without, and the next numbers of the client and of the server.
+/// What a line asks for: how many strikes, from which seed, of how many kinds, with timestamps or without, and the next numbers of the client and of the
+/// server.
 #[derive(Clone, Copy)]
 pub(crate) struct Strikes {
     pub times: u64,

@@ -1,6 +1,5 @@
 -- What a packet says that a connection is given.
-use Rattle.std.proofs.Common.{◌≡◌, ℕ, zero, suc, ◌+◌, ◌-◌, ◌<◌, ◌≤◌, ◌^◌, ◌==◌, ◌&&◌, refl, sym, ap, subst, Ok, None, Some, List, [], ◌∷◌, length, take, drop, slice_index, arith, length-drop}
-use Rattle.std.specs.Prelude.{IsOk}
+use Rattle.std.proofs.Common.{◌≡◌, ℕ, zero, suc, ◌+◌, ◌-◌, ◌<◌, ◌≤◌, ◌^◌, ◌==◌, ◌&&◌, ap, subst, Ok, None, Some, List, [], ◌∷◌, length, take, drop, slice_index, arith, length-drop}
 use Rattle.seq_arith.specs.Bytes.{word_at, long_at}
 use Rattle.seq_arith.specs.Packet.{Segment}
 use Rattle.seq_arith.specs.PacketGrammar.{reading, payload_at, head_in, segment_in, options_in, timestamps_in}
@@ -11,6 +10,7 @@ use Rattle.connection_laws.specs.Turn.{SegmentFits}
 use Rattle.node_serving.proofs.Turned.{packet_is}
 use Rattle.ft_io.proofs.Choices.{holds_if}
 use Rattle.wrapped_conn.proofs.SoundAgain.{AreShort}
+use Rattle.wrapped_conn.proofs.Stamping.{is_accepted}
 
 long_low : (bytes : List ℕ) (at : ℕ) → ((i : ℕ) → slice_index bytes i < 256) → long_at bytes at < 2 ^ 32
 unfolding long_at
@@ -20,16 +20,13 @@ word_low : (bytes : List ℕ) (at : ℕ) → ((i : ℕ) → slice_index bytes i 
 unfolding word_at
 word_low bytes at small = omega (arith, small at, small (at + 1))
 
-pub accepted : (bytes : List ℕ) (segment : Segment) → reading bytes ≡ Ok segment → IsOk (reading bytes)
-accepted bytes segment reads = subst (λ r. IsOk r) (sym reads) refl
-
 pub packet_fits : (bytes : List ℕ) (segment : Segment) → reading bytes ≡ Ok segment → length bytes ≤ 1500
-packet_fits bytes segment reads = packet_is_short bytes (accepted bytes segment reads)
+packet_fits bytes segment reads = packet_is_short bytes (is_accepted bytes segment reads)
 
 pub text_fits : (bytes : List ℕ) (segment : Segment) → reading bytes ≡ Ok segment → length segment.payload ≤ 1460
 unfolding segment_in
 text_fits bytes segment reads =
-    let ok = accepted bytes segment reads in
+    let ok = is_accepted bytes segment reads in
     let size = length-drop (payload_at bytes) bytes in
     let long = packet_is_short bytes ok in
     let start = start_is_there bytes ok in

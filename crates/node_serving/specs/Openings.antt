@@ -71,4 +71,5 @@ pub record Admits {S : Type 0} (service : Machine S) (node : Node) (segment : Se
     × Slot S)) (old new : List Wire) : Type 0 where
   pub number : next ≡ initial_number node.isn (opened + length (newcomers node (Packet_comes segment) opened places))
   pub stands : AllStand service node now (places ++ newcomers node (Packet_comes segment) opened places)
-  pub opens : ArePut (grammar_of node.profile) (flat_map (opens_at node (Packet_comes segment)) (places ++ newcomers node (Packet_comes segment) opened places)) old new
+  pub opens : ArePut (grammar_of node.profile)
+      (flat_map (opens_at node (Packet_comes segment)) (places ++ newcomers node (Packet_comes segment) opened places)) old new

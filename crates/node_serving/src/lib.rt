@@ -20,8 +20,8 @@ pub use slot::{Opening, Slot, live_conn};
 pub use slots::{add_slot, conn_at, forget_slot, nth_key};
 pub use turn::Turn;
 
-mod excluded;
 mod arrivals;
+mod excluded;
 mod identity;
 mod live;
 mod marked_serving;

@@ -59,7 +59,8 @@ pub fn send_new<S: Saved>(
     ensures alone { OnOk result (MarksOnly who.boot key marks.old marks.new turn.old.sent.items turn.new.sent.items) }
     ensures law { OnOk result ((every : ℕ) (p : Point) → marks.old.every ≡ every_for S.is_savable every
         → IsOursAt (service_of S.Service who) who.local who.boot conn.now p → AreBytes p.taken
-        → MarksNew (marker_of S.Service (saving S.form S.state_of S.is_savable) who every) (grammar_in who) who.boot key p marks.old marks.new from turn.old.sent.items turn.new.sent.items) }
+        → MarksNew (marker_of S.Service (saving S.form S.state_of S.is_savable) who every)
+        (grammar_in who) who.boot key p marks.old marks.new from turn.old.sent.items turn.new.sent.items) }
 {
     let waits = marks.message(who.boot, key).is_some();
     marks.advance(turn.alloc, key, conn)?;

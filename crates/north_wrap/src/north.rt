@@ -128,7 +128,8 @@ impl<S: Service> North<S> {
         requires within { replayed.read + length replayed.rest.items ≤ longest_stream }
         requires made { replayed.made ≤ longest_stream }
         requires reads { replayed.count ≤ replayed.read + one_if replayed.ended }
-        ensures { result ≡ resumed_north replayed.service replayed.rest.items replayed.pending.items replayed.count replayed.read replayed.made replayed.ended replayed.closed }
+        ensures { result ≡ resumed_north replayed.service replayed.rest.items replayed.pending.items replayed.count replayed.read replayed.made
+            replayed.ended replayed.closed }
     {
         let ReplayedReads {
             service,

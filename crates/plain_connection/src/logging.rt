@@ -266,7 +266,8 @@ impl<S: Service> PlainConnection<S> {
         was_reset: bool,
         sent: &mut PlainPackets,
     ) -> Result<(), NoMemory>
-        ensures { (p : Point) → was_reset ≡ p.reset → OnOk result (Appends sent.old sent.new (map (reported_by boot) (dones (news_in news.now) p self.now.point))) }
+        ensures { (p : Point) → was_reset ≡ p.reset
+            → OnOk result (Appends sent.old sent.new (map (reported_by boot) (dones (news_in news.now) p self.now.point))) }
     {
         if !self.reports_done(news, was_reset) {
             return Ok(());

@@ -157,8 +157,8 @@ impl PlainLog {
         }
     }
 
-    /// Takes a message that may be sent in the wide grammar, as each of the plain one may. Each message that a codec reads may. After `NoMemory` the log may only
-    /// be dropped.
+    /// Takes a message that may be sent in the wide grammar, as each of the plain one may. Each message that a codec reads may. After `NoMemory` the log may
+    /// only be dropped.
     #[tactic(auto, using(crate::proofs::Ranges::stays_in_stream), unfolding(ft_model::specs::Log::log_after))]
     pub fn take(&mut self, alloc: Global, msg: &Msg<'_>) -> Result<(), NoMemory>
         requires { IsSendableBy Wide msg.now }

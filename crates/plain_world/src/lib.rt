@@ -7,12 +7,12 @@ pub use client::PlainClient;
 pub use world::PlainWorld;
 
 mod actors;
+mod arrivals;
 mod asking;
 mod client;
 mod clients;
 mod excluded;
 mod fetching;
-mod arrivals;
 mod incarnation;
 mod input;
 mod log;

@@ -115,7 +115,8 @@ held_received started greeting state_of _ s = None
 
 -- .. while it is awaited
 abbrev pub mark_received : {S : Type 0} → (ℕ → S) → (S → List ℕ) → (ℕ → List ℕ → Option S) → MarkMessage → FetchingState S → Option (FetchingState S)
-mark_received started greeting state_of message s = if message.boot == s.boot && awaits s.marks then held_received started greeting state_of message.body s else None
+mark_received started greeting state_of message s = if message.boot == s.boot && awaits s.marks then held_received started greeting state_of message.body s
+    else None
 
 -- what is known after any message, if it is an answer
 abbrev pub any_received : {S : Type 0} → (ℕ → S) → (S → List ℕ → Served S) → (S → List ℕ) → (ℕ → List ℕ → Option S) → AnyMessage → FetchingState S

@@ -7,9 +7,9 @@ ghost use Rattle.replay_check.specs.Checks.{counted, legal_line, FindsLegal, Che
 ghost use Rattle.replay_check.specs.PartialWrite.{WroteFront, CountsFailed};
 ghost use Rattle.replay_check.specs.Stream.{stream};
 
+use crate::reporting::{write_both, write_text};
 use crate::safe::joint_traces_are_safe;
 use crate::status::RunEnd;
-use crate::reporting::{write_both, write_text};
 use ft_io::{Failed, Sink, Source, read_to_limit};
 use itoa::Buffer;
 use sample_servers::AnyService;

@@ -2,14 +2,14 @@
 //! whether it is that of a legal trace.
 #![tactic(auto)]
 
+pub use reporting::report_end;
 pub use reports::check_report;
 pub use safe::joint_traces_are_safe;
 pub use status::{RunEnd, Status, TooMuch, end_of_step};
-pub use reporting::report_end;
 
 mod check;
 mod excluded;
+mod reporting;
 mod reports;
 mod safe;
 mod status;
-mod reporting;

@@ -6,8 +6,8 @@ ghost use Rattle.replay_check.specs.Checks.{FindsLegal, HasChecked};
 ghost use Rattle.replay_check.specs.Stream.{stream};
 
 use crate::check::check;
-use crate::status::Status;
 use crate::reporting::report_end;
+use crate::status::Status;
 use ft_io::{Sink, Source};
 use report_laws::no_report_has_a_rejected_prefix;
 use sample_servers::AnyService;

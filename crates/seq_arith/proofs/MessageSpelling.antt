@@ -80,7 +80,7 @@ flag_back false = refl
 flag_back true = refl
 
 -- an ending is in no grammar above 2, and so it says one thing at most
-ending_small : (grammar : Grammar) (n : ℕ) → nat_le n (most_ending grammar) ≡ true → n ≤ 2
+pub ending_small : (grammar : Grammar) (n : ℕ) → nat_le n (most_ending grammar) ≡ true → n ≤ 2
 ending_small grammars.Plain n h = omega (arith, leb-true n 1 h)
 ending_small grammars.Wide n h = leb-true n 2 h
 

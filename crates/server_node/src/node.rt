@@ -98,7 +98,8 @@ impl<S: Saved> Node<S> {
         ensures marked { IfOk result (λ n. 1 ≤ every
             → MarkedNodeStands (marker_of S.Service (saving S.form S.state_of S.is_savable) n.who every)
             (booted_to_mark local (profile_of profile) boot isn) n) }
-        ensures hello { IfOk result (λ n. n.turn.sent.items ≡ map (wire_by (grammar_of (profile_of profile))) (hello (booted local (profile_of profile) boot isn))) }
+        ensures hello { IfOk result (λ n. n.turn.sent.items
+            ≡ map (wire_by (grammar_of (profile_of profile))) (hello (booted local (profile_of profile) boot isn))) }
         ensures same { IfOk result (λ n. n.who ≡ record { boot = boot; isn = isn; kind = kind; local = local; profile = profile }) }
     {
         let who = Identity {

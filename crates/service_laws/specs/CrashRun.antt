@@ -28,7 +28,8 @@ schedule = record {
   marks = None;
   lasting = None;
   clients = record { key = key; isn = 1000; script = Bytes hello_text } ∷ [];
-  events = Boot 1 5000 ∷ Deliver 1 ∷ Deliver 2 ∷ Begin 1 65535 ∷ Deliver 3 ∷ Deliver 4 ∷ Deliver 5 ∷ Deliver 6 ∷ Ack 1 65535 ∷ Deliver 7 ∷ Send 1 0 5 ∷ Deliver 8
+  events = Boot 1 5000 ∷ Deliver 1 ∷ Deliver 2 ∷ Begin 1 65535 ∷ Deliver 3 ∷ Deliver 4 ∷ Deliver 5 ∷ Deliver 6 ∷ Ack 1 65535 ∷ Deliver 7 ∷ Send 1 0 5
+      ∷ Deliver 8
       ∷ Deliver 10 ∷ Deliver 11 ∷ Crash ∷ Boot 2 900000 ∷ Deliver 14 ∷ Deliver 15 ∷ Deliver 16 ∷ Deliver 17 ∷ Deliver 18 ∷ Deliver 19 ∷ Deliver 20 ∷ Deliver 21
       ∷ Deliver 22 ∷ Ack 1 65535 ∷ Deliver 23 ∷ Deliver 24 ∷ Ack 1 65535 ∷ Deliver 25 ∷ [];
 }

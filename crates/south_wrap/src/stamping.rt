@@ -75,7 +75,8 @@ impl South {
 
     /// The header for the client of a segment of TCP.
     fn outward_head(&self, head: &Head) -> Head
-        ensures { (payload : List ℕ) → record { head = said result; payload = payload } ≡ outward self.now (record { head = said head.now; payload = payload }) }
+        ensures { (payload : List ℕ) → record { head = said result; payload = payload }
+            ≡ outward self.now (record { head = said head.now; payload = payload }) }
     {
         let reported = self.ack_now();
         Head {

@@ -17,7 +17,7 @@ noted_once : (b : Bool) (m n : ℕ) → (if b then m else (if b then m else n)) 
 noted_once true m n = refl
 noted_once false m n = refl
 
-without_ack : (bare : Segment) (segments : List Segment) → or_bare false bare segments ≡ segments
+pub without_ack : (bare : Segment) (segments : List Segment) → or_bare false bare segments ≡ segments
 without_ack bare [] = refl
 without_ack bare (first ∷ others) = refl
 

@@ -74,7 +74,7 @@ abs_from : (k : ℕ) (place : ℤ) → int_le (pos 0) place ≡ true → nat_abs
 abs_from k (pos p) h = omega (arith, ints)
 abs_from k (negsuc b) h = absurd (grind (arith, ints, h))
 
-none_from : (k : ℕ) (o : Option ℕ) → is_none (option_map (λ offset. offset + k) o) ≡ is_none o
+pub none_from : (k : ℕ) (o : Option ℕ) → is_none (option_map (λ offset. offset + k) o) ≡ is_none o
 none_from k None = refl
 none_from k (Some offset) = refl
 

@@ -89,7 +89,8 @@ pub(crate) fn reported_end(
 ) -> Option<usize>
     requires within { from ≤ length text.now }
     requires schedule { IsChecked schedule.now }
-    ensures { MatchOption result ((end : ℕ) → IsReported text.now schedule.now from end n due.now → ⊥) (λ end. IsReported text.now schedule.now from end n due.now) }
+    ensures { MatchOption result ((end : ℕ) → IsReported text.now schedule.now from end n due.now
+        → ⊥) (λ end. IsReported text.now schedule.now from end n due.now) }
 {
     if !text[from..].starts_with(due) {
         return None;

@@ -53,7 +53,10 @@ third_sent = Outside (From_logger summary) ∷ Inside (Got 1) ∷ []
 
 abbrev pub applied_world : TwinWorld
 applied_world =
-    record taken_world { pair = tail_has (Reports (Forward 1 (request_of grammars.Plain hello))) taken_pair; parcels = (first_sent ++ second_sent) ++ third_sent }
+    record taken_world {
+      pair = tail_has (Reports (Forward 1 (request_of grammars.Plain hello))) taken_pair;
+      parcels = (first_sent ++ second_sent) ++ third_sent;
+    }
 
 abbrev pub worked : List TwinMoment
 worked =

@@ -35,7 +35,8 @@ schedule = record {
   marks = None;
   lasting = None;
   clients = record { key = key; isn = 1000; script = Bytes hello_text } ∷ [];
-  events = events.Boot 1 5000 ∷ events.Deliver 1 ∷ events.Deliver 2 ∷ events.Deliver 3 ∷ events.Deliver 4 ∷ events.Begin 1 65535 ∷ events.Deliver 5 ∷ events.Deliver 6
+  events = events.Boot 1 5000 ∷ events.Deliver 1 ∷ events.Deliver 2 ∷ events.Deliver 3 ∷ events.Deliver 4 ∷ events.Begin 1 65535 ∷ events.Deliver 5
+      ∷ events.Deliver 6
       ∷ events.Stop 2 ∷ events.Tick ∷ events.Deliver 8 ∷ events.Deliver 9 ∷ [];
 }
 

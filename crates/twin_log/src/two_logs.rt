@@ -167,7 +167,12 @@ impl TwinLog {
 
     /// Takes a datagram of the other logger as one of a pair.
     #[tactic(auto, using(crate::proofs::Cases::noise_in_pair, crate::proofs::Cases::some_number))]
-    fn on_reported(&mut self, alloc: Global, bytes: &[u8], out: &mut TwinOut) -> Result<(), NoMemory>
+    fn on_reported(
+        &mut self,
+        alloc: Global,
+        bytes: &[u8],
+        out: &mut TwinOut,
+    ) -> Result<(), NoMemory>
         requires empty { out.old ≡ [] }
         ensures next { let comes = from_other_logger self.old.grammar (twin_reading self.old.grammar bytes.now)
             in OnOk result (self.new ≡ (paired_does self.old.part comes self.old).next) }

@@ -2,7 +2,7 @@
 //! after each send, and gives how many bytes came back.
 
 use anyhow::{Context, Result, bail, ensure};
-use ft_io::{Receipt, Link};
+use ft_io::{Link, Receipt};
 use ft_system::UdpLink;
 use std::net::Net;
 use std::time::Clock;

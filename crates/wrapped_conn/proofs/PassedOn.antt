@@ -33,11 +33,11 @@ off_if : (b : Bool) (x y : Segment) → b ≡ false → (if b then x else y) ≡
 off_if true x y e = absurd (true≢false e)
 off_if false x y e = refl
 
-not_true : (b : Bool) → true ≡ not b → b ≡ false
+pub not_true : (b : Bool) → true ≡ not b → b ≡ false
 not_true true e = sym (sym e)
 not_true false e = refl
 
-not_false : (b : Bool) → false ≡ not b → b ≡ true
+pub not_false : (b : Bool) → false ≡ not b → b ≡ true
 not_false true e = refl
 not_false false e = e
 

@@ -6,7 +6,7 @@ use Rattle.std.proofs.lemmas.Result.{IfOk-at_ok, IfOk-weaker}
 use Rattle.seq_arith.specs.PacketGrammar.{reading, segment_in}
 use Rattle.segment_codec.proofs.Accepting.{is_read}
 use Rattle.south_wrap.specs.Translation.{with_value_of, is_timely}
-use Rattle.tcp_rules.specs.Timestamping.{echo_after, fitting, newest, resumed_with}
+use Rattle.tcp_rules.specs.Timestamping.{echo_after, fitting, resumed_with}
 use Rattle.tcp_rules.specs.declared.timestamping.Timestamping.{Timestamping}
 use Rattle.tcp_rules.specs.declared.timestamping.Timestamping.TheVariants.{Off, Awaited, Echoes}
 use Rattle.seq_arith.specs.declared.options.Timestamps.{Timestamps}
@@ -16,11 +16,12 @@ use Rattle.south_wrap.specs.SouthState.{SouthState, with_stable}
 use Rattle.north_wrap.specs.declared.read_record.ReadRecord.{ReadRecord}
 use Rattle.north_wrap.specs.NorthState.{NorthState, answered_on, newly}
 use Rattle.wrapped_conn.specs.LoggerMessages.{IsWritable}
-use Rattle.seq_arith.specs.Number.{distance, precedes_or_is}
+use Rattle.seq_arith.specs.Number.{distance}
 use Rattle.tcp_endpoint.specs.Tcb.{Tcb}
 use Rattle.wrapped_conn.specs.ConnState.{ConnState}
 use Rattle.wrapped_conn.specs.Sound.{IsSound, AreSound, LeavesRoom, may_stamp, echoed, swallowed}
 use Rattle.wrapped_conn.proofs.Kept.{ProceedsFrom}
+use Rattle.ft_model.proofs.Stamped.{newest_short}
 
 pub sound_with : {S : Type 0} (c : ConnState S) (t : Tcb) → IsSound c → ProceedsFrom c.endpoint t → IsSound (record c { endpoint = t })
 sound_with c t s g =
@@ -74,9 +75,6 @@ resumed_leaves true mss = fitting_leaves Awaited mss
 -- the value that is echoed stays a number of the client's clock
 abbrev pub AreShort : Option Timestamps → Type 0
 AreShort timestamps = IfSome timestamps (λ t. (t.value < 2 ^ 32) × (t.echo < 2 ^ 32))
-
-newest_short : (recent value : ℕ) → recent < 2 ^ 32 → value < 2 ^ 32 → newest recent value < 2 ^ 32
-newest_short recent value old new = holds_if (λ n. n < 2 ^ 32) (precedes_or_is recent value) value recent (λ t. new) (λ t. old)
 
 pub echo_short : (timestamping : Timestamping) (timely : Bool) (timestamps : Option Timestamps) → echoed timestamping < 2 ^ 32 → AreShort timestamps
     → echoed (echo_after timestamping timely timestamps) < 2 ^ 32

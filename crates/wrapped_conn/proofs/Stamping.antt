@@ -17,6 +17,7 @@ use Rattle.south_wrap.specs.Translation.{outward}
 use Rattle.tcp_endpoint.specs.Output.{packets}
 use Rattle.tcp_endpoint.specs.Packets.{AreReadable, byte_count}
 use Rattle.wrapped_conn.specs.Output.{passed, AllFit}
+use Rattle.wrapped_conn.proofs.PassedOn.{not_true}
 
 -- the packet at a place is that of a segment, which fits with its timestamps
 pub record Segmented (s : SouthState) (own : List Segment) (i : ℕ) (bytes : List ℕ) : Type 0 where
@@ -99,14 +100,6 @@ any_there (x ∷ own) (suc i) segment e one = or_true (has_rst x) (list_any has_
     or_true true b e = refl
     or_true false b e = e
 
-pub is_not : (b : Bool) → true ≡ not b → b ≡ false
-is_not true e = e
-is_not false e = refl
-
-pub is_so : (b : Bool) → false ≡ not b → b ≡ true
-is_so true e = refl
-is_so false e = e
-
 -- all are written
 pub all_written : (s : SouthState) (own : List Segment) (i : ℕ) (out : List (List ℕ)) → i ≡ length own
     → (out ≡ packets (map (outward s) (take i own))) × (list_any has_rst (take i own) ≡ false) → (true ≡ not (list_any has_rst own)) × (out ≡ packets (map (outward s) own))
@@ -115,11 +108,7 @@ all_written s own i out whole h =
     (sym (ap not (sym (ap (list_any has_rst) same) ∙ h.1)), h.0 ∙ ap (λ xs. packets (map (outward s) xs)) same)
 
 pub passed_when : (s : SouthState) (own : List Segment) → true ≡ not (list_any has_rst own) → packets (map (outward s) own) ≡ packets (passed s own)
-passed_when s own e = ap (λ b. packets (if b then [] else map (outward s) own)) (sym (is_not (list_any has_rst own) e))
-
-pub packets_none : packets [] ≡ []
-unfolding packets
-packets_none = refl
+passed_when s own e = ap (λ b. packets (if b then [] else map (outward s) own)) (sym (not_true (list_any has_rst own) e))
 
 -- how many they are, and how long
 pub count_written : (s : SouthState) (own : List Segment) (i : ℕ) → length (packets (map (outward s) (take i own))) ≤ length own
@@ -128,11 +117,6 @@ count_written s [] zero = omega arith
 count_written s [] (suc i) = omega arith
 count_written s (x ∷ own) zero = omega arith
 count_written s (x ∷ own) (suc i) = let more = count_written s own i in omega (arith, more)
-
-pub packets_length : (own : List Segment) → length (packets own) ≡ length own
-unfolding packets
-packets_length [] = refl
-packets_length (x ∷ own) = ap suc (packets_length own)
 
 longer : (s : SouthState) (x : Segment) → packet_length (outward s x) ≤ packet_length x + 12
 longer s x = by_sent (timestamps_sent s.timestamping) refl

@@ -107,7 +107,8 @@ counted c = record c { end_ticks = if is_end_tick c && nat_lt c.end_ticks 4 then
 pub record TicksLive {S : Type 0} (old new : ConnState S) (segments messages : List (List ℕ)) : Type 0 where
   pub state : new ≡ (if (counted (ticked old)).end_ticks == 4 then with_done (counted (ticked old)) else counted (ticked old))
   pub goes_out : segments ≡ packets (passed (ticked old).south (leaving (after_tick old.endpoint)))
-  pub reported : messages ≡ spelled old.batches old.boot (messages_of old.key old.north.reads ++ (if (counted (ticked old)).end_ticks == 4 then dones old else []))
+  pub reported : messages ≡ spelled old.batches old.boot (messages_of old.key old.north.reads ++ (if (counted (ticked old)).end_ticks == 4 then dones old
+      else []))
 
 abbrev pub Ticks : {S : Type 0} → (old new : ConnState S) → (segments messages : List (List ℕ)) → Type 0
 Ticks old new segments messages = MatchBool old.reset (ReportsDone old new segments messages) (TicksLive old new segments messages)

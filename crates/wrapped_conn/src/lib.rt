@@ -16,7 +16,7 @@ pub mod laws;
 mod leaving;
 mod numbers;
 mod quiet;
-mod stage;
 mod reporting;
+mod stage;
 mod turn;
 mod turn_out;

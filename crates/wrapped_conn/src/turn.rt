@@ -16,7 +16,8 @@ ghost use Rattle.wrapped_conn.specs.Output.{passed};
 ghost use Rattle.wrapped_conn.specs.Numbers.{una_units};
 ghost use Rattle.connection_laws.specs.OutputFeed.{tcp_reader, tcp_writer};
 ghost use Rattle.wrapped_conn.specs.Arrival.{arrived, reached, noted, before_segment, before_other, stamped};
-ghost use Rattle.wrapped_conn.specs.Turn.{served, tcp_used, CompletesTurn, Starts, Receives, OnReceipt, with_logged, is_news, IsReported, Ticks, ticked, counted};
+ghost use Rattle.wrapped_conn.specs.Turn.{served, tcp_used, CompletesTurn, Starts, Receives, OnReceipt, with_logged, is_news, IsReported, Ticks};
+ghost use Rattle.wrapped_conn.specs.Turn.{ticked, counted};
 ghost use Rattle.wrapped_conn.specs.LoggerMessages.{grammar_by, spelled, copies, AreShort, AreWritable};
 ghost use Rattle.wrapped_conn.specs.Sound.{IsSound};
 

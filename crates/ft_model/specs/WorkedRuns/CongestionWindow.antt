@@ -62,8 +62,10 @@ schedule = record {
   marks = None;
   lasting = None;
   clients = record { key = key; isn = 1000; script = Bytes requests } ∷ [];
-  events = Boot 1 5000 ∷ Deliver 1 ∷ Deliver 2 ∷ Begin 1 65535 ∷ Deliver 3 ∷ Deliver 4 ∷ Deliver 5 ∷ Deliver 6 ∷ Ack 1 65535 ∷ Deliver 7 ∷ Send 1 0 8 ∷ Deliver 8
-      ∷ Deliver 10 ∷ Deliver 12 ∷ Deliver 11 ∷ Deliver 14 ∷ Deliver 15 ∷ Ack 1 65535 ∷ Deliver 19 ∷ Ack 1 65535 ∷ Ack 1 65535 ∷ Ack 1 65535 ∷ Deliver 23 ∷ Deliver 24
+  events = Boot 1 5000 ∷ Deliver 1 ∷ Deliver 2 ∷ Begin 1 65535 ∷ Deliver 3 ∷ Deliver 4 ∷ Deliver 5 ∷ Deliver 6 ∷ Ack 1 65535 ∷ Deliver 7 ∷ Send 1 0 8
+      ∷ Deliver 8
+      ∷ Deliver 10 ∷ Deliver 12 ∷ Deliver 11 ∷ Deliver 14 ∷ Deliver 15 ∷ Ack 1 65535 ∷ Deliver 19 ∷ Ack 1 65535 ∷ Ack 1 65535 ∷ Ack 1 65535 ∷ Deliver 23
+      ∷ Deliver 24
       ∷ Deliver 25 ∷ [];
 }
 

@@ -27,7 +27,8 @@ schedule = record {
   marks = None;
   lasting = None;
   clients = record { key = key; isn = 1000; script = Bytes hello_text } ∷ [];
-  events = Boot 1 5000 ∷ Deliver 1 ∷ Deliver 2 ∷ Begin 1 65535 ∷ Deliver 3 ∷ Deliver 4 ∷ Deliver 5 ∷ Deliver 6 ∷ Ack 1 65535 ∷ Deliver 7 ∷ Send 1 0 2 ∷ Send 1 2 3
+  events = Boot 1 5000 ∷ Deliver 1 ∷ Deliver 2 ∷ Begin 1 65535 ∷ Deliver 3 ∷ Deliver 4 ∷ Deliver 5 ∷ Deliver 6 ∷ Ack 1 65535 ∷ Deliver 7 ∷ Send 1 0 2
+      ∷ Send 1 2 3
       ∷ Deliver 9 ∷ Deliver 8 ∷ [];
 }
 

@@ -80,7 +80,10 @@ abbrev pub moment_13 : Packet → Moment
 moment_13 reported = moment Crash [] (record (moment_12 reported).world { node = None })
 
 abbrev pub moment_14 : Packet → Moment
-moment_14 reported = moment (Boot 2 900000) (to_log 2 HelloMsg ∷ []) (record (moment_13 reported).world { boot = 2; node = Some (booted server plain 2 900000) })
+moment_14 reported = moment (Boot 2 900000) (to_log 2 HelloMsg ∷ []) (record (moment_13 reported).world {
+  boot = 2;
+  node = Some (booted server plain 2 900000);
+})
 
 abbrev pub moment_15 : Packet → Moment
 moment_15 reported = moment (Deliver 12) (from_log 2 (SummaryMsg 1) ∷ []) (record (moment_14 reported).world { log = log_with opened_entry })
@@ -98,7 +101,8 @@ abbrev pub moment_19 : Packet → Moment
 moment_19 reported = moment (Send 1 0 5) (from_client 16 1001 5001 65535 hello_text ∷ []) (record (moment_18 reported).world { clients = whole_client ∷ [] })
 
 abbrev pub moment_20 : Packet → Moment
-moment_20 reported = moment (Deliver 17) (bare ∷ second_data ∷ second_read ∷ []) (record (moment_19 reported).world { node = Some (serving_at 2 900000 second_point) })
+moment_20 reported = moment (Deliver 17) (bare ∷ second_data ∷ second_read ∷ [])
+    (record (moment_19 reported).world { node = Some (serving_at 2 900000 second_point) })
 
 abbrev pub moment_21 : Packet → Moment
 moment_21 reported = moment (Deliver 19) (from_log 2 (StableMsg (kept_with 5 false 0)) ∷ []) (record (moment_20 reported).world { log = log_with filled_entry })
@@ -109,7 +113,8 @@ sent_trace = moment_11 ∷ opening_trace
 
 abbrev pub restart_trace : Packet → List Moment
 restart_trace reported =
-    moment_21 reported ∷ moment_20 reported ∷ moment_19 reported ∷ moment_18 reported ∷ moment_17 reported ∷ moment_16 reported ∷ moment_15 reported ∷ moment_14 reported ∷ moment_13 reported ∷ []
+    moment_21 reported ∷ moment_20 reported ∷ moment_19 reported ∷ moment_18 reported ∷ moment_17 reported ∷ moment_16 reported ∷ moment_15 reported
+    ∷ moment_14 reported ∷ moment_13 reported ∷ []
 
 -- Early output. The output is sent before its read is logged, and the network delivers it only once the second read is logged. The law Output refuses the turn.
 abbrev pub early_22 : Moment
@@ -128,7 +133,8 @@ after_early = early_23 ∷ early_22 ∷ restart_trace early
 -- No fence. The first incarnation's Read reaches the log after the second one's Data. The log's law refuses it, since its boot is older. Where the log keeps
 -- it, the second one assumes that its own read is logged, and sends output that isn't that of the logged read.
 abbrev pub before_unfenced : List Moment
-before_unfenced = moment_21 bare ∷ moment_20 bare ∷ moment_19 bare ∷ moment_18 bare ∷ moment_17 bare ∷ moment_16 bare ∷ moment_15 bare ∷ moment_14 bare ∷ moment_13 bare ∷ moment_12 bare ∷ sent_trace
+before_unfenced = moment_21 bare ∷ moment_20 bare ∷ moment_19 bare ∷ moment_18 bare ∷ moment_17 bare ∷ moment_16 bare ∷ moment_15 bare ∷ moment_14 bare
+    ∷ moment_13 bare ∷ moment_12 bare ∷ sent_trace
 
 abbrev pub unfenced : Moment
 unfenced = moment (Deliver 11) (from_log 1 (ReadsMsg (kept_with 5 false 1)) ∷ [])

@@ -103,7 +103,8 @@ probe_15 = on_tick (to_client 16 5001 1006 65535 None hello_text ∷ []) (servin
 
 -- the turns, newest first
 abbrev pub probe_turns : List Turn
-probe_turns = probe_15 ∷ probe_14 ∷ probe_13 ∷ probe_12 ∷ probe_11 ∷ probe_10 ∷ probe_9 ∷ probe_8 ∷ probe_7 ∷ probe_6 ∷ probe_5 ∷ probe_4 ∷ probe_3 ∷ probe_2 ∷ probe_1 ∷ []
+probe_turns = probe_15 ∷ probe_14 ∷ probe_13 ∷ probe_12 ∷ probe_11 ∷ probe_10 ∷ probe_9 ∷ probe_8 ∷ probe_7 ∷ probe_6 ∷ probe_5 ∷ probe_4 ∷ probe_3
+    ∷ probe_2 ∷ probe_1 ∷ []
 
 -- The client ends its stream while it has no room: the server's own FIN, with no byte waiting before it, is the probe
 abbrev pub fin : Segment

@@ -11,8 +11,10 @@ use Rattle.south_wrap.specs.Translation.{outward}
 use Rattle.tcp_endpoint.specs.Output.{packets}
 use Rattle.tcp_endpoint.specs.Packets.{AreReadable, byte_count}
 use Rattle.wrapped_conn.specs.Output.{AllFit}
-use Rattle.wrapped_conn.proofs.Stamping.{Segmented, at_place, is_accepted, fits_packet, same_fit, one_more, none_more, any_there, is_not, is_so, all_written, packets_none, count_written, packets_length, bytes_written}
+use Rattle.wrapped_conn.proofs.Stamping.{Segmented, at_place, is_accepted, fits_packet, same_fit, one_more, none_more, any_there, all_written, count_written, bytes_written}
 use Rattle.wrapped_conn.proofs.leaving.append_all.Goals as goal
+use Rattle.tcp_endpoint.proofs.Spelled.{packets_none}
+use Rattle.wrapped_conn.proofs.PassedOn.{not_true, not_false, packets_count}
 
 -- TCP's segment whose packet is at a place
 found : (s : SouthState) (out : List (List ℕ)) (i : ℕ) (bytes : List ℕ) (h : (own : List Segment) × (out ≡ packets own) × AreReadable own × AllFit s own)
@@ -29,7 +31,7 @@ at_place_of s out i bytes own is readable h e =
 room : (s : SouthState) (segments out : List (List ℕ)) (i : ℕ) (own : List Segment) → segments ≡ packets own → length segments ≤ 1030 → byte_count segments ≤ 110000
     → out ≡ packets (map (outward s) (take i own)) → (length out ≤ 1030) × (byte_count out ≤ 122500)
 room s segments out i own is few small written =
-    let count = count_written s own i in let bytes = bytes_written s own i in let many : length segments ≡ length own = ap length is ∙ packets_length own in
+    let count = count_written s own i in let bytes = bytes_written s own i in let many : length segments ≡ length own = ap length is ∙ packets_count own in
     (omega (arith, ap length written, count, many, few), omega (arith, ap byte_count written, bytes, ap byte_count is, small, many, few))
 
 pub append_stamped-requires-clause-accepted : goal.append_stamped-requires-clause-accepted
@@ -61,7 +63,7 @@ stepped : (s : SouthState) (i : ℕ) (old new : List (List ℕ)) (bytes : List �
     → (old ≡ packets (map (outward s) (take i own))) × (list_any has_rst (take i own) ≡ false)
     → (new ≡ packets (map (outward s) (take (suc i) own))) × (list_any has_rst (take (suc i) own) ≡ false)
 stepped s i old new bytes answer own went f answered appended h =
-    let none : has_rst f.segment ≡ false = is_not (has_rst f.segment) (sym went ∙ IfOk-at_ok (λ x. answer ≡ not (has_rst x)) f.read answered) in (
+    let none : has_rst f.segment ≡ false = not_true (has_rst f.segment) (sym went ∙ IfOk-at_ok (λ x. answer ≡ not (has_rst x)) f.read answered) in (
       OnTrue_at went (appended f.segment f.read) ∙ ap (λ ps. ps ++ spelling (outward s f.segment) ∷ []) h.0 ∙ sym (one_more s own i f.segment f.there),
       none_more own i f.segment f.there h.1 none,
     )
@@ -75,14 +77,14 @@ loop-i-preserved c = λ own is readable.
 pub returns-then-not-append_stamped-clause-passed : goal.returns-then-not-append_stamped-clause-passed
 returns-then-not-append_stamped-clause-passed c = λ own is readable.
     let f = at_place_of c.args.south.now c.args.segments.now c.loop-i.i c.packet.result.now own is readable c.requires.spelled c.packet.ensures in
-    let rst : has_rst f.segment ≡ true = is_so (has_rst f.segment)
+    let rst : has_rst f.segment ≡ true = not_false (has_rst f.segment)
     (sym c.if-not-append_stamped.true ∙ IfOk-at_ok (λ x. c.append_stamped.result ≡ not (has_rst x)) f.read c.append_stamped.ensures.answer) in
     (ap not (sym (any_there own c.loop-i.i f.segment f.there rst)), tt)
 
 pub returns-clause-passed : goal.returns-clause-passed
 returns-clause-passed c = λ own is readable.
     all_written c.args.south.now own c.loop-i.i c.loop-i.out
-    (omega (arith, c.loop-i-test.false, c.loop-i.auto.i-end, c.len-i-end.ensures, ap length is, packets_length own)) (c.loop-i.invariant own is readable)
+    (omega (arith, c.loop-i-test.false, c.loop-i.auto.i-end, c.len-i-end.ensures, ap length is, packets_count own)) (c.loop-i.invariant own is readable)
 
 pub returns-clause-count : goal.returns-clause-count
 returns-clause-count c =

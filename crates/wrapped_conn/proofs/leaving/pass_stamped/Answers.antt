@@ -1,7 +1,7 @@
 use Rattle.std.proofs.Common.{sym, ◌∙◌}
 use Rattle.std.proofs.lemmas.Bool.{OnTrue_at}
-use Rattle.wrapped_conn.proofs.PassedOn.{passed_none}
-use Rattle.wrapped_conn.proofs.Stamping.{passed_when, is_so}
+use Rattle.wrapped_conn.proofs.PassedOn.{passed_none, not_false}
+use Rattle.wrapped_conn.proofs.Stamping.{passed_when}
 use Rattle.std.specs.List.{list_any}
 use Rattle.seq_arith.specs.Packet.{has_rst}
 use Rattle.wrapped_conn.proofs.leaving.pass_stamped.Goals as goal
@@ -14,4 +14,4 @@ returns-then-append_all-clause-passed c = λ segments is readable.
 pub returns-else-append_all-clause-passed : goal.returns-else-append_all-clause-passed
 returns-else-append_all-clause-passed c = λ segments is readable.
     let both = c.append_all.ensures.passed segments is readable in
-    c.clear-else-append_all.ensures ∙ passed_none c.args.south.now segments (is_so (list_any has_rst segments) (sym c.if-append_all.false ∙ both.0))
+    c.clear-else-append_all.ensures ∙ passed_none c.args.south.now segments (not_false (list_any has_rst segments) (sym c.if-append_all.false ∙ both.0))
