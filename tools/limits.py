@@ -82,7 +82,7 @@ ELSEWHERE = [
     ('plain_packets', 'src/message.rt', 'Body::', 'the length of a message of this kind'),
     ('logger_wire', 'src/marks/reading.rt', 'MarkKind::Ask', 'the length of a message of this kind'),
     ('wire_bench', 'src/messages.rt', 'is_data', 'the length of a message of this kind'),
-    ('wrapped_conn', 'src/telling.rt', '&mut [0;', 'room for a message of this kind'),
+    ('wrapped_conn', 'src/reporting.rt', '&mut [0;', 'room for a message of this kind'),
     ('node_serving', 'src/sent.rt', '[0; 64]', 'room for a message without text'),
     ('node_serving', 'src/serving.rt', '', 'room for a packet without text'),
     ('log_script', 'src/random.rt', '', 'drawn messages, with the lengths of their kinds'),
