@@ -232,7 +232,7 @@ def part(net, turns, name, other, version):
             it.alone = True
             continue
         at = at if came[0] == other else came[0]
-        for sent in it.hear_other(heard(data, version)) if came[0] == other else it.hear_server(data):
+        for sent in it.receive_other(heard(data, version)) if came[0] == other else it.receive_server(data):
             to, out = spell(sent, version)
             if to == "other" or at:
                 net.send(other if to == "other" else at, out.hex())
@@ -885,9 +885,9 @@ line("# two loggers with it, in a pair and alone", "# two loggers with it, in a 
 for talk in talks[:2]:
     comes, passed = [(FROM, data) for data in talk], [forward(i + 1, data) for i, data in enumerate(talk)]
     for name in NAMES:
-        heard_by = far(comes) + far(passed) + [got(2)]
-        run(turns_of(name, heard_by) + WAN, heard_by)
-        run(turns_of(name, heard_by, 1) + WAN, [(STRAY, TOLD)] + heard_by)
+        received_by = far(comes) + far(passed) + [got(2)]
+        run(turns_of(name, received_by) + WAN, received_by)
+        run(turns_of(name, received_by, 1) + WAN, [(STRAY, TOLD)] + received_by)
         mixed = [it for pair in zip(comes, far(comes), passed, far(passed)) for it in pair]
         for more in ("", WAN):
             run(turns_of(name, mixed) + more, mixed)

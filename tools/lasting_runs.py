@@ -147,14 +147,14 @@ class Run:
             self.happen("tick")
             self.repeat()
             for number, client in self.there():
-                self.go_on(number, client)
+                self.proceed(number, client)
         raise AssertionError("it has no end")
 
     def is_stuck(self, number):
         """Whether a client has reset its connection itself and the server may never hear of it."""
         return number in self.resets and self.world.silence == 0
 
-    def go_on(self, number, client):
+    def proceed(self, number, client):
         length = len(client.script)
         if client.phase in ("new", "opening"):
             self.happen("open", number, 65535)

@@ -187,7 +187,7 @@ class Head:
     def __init__(self, read=lambda sent: sent):
         self.read, self.log, self.taken, self.confirmed, self.alone = read, Log(), [], 0, False
 
-    def hear_server(self, sent):
+    def receive_server(self, sent):
         message = self.read(sent)
         if message is None or message.name in ANSWERS:
             return []
@@ -198,7 +198,7 @@ class Head:
             self.log.answer(message)
         return [Forward(place + 1, self.taken[place]) for place in range(self.confirmed, len(self.taken))]
 
-    def hear_other(self, said):
+    def receive_other(self, said):
         if not self.alone and isinstance(said, Got) and self.confirmed < said.number <= len(self.taken):
             self.confirmed = said.number
         return []
@@ -210,11 +210,11 @@ class Tail:
     def __init__(self, read=lambda sent: sent):
         self.read, self.log, self.applied, self.alone = read, Log(), 0, False
 
-    def hear_server(self, sent):
+    def receive_server(self, sent):
         message = self.read(sent)
         return answers_of(self.log, message) if self.alone and message else []
 
-    def hear_other(self, said):
+    def receive_other(self, said):
         if self.alone or not isinstance(said, Forward) or said.number > self.applied + 1:
             return []
         answers = []
@@ -244,7 +244,7 @@ class Pair:
         part = ("T" if self.stopped == "H" else "H") if receiver == "L" else receiver
         if part == self.stopped:
             return []
-        sent = self.parts[part].hear_server(content) if sender == "S" else self.parts[part].hear_other(content)
+        sent = self.parts[part].receive_server(content) if sender == "S" else self.parts[part].receive_other(content)
         return [("L>S" if isinstance(it, Message) else f"{part}>{other_part(part)}", it) for it in sent]
 
 

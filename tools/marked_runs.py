@@ -122,14 +122,14 @@ class Run:
                 return
             self.happen("tick")
             for number, client in enumerate(self.world.clients, 1):
-                self.go_on(number, client)
+                self.proceed(number, client)
         raise AssertionError("it has no end")
 
     def has_all(self, client):
         sent, closed = self.watch.unfailing(self.world, client)
         return client.phase == "reset" or client.acked > len(client.script) and closed and client.phase == "ended" and len(sent) == len(client.accepted)
 
-    def go_on(self, number, client):
+    def proceed(self, number, client):
         length = len(client.script)
         if client.phase in ("new", "opening"):
             self.happen("open", number, 65535)

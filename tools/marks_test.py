@@ -330,10 +330,10 @@ class Worlds(unittest.TestCase):
         for service in SERVICES:
             for count in range(1, EVENTS.count("|") + 2):
                 client = Client(KEY, 1000, scripts[service])
-                asks = self.go_on(World(service, SERVER, [client], marks=1), client, EVENTS.split("|")[:count])
+                asks = self.proceed(World(service, SERVER, [client], marks=1), client, EVENTS.split("|")[:count])
                 self.assertEqual(asks[-2:], ["Ask", f"Held {int(count >= 20)}"] if count >= 15 else [], (service, count))
 
-    def go_on(self, world, client, events):
+    def proceed(self, world, client, events):
         """Plays the events, a crash and a restart, and the rest of the client's stream in three pieces. Its Asks and Helds after the crash."""
         watch, asks, start = Watch(), [], 0
 

@@ -54,7 +54,7 @@ class Watch:
         for way, content in sent:
             if isinstance(content, Segment) and way.startswith("S>") and "A" in content.flags and "R" not in content.flags:
                 yield from self.note(world, world.clients[int(way[2:]) - 1], content)
-            elif not isinstance(content, Segment) and getattr(content, "name", None) in ("Mark", "Held") and not self.tells_truth(world, content):
+            elif not isinstance(content, Segment) and getattr(content, "name", None) in ("Mark", "Held") and not self.reports_truth(world, content):
                 yield f"{content.name} of {content.fields['key']} isn't true"
         yield from (f"client {client.key} sees a failure" for client in world.clients if not sees_front(client, *self.unfailing(world, client)))
         strangers = (client for client in world.clients if client.accepted and not self.is_known(world, client))
@@ -63,7 +63,7 @@ class Watch:
         if world.server and world.server.serves and not self.serves:
             entries = world.log.entries.items()
             yield from (f"{key} restarts otherwise" for key, entry in entries if not entry.done and not resumes(world.service, entry, places.get(key)))
-        yield from (f"{key} was told otherwise" for key, place in places.items() if isinstance(place, Connection) and not self.is_told(key, place))
+        yield from (f"{key} was told otherwise" for key, place in places.items() if isinstance(place, Connection) and not self.is_reported(key, place))
         self.serves = bool(world.server and world.server.serves)
 
     def is_known(self, world, client):
@@ -79,7 +79,7 @@ class Watch:
             self.runs[client.key] = lengths, sent, service.closed
         return self.runs[client.key][1:]
 
-    def tells_truth(self, world, said):
+    def reports_truth(self, world, said):
         mark = Mark(*(said.fields[name] for name in Mark._fields))
         return mark == NO_MARK and said.name == "Held" or is_true(world, said.fields["key"], mark)
 
@@ -89,7 +89,7 @@ class Watch:
         if gap(segment.ack, client.isn + 1) > (len(entry.data) + entry.fin if entry else 0):
             yield f"client {client.key} is told of units that aren't logged"
 
-    def is_told(self, key, place):
+    def is_reported(self, key, place):
         return place.reset or self.told.get(key) == number(place.cisn + 1 + min(place.taken(), place.answered))
 
 

@@ -104,29 +104,29 @@ class Pairs(unittest.TestCase):
     def test_full_head(self):
         head, hello = Head(), said("Hello")
         for count in range(1, 65):
-            self.assertEqual(head.hear_server(hello), [Forward(n, hello) for n in range(1, count + 1)])
-        self.assertEqual([it.number for it in head.hear_server(said("List", index=0))], list(range(1, 65)))
-        head.hear_other(Got(65))
+            self.assertEqual(head.receive_server(hello), [Forward(n, hello) for n in range(1, count + 1)])
+        self.assertEqual([it.number for it in head.receive_server(said("List", index=0))], list(range(1, 65)))
+        head.receive_other(Got(65))
         self.assertEqual(head.confirmed, 0)
-        head.hear_other(Got(64))
-        head.hear_other(Got(1))
-        self.assertEqual([it.number for it in head.hear_server(hello)], [65])
-        self.assertEqual(head.hear_server(said("Summary", count=0)), [])
+        head.receive_other(Got(64))
+        head.receive_other(Got(1))
+        self.assertEqual([it.number for it in head.receive_server(hello)], [65])
+        self.assertEqual(head.receive_server(said("Summary", count=0)), [])
 
     def test_order(self):
         tail, hello = Tail(), said("Hello")
-        self.assertEqual(tail.hear_server(hello) + tail.hear_other(Forward(2, hello)), [])
-        self.assertEqual(tail.hear_other(Forward(1, hello)), [said("Summary", count=0), Got(1)])
-        self.assertEqual(tail.hear_other(Forward(2, hello)), [said("Summary", count=0), Got(2)])
-        self.assertEqual(tail.hear_other(Forward(1, hello)), [Got(2)])
+        self.assertEqual(tail.receive_server(hello) + tail.receive_other(Forward(2, hello)), [])
+        self.assertEqual(tail.receive_other(Forward(1, hello)), [said("Summary", count=0), Got(1)])
+        self.assertEqual(tail.receive_other(Forward(2, hello)), [said("Summary", count=0), Got(2)])
+        self.assertEqual(tail.receive_other(Forward(1, hello)), [Got(2)])
 
     def test_alone(self):
         head, tail, hello = Head(), Tail(), said("Hello")
-        head.hear_server(hello)
+        head.receive_server(hello)
         head.alone = tail.alone = True
-        self.assertEqual(tail.hear_other(Forward(1, hello)), [])
+        self.assertEqual(tail.receive_other(Forward(1, hello)), [])
         for logger in (head, tail):
-            self.assertEqual(logger.hear_server(hello), [said("Summary", count=0)])
+            self.assertEqual(logger.receive_server(hello), [said("Summary", count=0)])
 
     def test_stops(self):
         world = World("echo", SERVER, [], twin=True)

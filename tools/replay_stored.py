@@ -10,7 +10,7 @@ import pathlib
 import re
 import sys
 
-from check_model import told as told_verdict, verdict
+from check_model import told as reported_verdict, verdict
 from model import Client, World, number
 from schedule_model import read_schedule
 from seed_model import play, script_of, summary
@@ -60,7 +60,7 @@ def made(words, text):
 def judged(name, text):
     """What `check` says of a report."""
     it = verdict(text.encode())
-    return f"{name}: status 0\n{told_verdict(it)}\n" if it.law == "legal" else f"{name}: status 9\nftreplay: {told_verdict(it)}\n"
+    return f"{name}: status 0\n{reported_verdict(it)}\n" if it.law == "legal" else f"{name}: status 9\nftreplay: {reported_verdict(it)}\n"
 
 
 def crashes(name, stops, text, service=None):
@@ -74,7 +74,7 @@ def crashes(name, stops, text, service=None):
         world = World(service or schedule.service, schedule.server, [client], schedule.twin, schedule.marks, schedule.profile)
         for verb, words in [*schedule.events[:count], ("crash", []), *stops]:
             world.step(verb, words)
-        go_on(world, client)
+        proceed(world, client)
         entry = world.log.entries[key]
         accepted = client.accepted.replace(b"\r\n", b"|").decode()
         told += f"{name}, crash after {count}: {accepted} in reads of {len(entry.data)} bytes, {len(entry.lengths)} reads\n"
@@ -91,7 +91,7 @@ def delta(name, text):
     return f"{name}: delta {number(world.server.places[key].sisn - world.server.isn)}\n"
 
 
-def go_on(world, client):
+def proceed(world, client):
     def happen(verb, *words):
         sent = len(world.packets)
         world.step(verb, list(words))

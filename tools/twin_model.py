@@ -143,7 +143,7 @@ class Pair:
         if self.stopped == part:
             return []
         logger = self.parts[part]
-        out = [spell(it) for it in (logger.hear_server(data) if side == "server" else logger.hear_other(told(data)))]
+        out = [spell(it) for it in (logger.receive_server(data) if side == "server" else logger.receive_other(told(data)))]
         self.sent[part] += [bytes_ for to, bytes_ in out if to == "other"]
         return out
 
