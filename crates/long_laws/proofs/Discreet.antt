@@ -59,19 +59,19 @@ resets_later before after g (To_server segment) d = tt
 resets_later before after g (To_logger message) d = tt
 resets_later before after g (From_logger message) d = tt
 
-abbrev GoOn : List Packet → World → Type 0
-GoOn sent after = AllByRecursion (ResetsDone after.log) sent → AllDone after
+abbrev Proceed : List Packet → World → Type 0
+Proceed sent after = AllByRecursion (ResetsDone after.log) sent → AllDone after
 
-event_done : {State : Type 0} (service : Machine State) (before : World) (sent : List Packet) (after : World) → AllDone before → Happened service before sent after → GoOn sent after
+event_done : {State : Type 0} (service : Machine State) (before : World) (sent : List Packet) (after : World) → AllDone before → Happened service before sent after → Proceed sent after
 event_done service before sent after k (log_received message under s e) =
     let log : Log = log_after before.log message in
-    subst (GoOn sent) (sym e)
+    subst (Proceed sent) (sym e)
     (λ a. all_append (ResetsDone log) before.packets sent (all_weaker (ResetsDone before.log) (ResetsDone log) before.packets (resets_later before.log log (log_grows before.log message)) k) a)
-event_done service before sent after k (client_received segment under s e) = subst (GoOn sent) (sym e) (λ a. all_append (ResetsDone before.log) before.packets sent k a)
-event_done service before sent after k (client_moved number m) = subst (GoOn sent) (sym m.after_is) (λ a. all_append (ResetsDone before.log) before.packets sent k a)
-event_done service before sent after k (server_turned input node later brought is turn e) = subst (GoOn sent) (sym e) (λ a. all_append (ResetsDone before.log) before.packets sent k a)
-event_done service before sent after k (server_booted boot isn down larger s e) = subst (GoOn sent) (sym e) (λ a. all_append (ResetsDone before.log) before.packets sent k a)
-event_done service before sent after k (server_down s e) = subst (GoOn sent) (sym e) (λ a. all_append (ResetsDone before.log) before.packets sent k a)
+event_done service before sent after k (client_received segment under s e) = subst (Proceed sent) (sym e) (λ a. all_append (ResetsDone before.log) before.packets sent k a)
+event_done service before sent after k (client_moved number m) = subst (Proceed sent) (sym m.after_is) (λ a. all_append (ResetsDone before.log) before.packets sent k a)
+event_done service before sent after k (server_turned input node later brought is turn e) = subst (Proceed sent) (sym e) (λ a. all_append (ResetsDone before.log) before.packets sent k a)
+event_done service before sent after k (server_booted boot isn down larger s e) = subst (Proceed sent) (sym e) (λ a. all_append (ResetsDone before.log) before.packets sent k a)
+event_done service before sent after k (server_down s e) = subst (Proceed sent) (sym e) (λ a. all_append (ResetsDone before.log) before.packets sent k a)
 
 -- the entry of another key stays, and what went to this one is lost
 resets_without : (key : Key) (log : Log) (p : Packet) → concerns key p ≡ false → ResetsDone log p → ResetsDone (without_entry key log) p
@@ -80,17 +80,17 @@ resets_without key log (To_server segment) a d = tt
 resets_without key log (To_logger message) a d = tt
 resets_without key log (From_logger message) a d = tt
 
-step_done : {State : Type 0} (service : Machine State) (before after : LongWorld) (sent : List Packet) (step : LongStep) → AllDone before.now → MayPass service before step sent after → GoOn sent after.now
+step_done : {State : Type 0} (service : Machine State) (before after : LongWorld) (sent : List Packet) (step : LongStep) → AllDone before.now → MayPass service before step sent after → Proceed sent after.now
 step_done service before after sent (Joint_event event) k h =
-    ⊎_elim (λ x. event_done service before.now sent after.now k x) (λ q. subst (GoOn sent) (sym q.1) (λ a. k)) (happened service before.now event sent after.now h.0)
+    ⊎_elim (λ x. event_done service before.now sent after.now k x) (λ q. subst (Proceed sent) (sym q.1) (λ a. k)) (happened service before.now event sent after.now h.0)
 step_done service before after sent (Recycles key) k h =
-    subst (GoOn sent) (sym h.2) (λ a. all_others (ResetsDone before.now.log) (ResetsDone (without_entry key before.now.log)) (concerns key) before.now.packets (resets_without key before.now.log) k)
-step_done service before after sent (Forgets key) k h = subst (GoOn sent) (sym h.2) (λ a. k)
-step_done service before after sent (Arrives c) k h = subst (GoOn sent) (sym h.2) (λ a. k)
-step_done service before after sent (Lets_go key) k h = subst (GoOn sent) (sym h.0.after_is) (λ a. all_append (ResetsDone before.now.log) before.now.packets sent k a)
+    subst (Proceed sent) (sym h.2) (λ a. all_others (ResetsDone before.now.log) (ResetsDone (without_entry key before.now.log)) (concerns key) before.now.packets (resets_without key before.now.log) k)
+step_done service before after sent (Forgets key) k h = subst (Proceed sent) (sym h.2) (λ a. k)
+step_done service before after sent (Arrives c) k h = subst (Proceed sent) (sym h.2) (λ a. k)
+step_done service before after sent (Lets_go key) k h = subst (Proceed sent) (sym h.0.after_is) (λ a. all_append (ResetsDone before.now.log) before.now.packets sent k a)
 step_done service before after sent (Keeps_alive key) k h =
     let one : List Packet = To_client (keep_alive h.0.node.server h.0.point) ∷ [] in
-    subst (λ l. GoOn l after.now) (sym h.0.sent_is) (subst (GoOn one) (sym h.0.after_is) (λ a. all_append (ResetsDone before.now.log) before.now.packets one k a))
+    subst (λ l. Proceed l after.now) (sym h.0.sent_is) (subst (Proceed one) (sym h.0.after_is) (λ a. all_append (ResetsDone before.now.log) before.now.packets one k a))
 
 all_done : {State : Type 0} (service : Machine State) → HasSmallOutputs service → (start : World) (trace : List LongMoment) → LongJoint service start trace → AreDiscreet start trace
     → AllDone (long_after start trace).now

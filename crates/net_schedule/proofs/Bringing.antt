@@ -26,7 +26,7 @@ use Rattle.ft_model.specs.declared.way.Way.{Way}
 use Rattle.ft_model.specs.Keys.{AreDistinct}
 use Rattle.peer_client.specs.Scripted.{delivered, arrivals}
 use Rattle.schedule_network.specs.StoredPackets.{Carried, number_in, way_along}
-use Rattle.net_schedule.specs.Actors.{ActorsStand, ActorsGoOn}
+use Rattle.net_schedule.specs.Actors.{ActorsStand, ActorsProceed}
 use Rattle.net_schedule.specs.Delivery.{changed_at, delivered_to, with_logs}
 use Rattle.mark_store.specs.Refinement.{TrimmedAtMarks}
 use Rattle.schedule_network.specs.Loggers.{Loggers}
@@ -70,14 +70,14 @@ unchanged key (c ∷ cs) = ap (λ x. x ∷ with_client key (λ d. d) cs) (alike 
 module _ {State : Type 0} (service : Machine State) where
   -- what a client makes of them
   reads_client : (w w' : Kept State) (v : Seen) (key : Key) (bytes : List ℕ) (r : Result Segment BadPacket) → segments.reading bytes ≡ r → ActorsStand service w v
-      → w' ≡ record w { clients = with_client key (λ c. delivered c bytes) w.clients } → ActorsGoOn service (ClientReads key r v) v w w'
+      → w' ≡ record w { clients = with_client key (λ c. delivered c bytes) w.clients } → ActorsProceed service (ClientReads key r v) v w w'
   reads_client w w' v key bytes (Ok segment) e st e' =
       client_receives service w w' v key segment st (e' ∙ ap (λ r. record w { clients = with_client key (λ c. arrivals c r) w.clients }) e)
   reads_client w w' v key bytes (Err bad) e st e' =
       nothing_happens service w w' v st (e' ∙ ap (λ r. record w { clients = with_client key (λ c. arrivals c r) w.clients }) e ∙ ap (λ cs. record w { clients = cs }) (unchanged key w.clients))
 
   pub brings_client : (w w' : Kept State) (v : Seen) (packet : Packet) (bytes : List ℕ) (number : ℕ) → ActorsStand service w v → Premises service v
-      → ServerToClient number ≡ way_along w.keys (wire_of packet) → w' ≡ record w { clients = delivered_to number bytes w.clients } → ActorsGoOn service (DeliveredAs service v packet bytes) v w w'
+      → ServerToClient number ≡ way_along w.keys (wire_of packet) → w' ≡ record w { clients = delivered_to number bytes w.clients } → ActorsProceed service (DeliveredAs service v packet bytes) v w w'
   brings_client w w' v (To_client segment) bytes number st p way e' =
       let key : Key = destination_of segment in
       let n : number ≡ number_in (keys_in w.clients) (destination_of segment) =
@@ -153,7 +153,7 @@ module _ {State : Type 0} (service : Machine State) where
   packet_comes keys v (From_logger message) bytes number way comes = absurd (cc)
 
   pub packet_brought : (keys : List Key) (v : Seen) (packet : Packet) (bytes : List ℕ) (number : ℕ) (w w' : Kept State) → ClientToServer number ≡ way_along keys (wire_of packet)
-      → ActorsGoOn service (ServerMoves service (segment_or_noise (segments.reading bytes)) v) v w w' → ActorsGoOn service (DeliveredAs service v packet bytes) v w w'
+      → ActorsProceed service (ServerMoves service (segment_or_noise (segments.reading bytes)) v) v w w' → ActorsProceed service (DeliveredAs service v packet bytes) v w w'
   packet_brought keys v (To_server segment) bytes number w w' way g = g
   packet_brought keys v (To_client segment) bytes number w w' way g = absurd (cc)
   packet_brought keys v (To_logger message) bytes number w w' way g = absurd (cc)
@@ -167,7 +167,7 @@ module _ {State : Type 0} (service : Machine State) where
   message_comes keys v (To_logger message) bytes way comes = absurd (cc)
 
   pub message_brought : (keys : List Key) (v : Seen) (packet : Packet) (bytes : List ℕ) (w w' : Kept State) → LoggerToServer ≡ way_along keys (wire_of packet)
-      → ActorsGoOn service (ServerMoves service (message_or_noise (messages.reading_by (grammar_of v.profile) bytes)) v) v w w' → ActorsGoOn service (DeliveredAs service v packet bytes) v w w'
+      → ActorsProceed service (ServerMoves service (message_or_noise (messages.reading_by (grammar_of v.profile) bytes)) v) v w w' → ActorsProceed service (DeliveredAs service v packet bytes) v w w'
   message_brought keys v (From_logger message) bytes w w' way g = g
   message_brought keys v (To_server segment) bytes w w' way g = absurd (cc)
   message_brought keys v (To_client segment) bytes w w' way g = absurd (cc)

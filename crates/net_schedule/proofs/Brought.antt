@@ -13,7 +13,7 @@ use Rattle.mark_laws.specs.MarkedNode.MarkedInput.{Plain_comes}
 use Rattle.mark_laws.specs.MarkedWorld.{ServerMoves as MarkedMoves, said_by}
 use Rattle.mark_laws.specs.MarkedWorld.{input_of as received_from}
 use Rattle.node_serving.specs.Markers.{Saving}
-use Rattle.net_schedule.specs.Actors.{ActorsStand, ActorsGoOn}
+use Rattle.net_schedule.specs.Actors.{ActorsStand, ActorsProceed}
 use Rattle.net_schedule.specs.Delivery.{delivered_to}
 use Rattle.net_schedule.specs.MarkedRefinement.{MarkedProceeds, MayComeMarked}
 use Rattle.net_schedule.specs.Premises.{Premises}
@@ -65,9 +65,9 @@ module _ {State : Type 0} {ghosts : Ghosts State} (saved : Saving State) (w w' :
   -- the server reads messages by its profile, which is that of the definitions' world
   moved : Serves saved (message_or_noise (messages.reading_by (grammar_of (profile_of w.profile)) bytes)) (received_from (said_by (grammar_of (profile_of w.profile)) bytes)) w w'
       → (v : Seen) → ActorsStand (service_of w) (kept w) v → Premises (service_of w) v → MayCome v (message_or_noise (messages.reading_by (grammar_of v.profile) bytes))
-      → ActorsGoOn (service_of w) (ServerMoves (service_of w) (message_or_noise (messages.reading_by (grammar_of v.profile) bytes)) v) v (kept w) (kept w')
+      → ActorsProceed (service_of w) (ServerMoves (service_of w) (message_or_noise (messages.reading_by (grammar_of v.profile) bytes)) v) v (kept w) (kept w')
   moved so v st p comes =
-      subst (λ q. ActorsGoOn (service_of w) (ServerMoves (service_of w) (message_or_noise (messages.reading_by (grammar_of q) bytes)) v) v (kept w) (kept w')) st.profile
+      subst (λ q. ActorsProceed (service_of w) (ServerMoves (service_of w) (message_or_noise (messages.reading_by (grammar_of q) bytes)) v) v (kept w) (kept w')) st.profile
       (so.moves v st p (subst (λ q. MayCome v (message_or_noise (messages.reading_by (grammar_of q) bytes))) (sym st.profile) comes))
 
   pub answer_to_server : way ≡ LoggerToServer

@@ -22,7 +22,7 @@ use Rattle.ft_model.specs.declared.way.Way.{Way}
 use Rattle.ft_model.proofs.Lists.{all_slice_get, none_is_some}
 use Rattle.node_serving.specs.Identity.{node_of}
 use Rattle.server_node.specs.Stages.{StageStands}
-use Rattle.net_schedule.specs.Actors.{ActorsStand, ActorsGoOn, ActorsAdvance}
+use Rattle.net_schedule.specs.Actors.{ActorsStand, ActorsProceed, ActorsAdvance}
 use Rattle.schedule_network.specs.AtNumber.{at_number}
 use Rattle.schedule_network.specs.StoredPackets.{with_wires, way_along}
 use Rattle.net_schedule.specs.Premises.{Premises, ComesAs}
@@ -124,7 +124,7 @@ module _ {State : Type 0} (service : Machine State) where
   refuses_down w v event st e r = let is_down : is_some v.node ≡ false = sym (both_up service w.kind w.node v.node st.node) ∙ e in r ∙ ap (λ b. cond b None (Some why.Down)) is_down
 
   -- a tick
-  pub ticks : (w w' : Kept State) (v : Seen) → ActorsStand service w v → is_some w.node ≡ true → ActorsGoOn service (ServerMoves service Tick_comes v) v w w' → ActorsAdvance service v events.Tick w w'
+  pub ticks : (w w' : Kept State) (v : Seen) → ActorsStand service w v → is_some w.node ≡ true → ActorsProceed service (ServerMoves service Tick_comes v) v w w' → ActorsAdvance service v events.Tick w w'
   ticks w w' v st e g =
       let is_up : is_some v.node ≡ true = sym (both_up service w.kind w.node v.node st.node) ∙ e in
       record {

@@ -23,7 +23,7 @@ use Rattle.ft_model.proofs.ClientKeys.{keys_stay}
 use Rattle.logger_store.specs.StoreState.{answer_bytes_by}
 use Rattle.node_serving.specs.Identity.{node_of}
 use Rattle.server_node.specs.Stages.{StageStands, NodeGoes}
-use Rattle.net_schedule.specs.Actors.{ActorsStand, ActorsGoOn, ActorsAdvance}
+use Rattle.net_schedule.specs.Actors.{ActorsStand, ActorsProceed, ActorsAdvance}
 use Rattle.schedule_network.specs.StoredPackets.{carried, with_wires, with_answer}
 use Rattle.net_schedule.specs.Premises.{Premises}
 use Rattle.net_schedule.specs.Refinement.{Kept, Server, IsAt, NodeStands, RunsWith, WorldStands, ReachesNext, Advances}
@@ -57,7 +57,7 @@ module _ {State : Type 0} (service : Machine State) where
       → s'.who ≡ s.who
       → ((standing : Stage) → IsNearInput s.who.local input standing → IsSoundInput service (node_of s.who standing) input standing → StageStands service (node_of s.who standing) s.stage
       → NodeGoes service (node_of s.who standing) input s.who s'.stage sent)
-      → w' ≡ record w { packets = with_wires w.keys w.packets sent; node = Some s' } → ActorsGoOn service (ServerMoves service input v) v w w'
+      → w' ≡ record w { packets = with_wires w.keys w.packets sent; node = Some s' } → ActorsProceed service (ServerMoves service input v) v w w'
   server_goes w w' v input s s' sent st p comes is_up same turn e' =
       let u : IsUp service w.kind s v.node = up service w.kind s v.node (subst (λ o. NodeStands service w.kind o v.node) is_up st.node) in
       let node : Node = node_of s.who u.at.standing in
@@ -65,7 +65,7 @@ module _ {State : Type 0} (service : Machine State) where
       let is : v.node ≡ Some (node_of s.who u.at.standing) = u.up ∙ ap Some u.at.is in
       let g : NodeGoes service (node_of s.who u.at.standing) input s.who s'.stage sent =
       turn u.at.standing (p.near (node_of s.who u.at.standing) input is comes) (p.sound (node_of s.who u.at.standing) input is comes) u.at.stands in
-      subst (ActorsGoOn service (ServerMoves service input v) v w) (sym e')
+      subst (ActorsProceed service (ServerMoves service input v) v w) (sym e')
       (record {
         sent = g.packets;
         world = record v { node = Some (node_of s.who g.after); packets = v.packets ++ g.packets };
@@ -103,7 +103,7 @@ module _ {State : Type 0} (service : Machine State) where
       none_is_some newer (sym (p.unfenced (node_of s.who u.at.standing) input (u.up ∙ ap Some u.at.is) comes) ∙ fenced u.at.standing)
 
   -- nothing changes but that nothing is sent
-  rests : (Goes : List Packet → Seen → Type 0) (w : Kept State) (v : Seen) → ActorsStand service w v → Goes [] (record v { packets = v.packets ++ [] }) → ActorsGoOn service Goes v w w
+  rests : (Goes : List Packet → Seen → Type 0) (w : Kept State) (v : Seen) → ActorsStand service w v → Goes [] (record v { packets = v.packets ++ [] }) → ActorsProceed service Goes v w w
   rests Goes w v st goes = record {
     sent = [];
     world = record v { packets = v.packets ++ [] };
@@ -119,17 +119,17 @@ module _ {State : Type 0} (service : Machine State) where
   }
 
   -- a server that is down has no turn
-  pub server_rests : (w : Kept State) (v : Seen) (input : Input) → ActorsStand service w v → w.node ≡ None → ActorsGoOn service (ServerMoves service input v) v w w
+  pub server_rests : (w : Kept State) (v : Seen) (input : Input) → ActorsStand service w v → w.node ≡ None → ActorsProceed service (ServerMoves service input v) v w w
   server_rests w v input st is_down =
       let none : v.node ≡ None = down service w.kind w.node v.node st.node is_down in
       rests (ServerMoves service input v) w v st (subst (λ o. ServerTurn service input o [] o) (sym none) (refl, refl), refl)
 
   -- a client receives
   pub client_receives : (w w' : Kept State) (v : Seen) (key : Key) (segment : Segment) → ActorsStand service w v
-      → w' ≡ record w { clients = with_client key (λ c. received c segment) w.clients } → ActorsGoOn service (ClientReceives key segment v) v w w'
+      → w' ≡ record w { clients = with_client key (λ c. received c segment) w.clients } → ActorsProceed service (ClientReceives key segment v) v w w'
   client_receives w w' v key segment st e' =
       let change : Client → Client = λ c. received c segment in
-      subst (ActorsGoOn service (ClientReceives key segment v) v w) (sym e')
+      subst (ActorsProceed service (ClientReceives key segment v) v w) (sym e')
       (record {
         sent = [];
         world = record v { clients = with_client key (λ c. received c segment) v.clients; packets = v.packets ++ [] };
@@ -154,14 +154,14 @@ module _ {State : Type 0} (service : Machine State) where
       })
 
   -- noise comes to a client
-  pub nothing_happens : (w w' : Kept State) (v : Seen) → ActorsStand service w v → w' ≡ w → ActorsGoOn service (NothingHappens v) v w w'
-  nothing_happens w w' v st e' = subst (ActorsGoOn service (NothingHappens v) v w) (sym e') (rests (NothingHappens v) w v st (refl, refl))
+  pub nothing_happens : (w w' : Kept State) (v : Seen) → ActorsStand service w v → w' ≡ w → ActorsProceed service (NothingHappens v) v w w'
+  nothing_happens w w' v st e' = subst (ActorsProceed service (NothingHappens v) v w) (sym e') (rests (NothingHappens v) w v st (refl, refl))
 
   -- With one logger: what server and clients do is done in the whole world.
   pub actors_of : (w : Kept State) (v : Seen) → WorldStands service w v → ActorsStand service w v
   actors_of w v st = record { server = st.server; profile = st.profile; keys = st.keys; clients = st.clients; boot = st.boot; unmarked = st.unmarked; node = st.node; runs = st.runs }
 
-  pub one_goes : (Goes : List Packet → Seen → Type 0) (w w' : Kept State) (v : Seen) → WorldStands service w v → ActorsGoOn service Goes v w w' → ReachesNext service Goes v w'
+  pub one_goes : (Goes : List Packet → Seen → Type 0) (w w' : Kept State) (v : Seen) → WorldStands service w v → ActorsProceed service Goes v w w' → ReachesNext service Goes v w'
   one_goes Goes w w' v st g = record {
     sent = g.sent;
     world = g.world;
@@ -224,7 +224,7 @@ server_goes_at : {State : Type 0} (services : ℕ → Machine State) (w w' : Kep
     → ActorsStand (services w.kind) w v → Premises (services w.kind) v → MayCome v input → w.node ≡ Some s → s'.who ≡ s.who
     → ((standing : Stage) → IsNearInput s.who.local input standing → IsSoundInput (services s.who.kind) (node_of s.who standing) input standing → StageStands (services s.who.kind) (node_of s.who standing) s.stage
     → NodeGoes (services s.who.kind) (node_of s.who standing) input s.who s'.stage sent)
-    → w' ≡ record w { packets = with_wires w.keys w.packets sent; node = Some s' } → ActorsGoOn (services w.kind) (ServerMoves (services w.kind) input v) v w w'
+    → w' ≡ record w { packets = with_wires w.keys w.packets sent; node = Some s' } → ActorsProceed (services w.kind) (ServerMoves (services w.kind) input v) v w w'
 server_goes_at services w w' v input s s' sent st p comes is_up same turn e' =
     let u : IsUp (services w.kind) w.kind s v.node = up (services w.kind) w.kind s v.node (subst (λ o. NodeStands (services w.kind) w.kind o v.node) is_up st.node) in
     server_goes (services w.kind) w w' v input s s' sent st p comes is_up same
@@ -240,10 +240,10 @@ pub server_goes_by : {State : Type 0} (services : ℕ → Machine State) (w w' :
     → ActorsStand (services w.kind) w v → Premises (services w.kind) v → MayCome v (input w.profile) → w.node ≡ Some s → s'.who ≡ s.who
     → ((standing : Stage) → IsNearInput s.who.local (input s.who.profile) standing → IsSoundInput (services s.who.kind) (node_of s.who standing) (input s.who.profile) standing
     → StageStands (services s.who.kind) (node_of s.who standing) s.stage → NodeGoes (services s.who.kind) (node_of s.who standing) (input s.who.profile) s.who s'.stage sent)
-    → w' ≡ record w { packets = with_wires w.keys w.packets sent; node = Some s' } → ActorsGoOn (services w.kind) (ServerMoves (services w.kind) (input w.profile) v) v w w'
+    → w' ≡ record w { packets = with_wires w.keys w.packets sent; node = Some s' } → ActorsProceed (services w.kind) (ServerMoves (services w.kind) (input w.profile) v) v w w'
 server_goes_by services w w' v input s s' sent st p comes is_up same turn e' =
     let runs : s.who.profile ≡ w.profile = subst (RunsWith w.profile) is_up st.runs in
-    subst (λ q. ActorsGoOn (services w.kind) (ServerMoves (services w.kind) (input q) v) v w w') runs
+    subst (λ q. ActorsProceed (services w.kind) (ServerMoves (services w.kind) (input q) v) v w w') runs
     (server_goes_at services w w' v (input s.who.profile) s s' sent st p (subst (λ q. MayCome v (input q)) (sym runs) comes) is_up same turn e')
 
 pub never_fenced_by : {State : Type 0} {P : Type 0} (service : Machine State) (w : Kept State) (v : Seen) (input : Profile → Input) (s : Server State) (newer : ℕ) → ActorsStand service w v

@@ -25,7 +25,7 @@ use Rattle.mark_laws.specs.MarkedNode.{Marker}
 use Rattle.mark_laws.specs.MarkedWorld.{Parcel, MarkedWorld, MarkedHappens, CanBeRead, Elsewhere, ComesAs, usual, seen}
 use Rattle.mark_laws.specs.MarkedWorld.Parcel.{Usual, Mark_sent, Mark_answered}
 use Rattle.mark_laws.proofs.Strip.{usual_append, usual_of}
-use Rattle.net_schedule.specs.Actors.{ActorsStand, ActorsGoOn, ActorsAdvance}
+use Rattle.net_schedule.specs.Actors.{ActorsStand, ActorsProceed, ActorsAdvance}
 use Rattle.net_schedule.specs.Delivery.{delivered_to}
 use Rattle.net_schedule.specs.Premises.{Premises}
 use Rattle.net_schedule.specs.Refinement.{Kept, RunsWith}
@@ -175,7 +175,7 @@ module _ {State : Type 0} (by : Marker State) where
 
   -- the code's world is then at the next one
   client_stands : (Goes : List Packet → Seen → Type 0) (w w' : Kept State) (v : MarkedWorld) → MarkedWorldStands by w v → w'.node ≡ w.node → w'.every ≡ w.every → w'.kind ≡ w.kind → w'.profile ≡ w.profile
-      → (g : ActorsGoOn by.service Goes (seen_down v) (downed w) (downed w')) → IsClients v g.sent g.world → MarkedWorldStands by w' (next_of v g.sent g.world)
+      → (g : ActorsProceed by.service Goes (seen_down v) (downed w) (downed w')) → IsClients v g.sent g.world → MarkedWorldStands by w' (next_of v g.sent g.world)
   client_stands Goes w w' v st same_node same_every same_kind same_run g is = record {
     actors = record {
       server = g.stands.server ∙ ap (λ (u : Seen). u.server) is;
@@ -214,7 +214,7 @@ module _ {State : Type 0} (by : Marker State) where
 
   -- bytes reach a client
   pub client_reads : (key : Key) (r : Result Segment BadPacket) (w w' : Kept State) (v : MarkedWorld) → MarkedWorldStands by w v → w'.node ≡ w.node → w'.every ≡ w.every → w'.kind ≡ w.kind → w'.profile ≡ w.profile
-      → ActorsGoOn by.service (ClientReads key r (seen_down v)) (seen_down v) (downed w) (downed w') → MarkedProceeds by (Elsewhere (ClientReads key r) v) v w'
+      → ActorsProceed by.service (ClientReads key r (seen_down v)) (seen_down v) (downed w) (downed w') → MarkedProceeds by (Elsewhere (ClientReads key r) v) v w'
   client_reads key r w w' v st same_node same_every same_kind same_run g =
       let is : IsClients v g.sent g.world = reads_is v key r g.sent g.world g.goes in
       record {

@@ -23,7 +23,7 @@ use Rattle.twin_laws.specs.TwinWorld.TwinEvent.{Usual}
 use Rattle.twin_laws.specs.TwinLegal.{twin_refusal}
 use Rattle.twin_laws.proofs.Elsewhere.{with_packets, happens_elsewhere, server_elsewhere, client_reads_elsewhere, NamesNone}
 use Rattle.twin_laws.proofs.Numbering.{outside_of}
-use Rattle.net_schedule.specs.Actors.{ActorsStand, ActorsGoOn, ActorsAdvance}
+use Rattle.net_schedule.specs.Actors.{ActorsStand, ActorsProceed, ActorsAdvance}
 use Rattle.node_serving.specs.Markers.{Saving}
 use Rattle.net_schedule.specs.WorldView.{kept, service_of}
 use Rattle.net_schedule.specs.Refinement.{Kept}
@@ -107,7 +107,7 @@ module _ {State : Type 0} (service : Machine State) where
   IsElsewhere Goes = (w : Seen) (ps sent : List Packet) (after : Seen) → Goes w sent after → Goes (with_packets w ps) sent (with_packets after (ps ++ sent))
 
   pub two_goes : (Goes : Seen → List Packet → Seen → Type 0) (w w' : Kept State) (v : TwinWorld) (ps : List Packet) → IsElsewhere Goes → TwinWorldStands service w v
-      → ActorsGoOn service (Goes (seen v ps)) (seen v ps) w w' → TwinProceeds service (Elsewhere Goes v) v w'
+      → ActorsProceed service (Goes (seen v ps)) (seen v ps) w w' → TwinProceeds service (Elsewhere Goes v) v w'
   two_goes Goes w w' v ps anywhere st g =
       let next : TwinWorld = next_of v g.sent g.world in
       let goes : Goes (seen v []) g.sent (with_packets g.world g.sent) = anywhere (seen v ps) [] g.sent g.world g.goes in
@@ -156,7 +156,7 @@ module _ {State : Type 0} (service : Machine State) where
   delivered_elsewhere (From_logger message) bytes n w ps sent after h = server_elsewhere service _ w ps sent after h
 
   pub two_brings : (w w' : Kept State) (v : TwinWorld) (ps : List Packet) (packet : Packet) (bytes : List ℕ) → (wire_of packet).to ≢ The_logger → TwinWorldStands service w v
-      → ActorsGoOn service (DeliveredAs service (seen v ps) packet bytes) (seen v ps) w w' → TwinProceeds service (ParcelComesAs service (Outside packet) bytes v) v w'
+      → ActorsProceed service (DeliveredAs service (seen v ps) packet bytes) (seen v ps) w w' → TwinProceeds service (ParcelComesAs service (Outside packet) bytes v) v w'
   two_brings w w' v ps packet bytes n st g = at packet n (two_goes (λ u. DeliveredAs service u packet bytes) w w' v ps (delivered_elsewhere packet bytes n) st g)
     where
       at : (packet : Packet) → (wire_of packet).to ≢ The_logger → TwinProceeds service (Elsewhere (λ u. DeliveredAs service u packet bytes) v) v w'

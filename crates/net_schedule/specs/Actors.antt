@@ -24,7 +24,7 @@ pub record ActorsStand {State : Type 0} (service : Machine State) (w : Kept Stat
   pub runs : RunsWith w.profile w.node
 
 -- The world moves to a next one: these packets are sent and stored, and the loggers don't change.
-pub record ActorsGoOn {State : Type 0} (service : Machine State) (Goes : List Packet → Seen → Type 0) (v : Seen) (before after : Kept State) : Type 0 where
+pub record ActorsProceed {State : Type 0} (service : Machine State) (Goes : List Packet → Seen → Type 0) (v : Seen) (before after : Kept State) : Type 0 where
   pub sent : List Packet
   pub world : Seen
   pub goes : Goes sent world
@@ -39,6 +39,6 @@ pub record ActorsGoOn {State : Type 0} (service : Machine State) (Goes : List Pa
 
 -- An event of the server or a client is allowed and happens, and the clients are scripted.
 pub record ActorsAdvance {State : Type 0} (service : Machine State) (v : Seen) (event : Event) (before after : Kept State) : Type 0 where
-  pub happens : ActorsGoOn service (Happens service v event) v before after
+  pub happens : ActorsProceed service (Happens service v event) v before after
   pub allowed : refusal v event ≡ None
   pub scripted : IsScripted v event happens.sent happens.world

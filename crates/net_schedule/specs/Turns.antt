@@ -15,7 +15,7 @@ use Rattle.ft_model.specs.declared.way.Way.{Way}
 use Rattle.mark_laws.specs.MarkedNode.{MarkedInput}
 use Rattle.twin_laws.specs.TwinLegal.{twin_refusal}
 use Rattle.twin_laws.specs.TwinWorld.{Parcel, TwinWorld, seen}
-use Rattle.net_schedule.specs.Actors.{ActorsStand, ActorsGoOn, ActorsAdvance}
+use Rattle.net_schedule.specs.Actors.{ActorsStand, ActorsProceed, ActorsAdvance}
 use Rattle.schedule_network.specs.StoredPackets.{way_along}
 use Rattle.net_schedule.specs.Delivery.{with_logs}
 use Rattle.schedule_network.specs.Logs.{ReceivesIn}
@@ -40,7 +40,7 @@ pub record Serves {State : Type 0} {ghosts : Ghosts State} (saved : Saving State
     (before after : World State ghosts) : Type 0 where
   pub continues : Continues before after
   pub moves : (v : Seen) → ActorsStand (service_of before) (kept before) v → Premises (service_of before) v → MayCome v input
-      → ActorsGoOn (service_of before) (ServerMoves (service_of before) input v) v (kept before) (kept after)
+      → ActorsProceed (service_of before) (ServerMoves (service_of before) input v) v (kept before) (kept after)
   pub marked : MarkedServes saved receipt before after
 
 -- an event of the server or a client is allowed and happens
