@@ -10,7 +10,7 @@ WAY is one of these, with each of the kernel's congestion controls `reno` and `b
 
     ftnode-PROFILE           `ftnode client` to `ftnode server`, both with this profile
     CONTROL-to-PROFILE       a client of the kernel, through tools/bridge.py, to `ftnode server` with this profile
-    kernel-CONTROL-bare      two sockets of the kernel without window scaling, selective acknowledgements and timestamps, which `ftnode` hasn't
+    kernel-CONTROL-bare      two sockets of the kernel without window scaling, selective acknowledgements and timestamps (of these `ftnode` has timestamps, with wan)
     kernel-CONTROL-options   two sockets of the kernel with them
 
 `table` reads such lines, of one run or of several, and prints tables of their medians, and which goals are met: at 50 ms at least half as fast as two bare
