@@ -1,5 +1,5 @@
 -- What the code's loggers do with bytes that arrive is what the definitions' loggers do.
-use Rattle.std.proofs.Common.{◌≡◌, ◌∙◌, sym, ap, ap₂, subst, refl, ℕ, ◌+◌, ◌≤◌, Bool, true, false, true≢false, List, [], ◌∷◌, ◌++◌, drop, length, if◌then◌else◌, nat_lt, nat_le, ◌==◌, ◌&&◌, Result, Ok, Err, le_refl, length-append, arith}
+use Rattle.std.proofs.Common.{◌≡◌, ◌∙◌, sym, ap, ap₂, subst, refl, ℕ, ◌+◌, ◌≤◌, Bool, true, false, true≢false, List, [], ◌∷◌, ◌++◌, drop, length, if◌then◌else◌, nat_lt, nat_le, ◌==◌, ◌&&◌, not, Result, Ok, Err, le_refl, length-append, arith}
 use Rattle.std.specs.List.{AllByRecursion}
 use Rattle.ft_io.proofs.Choices.{holds_either_way}
 use Rattle.ft_io.specs.declared.Key.{Key}
@@ -19,7 +19,7 @@ use Rattle.twin_laws.specs.declared.part.Part.{Part}
 use Rattle.twin_laws.specs.declared.part.Part.TheVariants as parts
 use Rattle.twin_laws.specs.declared.part.Side.{Side}
 use Rattle.twin_laws.specs.declared.part.Side.TheVariants as sides
-use Rattle.twin_laws.specs.Twin.{Request, Comes, Head, Tail, Does, nothing, has_room, with_taken, head_takes, numbered, sends_waiting, head_paired, head_alone, confirmed_to, head_does, tail_alone, applies_next, confirms_again, tail_applies, tail_does}
+use Rattle.twin_laws.specs.Twin.{Request, Comes, Head, Tail, Does, nothing, has_room, with_taken, head_takes, is_wide, waits, waiting, numbered, sends_waiting, head_paired, head_alone, confirmed_to, head_does, tail_alone, applies_next, confirms_again, tail_applies, tail_does}
 use Rattle.twin_laws.specs.Twin.Between.{Forward, Got}
 use Rattle.twin_laws.specs.Twin.Comes.{Asks, Reports, Is_noise}
 use Rattle.twin_laws.specs.StoredState.{kept_head, kept_tail, kept_does, comes_from, in_bytes}
@@ -49,8 +49,11 @@ Sends part d = AllByRecursion (GoesFrom part) d.to_other
 head_forwards : (c : Comes) (h : Head) → Sends parts.Head (head_does c h)
 head_forwards (Asks r) h =
     holds_either_way (Sends parts.Head) h.alone (head_alone r h) (head_paired r h) tt
-    (holds_either_way (Sends parts.Head) (is_answer r.message.body) (nothing h) (sends_waiting (head_takes r h)) tt
-    (numbered_forward (head_takes r h).confirmed (drop (head_takes r h).confirmed (head_takes r h).taken)))
+    (holds_either_way (Sends parts.Head) (is_answer r.message.body) (nothing h) (if has_room h then head_takes r h else sends_waiting h) tt
+    (holds_either_way (Sends parts.Head) (has_room h) (head_takes r h) (sends_waiting h)
+    (holds_either_way (AllByRecursion (GoesFrom parts.Head)) (is_wide r.bytes && not (waits r h)) (Forward (length h.taken + 1) r ∷ []) (waiting (with_taken r h)) (tt, tt)
+    (numbered_forward h.confirmed (drop h.confirmed (h.taken ++ r ∷ []))))
+    (numbered_forward h.confirmed (drop h.confirmed h.taken))))
 head_forwards (Reports (Got number)) h = holds_either_way (Sends parts.Head) h.alone (nothing h) (nothing (confirmed_to number h)) tt tt
 head_forwards (Reports (Forward number r)) h = tt
 head_forwards Is_noise h = tt
@@ -115,8 +118,8 @@ serving_is grammar l p stand alone =
 head_stays : (c : Comes) (h : Head) → (head_does c h).next.alone ≡ h.alone
 head_stays (Asks r) h =
     holds_either_way (λ d. d.next.alone ≡ h.alone) h.alone (head_alone r h) (head_paired r h) refl
-    (holds_either_way (λ d. d.next.alone ≡ h.alone) (is_answer r.message.body) (nothing h) (sends_waiting (head_takes r h)) refl
-    (holds_either_way (λ x. x.alone ≡ h.alone) (has_room h) (with_taken r h) h refl refl))
+    (holds_either_way (λ d. d.next.alone ≡ h.alone) (is_answer r.message.body) (nothing h) (if has_room h then head_takes r h else sends_waiting h) refl
+    (holds_either_way (λ d. d.next.alone ≡ h.alone) (has_room h) (head_takes r h) (sends_waiting h) refl refl))
 head_stays (Reports (Got number)) h =
     holds_either_way (λ d. d.next.alone ≡ h.alone) h.alone (nothing h) (nothing (confirmed_to number h)) refl
     (holds_either_way (λ x. x.alone ≡ h.alone) (nat_lt h.confirmed number && nat_le number (length h.taken)) (record h { confirmed = number }) h refl refl)

@@ -15,7 +15,7 @@ use Rattle.ft_model.specs.declared.event.Event.{Event}
 use Rattle.ft_model.specs.declared.event.Event.TheVariants.{Boot, Crash, Tick, Deliver, Flip, Begin, Send, Fin, Ack, Reset}
 use Rattle.ft_model.specs.declared.event.Event.TheVariants as events
 use Rattle.ft_model.proofs.Lists.{all_append, all_slice_get, none_is_some}
-use Rattle.twin_laws.specs.Twin.{Request, Between, Comes, Head, Tail, Does, head_does, tail_does, with_taken, waiting, head_paired, head_alone, tail_alone, tail_applies, nothing, has_room, confirmed_to, sends_waiting, applies_next, confirms_again, from_other_logger, asked, datagram_of, bytes_of}
+use Rattle.twin_laws.specs.Twin.{Request, Between, Comes, Head, Tail, Does, head_does, tail_does, with_taken, head_takes, forwarding, waiting, head_paired, head_alone, tail_alone, tail_applies, nothing, has_room, confirmed_to, sends_waiting, applies_next, confirms_again, from_other_logger, asked, datagram_of, bytes_of}
 use Rattle.twin_laws.specs.Twin.Between.{Forward, Got}
 use Rattle.twin_laws.specs.Twin.Comes.{Asks, Reports, Is_noise}
 use Rattle.twin_laws.specs.Pair.{Pair, head_has, tail_has, stopped_by, log_over}
@@ -27,7 +27,7 @@ use Rattle.ft_model.specs.declared.event.Event.TheVariants as events
 use Rattle.twin_laws.specs.TwinWorld.TwinEvent.{Usual, Stop}
 use Rattle.twin_laws.specs.Flat.{Flat, flat, flat_step, kept_as, kept_alone, left_out, asked_flat, forwarded_flat, delivered_flat, flipped_flat, stopped_flat, delivered_to_log, both, outside, numbers_of, number_at, new_number}
 use Rattle.twin_laws.proofs.Folds.{log_append}
-use Rattle.twin_laws.proofs.Steps.{PairInvariant, start, pair_of, IsForwarded, IsGotten, asks_head, asks_tail, head_passes, tail_passes, got, forward, stops, still_forwarded, numbered_are}
+use Rattle.twin_laws.proofs.Steps.{PairInvariant, start, pair_of, IsForwarded, IsGotten, asks_head, asks_tail, head_passes, tail_passes, got, forward, stops, still_forwarded, numbered_are, forwards_are}
 use Rattle.twin_laws.proofs.Numbering.{Named, named_more, named_append, numbered_anew, named_at, TakenBy, taken_more, taken_append, taken_at, taken_rest, outside_of, none_outside}
 use Rattle.twin_laws.proofs.Elsewhere.{with_packets, server_elsewhere, client_elsewhere, happens_elsewhere, flip_elsewhere_server, flip_elsewhere_client, flip_elsewhere_message, NamesNone}
 use Rattle.twin_laws.proofs.Noise.{flipped_is_noise, asked_nothing}
@@ -200,7 +200,7 @@ paired_asked : {State : Type 0} (service : Machine State) (first before : TwinWo
     (name : TwinEvent) (q : ℕ) (r : Request) (f : Flat) (alone answer room : Bool)
     → alone ≡ false → Flattens service first w f → packet_at f.packets q ≡ Some (To_logger r.message)
     → let d : Does Head = if alone then head_alone r head
-    else (if answer then nothing head else sends_waiting (if room then with_taken r head else head)) in
+    else (if answer then nothing head else (if room then head_takes r head else sends_waiting head)) in
     let now : Pair = record p { head = d.next; from_head = fh ++ d.to_other; answers = answers ++ d.to_server } in
     PairInvariant now
     → let g : Flat = left_out (moment_of name (sent_by d) (with_pair w now (sent_by d))) f in
@@ -213,11 +213,11 @@ paired_asked service first before head tail fh ft answers given name q r f false
 paired_asked service first before head tail fh ft answers given name q r f false false true al s at stands =
     let p : Pair = pair_of false false head tail fh ft answers given in
     let h : Head = with_taken r head in
-    let now : Pair = record p { head = h; from_head = fh ++ waiting h; answers = answers ++ [] } in
-    leave service first (record before { pair = p }) now name (map Inside (waiting h)) f (f.origins ++ q ∷ []) s refl (none_outside (waiting h)) stands
+    let now : Pair = record p { head = h; from_head = fh ++ forwarding r head; answers = answers ++ [] } in
+    leave service first (record before { pair = p }) now name (map Inside (forwarding r head)) f (f.origins ++ q ∷ []) s refl (none_outside (forwarding r head)) stands
     (taken_append f.packets f.origins (q ∷ []) head.taken (r ∷ []) s.taken (at, tt))
-    (all_append (IsTrueOf now) before.parcels (map Inside (waiting h)) (old_parcels p now before.parcels (λ b t. more_true p now r b refl refl t) s.parcels)
-    (forwards_true now (waiting h) (numbered_are h.taken (drop h.confirmed h.taken) h.confirmed refl)))
+    (all_append (IsTrueOf now) before.parcels (map Inside (forwarding r head)) (old_parcels p now before.parcels (λ b t. more_true p now r b refl refl t) s.parcels)
+    (forwards_true now (forwarding r head) (forwards_are r head)))
   where
     more_true : (p q : Pair) (r : Request) (b : Between) → q.head.taken ≡ p.head.taken ++ r ∷ [] → q.tail.applied ≡ p.tail.applied → IsTrueOf p (Inside b) → IsTrueOf q (Inside b)
     more_true p q r (Forward k x) taken applied t = subst (λ ms. IsForwarded ms (Forward k x)) (sym taken) (still_forwarded p.head.taken r (Forward k x) t)

@@ -1,12 +1,12 @@
 -- Every delivery keeps what holds of a pair.
-use Rattle.std.proofs.Common.{◌≡◌, ℕ, zero, suc, ◌+◌, ◌≤◌, ◌==◌, ◌&&◌, Bool, true, false, refl, sym, ap, ◌∙◌, subst, true≢false, Option, Some, None, List, [], ◌∷◌, ◌++◌, length, drop, slice_get, append-nil, le_refl, arith, eqb-true, nat_lt, nat_le, if◌then◌else◌}
+use Rattle.std.proofs.Common.{◌≡◌, ℕ, zero, suc, ◌+◌, ◌≤◌, ◌==◌, ◌&&◌, not, Bool, true, false, refl, sym, ap, ◌∙◌, subst, true≢false, Option, Some, None, List, [], ◌∷◌, ◌++◌, length, drop, slice_get, append-nil, le_refl, arith, eqb-true, nat_lt, nat_le, if◌then◌else◌}
 use Rattle.std.specs.List.{AllByRecursion}
 use Rattle.std.specs.Option.{option_to_list}
 use Rattle.seq_arith.specs.Message.{Message, is_answer}
-use Rattle.ft_io.proofs.Choices.{holds_if}
+use Rattle.ft_io.proofs.Choices.{holds_if, holds_either_way}
 use Rattle.ft_model.specs.Log.{log_after, answer_to}
 use Rattle.ft_model.proofs.Lists.{all_append, all_weaker, all_slice_get, none_is_some}
-use Rattle.twin_laws.specs.Twin.{Request, Between, Head, Tail, Does, head_takes, with_taken, waiting, numbered, confirmed_to, tail_applies, has_room, head_paired, head_alone, tail_alone, nothing, sends_waiting, applies_next, confirms_again}
+use Rattle.twin_laws.specs.Twin.{Request, Between, Head, Tail, Does, head_takes, with_taken, waiting, forwarding, is_wide, waits, numbered, confirmed_to, tail_applies, has_room, head_paired, head_alone, tail_alone, nothing, sends_waiting, applies_next, confirms_again}
 use Rattle.twin_laws.specs.Twin.Comes.{Asks, Reports, Is_noise}
 use Rattle.twin_laws.specs.Twin.Between.{Forward, Got}
 use Rattle.twin_laws.specs.Pair.{Pair, Delivery, new_pair, reported_by, head_has, tail_has, pair_after, pair_over, ActsAsOne}
@@ -141,6 +141,26 @@ waiting_sent p s =
     record { holds = s.holds; forwards = all; gots = s.gots; head_alone = s.head_alone; tail_alone = s.tail_alone; one = s.one; none = s.none } in
     subst (λ a. PairInvariant (record p { from_head = p.from_head ++ waiting p.head; answers = a })) (sym (append-nil p.answers)) now
 
+-- the new message is at its number
+new_at_end : (taken : List Request) (r : Request) → slice_get (taken ++ r ∷ []) (length taken) ≡ Some r
+new_at_end [] r = refl
+new_at_end (x ∷ taken) r = new_at_end taken r
+
+-- what is forwarded of a message that was taken: that one alone, or all that waits
+pub forwards_are : (r : Request) (h : Head) → AllByRecursion (IsForwarded (h.taken ++ r ∷ [])) (forwarding r h)
+forwards_are r h =
+    holds_either_way (AllByRecursion (IsForwarded (h.taken ++ r ∷ []))) (is_wide r.bytes && not (waits r h)) (Forward (length h.taken + 1) r ∷ []) (waiting (with_taken r h))
+    ((length h.taken, refl, new_at_end h.taken r), tt)
+    (numbered_are (h.taken ++ r ∷ []) (drop h.confirmed (h.taken ++ r ∷ [])) h.confirmed refl)
+
+taken_sent : (p : Pair) (r : Request) → PairInvariant (record p { head = with_taken r p.head }) → PairInvariant (with_head p p.given (head_takes r p.head))
+taken_sent p r s =
+    let all : AllByRecursion (IsForwarded (p.head.taken ++ r ∷ [])) (p.from_head ++ forwarding r p.head) =
+    all_append (IsForwarded (p.head.taken ++ r ∷ [])) p.from_head (forwarding r p.head) s.forwards (forwards_are r p.head) in
+    let now : PairInvariant (record p { head = with_taken r p.head; from_head = p.from_head ++ forwarding r p.head }) =
+    record { holds = s.holds; forwards = all; gots = s.gots; head_alone = s.head_alone; tail_alone = s.tail_alone; one = s.one; none = s.none } in
+    subst (λ a. PairInvariant (record p { head = with_taken r p.head; from_head = p.from_head ++ forwarding r p.head; answers = a })) (sym (append-nil p.answers)) now
+
 abbrev pub HeadStands : Pair → List Request → Does Head → Type 0
 HeadStands p given d = PairInvariant (with_head p given d)
 
@@ -164,10 +184,10 @@ asks_head false false head tail fh ft answers given r s =
     let p : Pair = pair_of false false head tail fh ft answers given in
     holds_if (HeadStands p given) head.alone (head_alone r head) (head_paired r head)
     (λ alone. absurd (true≢false (sym alone ∙ s.head_alone)))
-    (λ paired. holds_if (HeadStands p given) (is_answer r.message.body) (nothing head) (sends_waiting (head_takes r head))
+    (λ paired. holds_if (HeadStands p given) (is_answer r.message.body) (nothing head) (if has_room head then head_takes r head else sends_waiting head)
     (λ answer. quiet_head p s)
-    (λ asking. holds_if (λ h. HeadStands p given (sends_waiting h)) (has_room head) (with_taken r head) head
-    (λ room. waiting_sent (record p { head = with_taken r head }) (takes p r refl refl s))
+    (λ asking. holds_if (HeadStands p given) (has_room head) (head_takes r head) (sends_waiting head)
+    (λ room. taken_sent p r (takes p r refl refl s))
     (λ full. waiting_sent p s)))
 
 -- what the head doesn't act on

@@ -1,5 +1,5 @@
 -- What a program keeps of a head or a tail does what the definition says.
-use Rattle.std.proofs.Common.{◌≡◌, ℕ, ◌+◌, ◌-◌, ◌<◌, ◌≤◌, ◌==◌, ◌&&◌, Bool, true, false, refl, sym, ap, ◌∙◌, List, [], ◌∷◌, ◌++◌, map, length, drop, append-nil, arith, length-append, nat_lt, nat_le, if◌then◌else◌}
+use Rattle.std.proofs.Common.{◌≡◌, ℕ, ◌+◌, ◌-◌, ◌<◌, ◌≤◌, ◌==◌, ◌&&◌, not, Bool, true, false, refl, sym, ap, ◌∙◌, List, [], ◌∷◌, ◌++◌, map, length, drop, append-nil, arith, length-append, nat_lt, nat_le, if◌then◌else◌}
 use Rattle.std.proofs.lemmas.Bool.{and_parts, ltb-true}
 use Rattle.std.proofs.lemmas.List.{length-drop, length-map, drop-map, drop-drop, drop-append-le, map-append}
 use Rattle.seq_arith.specs.declared.kinds.Grammar.{Grammar}
@@ -8,10 +8,10 @@ use Rattle.ft_model.specs.Log.{Log, log_after, answer_to}
 use Rattle.twin_laws.specs.declared.part.Part.TheVariants as parts
 use Rattle.twin_laws.specs.declared.part.Side.{Side}
 use Rattle.twin_laws.specs.declared.part.Side.TheVariants as sides
-use Rattle.twin_laws.specs.Twin.{Request, Comes, Head, Tail, head_does, tail_does, head_takes, with_taken, may_take, numbered, waiting, sends_waiting, confirmed_to, applies_next, confirms_again, nothing, bytes_of}
+use Rattle.twin_laws.specs.Twin.{Request, Comes, Head, Tail, head_does, tail_does, head_takes, with_taken, may_take, has_room, is_wide, waits, numbered, waiting, sends_waiting, confirmed_to, applies_next, confirms_again, nothing, bytes_of}
 use Rattle.twin_laws.specs.Twin.Between.{Forward, Got}
 use Rattle.twin_laws.specs.Twin.Comes.{Asks, Reports, Is_noise}
-use Rattle.twin_laws.specs.StoredState.{Kept, KeptDoes, kept_head, kept_tail, comes_from, does_of, kept_does, in_bytes, forwards_sent, sent_to_other, answers_sent, sends_kept, sends_nothing, keeps_too, keeps_request, kept_confirmed, applies_kept}
+use Rattle.twin_laws.specs.StoredState.{Kept, KeptDoes, kept_head, kept_tail, comes_from, does_of, kept_does, in_bytes, forwards_sent, sent_to_other, answers_sent, sends_kept, sends_nothing, keeps_too, has_kept_room, kept_takes, kept_confirmed, applies_kept}
 
 abbrev head_of : Bool → Log → List Request → ℕ → Head
 head_of alone log taken confirmed = record { log = log; taken = taken; confirmed = confirmed; alone = alone }
@@ -50,18 +50,27 @@ one_more grammar r h few =
     in ap (λ n. kept_with grammar (log_after h.log r.message) n (bytes_in (drop h.confirmed h.taken) ++ r.bytes ∷ []) h.alone) number
     ∙ ap (λ w. kept_with grammar (log_after h.log r.message) (length (h.taken ++ r ∷ [])) w h.alone) rest
 
-by_room : (grammar : Grammar) (room : Bool) (r : Request) (h : Head) → h.confirmed ≤ length h.taken
-    → sends_kept (if room then keeps_too r (kept_head grammar h) else kept_head grammar h) ≡ in_bytes (kept_head grammar) (sends_waiting (if room then with_taken r h else h))
-by_room grammar true r h few =
+-- a message that is taken is forwarded once, or with all that waits
+by_once : (grammar : Grammar) (once : Bool) (r : Request) (h : Head) → h.confirmed ≤ length h.taken
+    → (if once then kept_does_with (keeps_too r (kept_head grammar h)) (forwards_sent (length h.taken) (r.bytes ∷ [])) else sends_kept (keeps_too r (kept_head grammar h)))
+    ≡ in_bytes (kept_head grammar) (record { next = with_taken r h; to_server = []; to_other = if once then Forward (length h.taken + 1) r ∷ [] else waiting (with_taken r h) })
+by_once grammar true r h few =
+    ap (λ kept. kept_does_with kept (forwards_sent (length h.taken) (r.bytes ∷ []))) (one_more grammar r h few)
+    ∙ ap (kept_does_with (kept_head grammar (with_taken r h))) (forwards_are (length h.taken) (r ∷ []))
+by_once grammar false r h few =
     ap sends_kept (one_more grammar r h few) ∙ all_sent grammar (with_taken r h) (omega (arith, few, length-append h.taken (r ∷ [])))
+
+by_room : (grammar : Grammar) (room : Bool) (r : Request) (h : Head) → h.confirmed ≤ length h.taken
+    → (if room then kept_takes r (kept_head grammar h) else sends_kept (kept_head grammar h)) ≡ in_bytes (kept_head grammar) (if room then head_takes r h else sends_waiting h)
+by_room grammar true r h few = by_once grammar (is_wide r.bytes && not (waits r h)) r h few
 by_room grammar false r h few = all_sent grammar h few
 
 asks : (grammar : Grammar) (answer : Bool) (r : Request) (h : Head) → h.confirmed ≤ length h.taken
-    → (if answer then sends_nothing (kept_head grammar h) else sends_kept (keeps_request r (kept_head grammar h)))
-    ≡ in_bytes (kept_head grammar) (if answer then nothing h else sends_waiting (head_takes r h))
+    → (if answer then sends_nothing (kept_head grammar h) else (if has_kept_room (kept_head grammar h) then kept_takes r (kept_head grammar h) else sends_kept (kept_head grammar h)))
+    ≡ in_bytes (kept_head grammar) (if answer then nothing h else (if has_room h then head_takes r h else sends_waiting h))
 asks grammar true r h few = refl
 asks grammar false r h few =
-    ap (λ n. sends_kept (if may_take n (length h.taken) then keeps_too r (kept_head grammar h) else kept_head grammar h)) (count_waiting h.taken h.confirmed)
+    ap (λ n. if may_take n (length h.taken) then kept_takes r (kept_head grammar h) else sends_kept (kept_head grammar h)) (count_waiting h.taken h.confirmed)
     ∙ by_room grammar (may_take (length h.taken - h.confirmed) (length h.taken)) r h few
 
 by_number : (grammar : Grammar) (number : ℕ) (b : Bool) (h : Head) → (nat_lt h.confirmed number && nat_le number (length h.taken)) ≡ b

@@ -1,6 +1,6 @@
 -- All that was sent in a joint trace is written: the packets outside as in the flat trace, and what goes between the loggers because the head takes only what the
 -- server sent, in its spelling.
-use Rattle.std.proofs.Common.{◌≡◌, ◌∙◌, ℕ, zero, suc, ◌+◌, ◌-◌, ◌<◌, ◌≤◌, ◌^◌, ◌==◌, ◌&&◌, nat_lt, nat_le, Bool, true, false, refl, sym, ap, subst, Some, List, [], ◌∷◌, ◌++◌, map, drop, length, arith, length-append, Ok, leb-true}
+use Rattle.std.proofs.Common.{◌≡◌, ◌∙◌, ℕ, zero, suc, ◌+◌, ◌-◌, ◌<◌, ◌≤◌, ◌^◌, ◌==◌, ◌&&◌, not, nat_lt, nat_le, if◌then◌else◌, Bool, true, false, sym, ap, subst, Some, List, [], ◌∷◌, ◌++◌, map, drop, length, arith, length-append, Ok, leb-true}
 use Rattle.std.specs.List.{AllByRecursion}
 use Rattle.std.proofs.lemmas.Bool.{and_parts, ltb-true}
 use Rattle.std.proofs.lemmas.Option.{slice_get_within}
@@ -24,7 +24,7 @@ use Rattle.ft_model.proofs.Profiles.{profile_stays}
 use Rattle.ft_model.proofs.Lists.{all_append, all_map, all_of, all_slice_get, none_is_some}
 use Rattle.twin_laws.specs.declared.part.Part.{Part}
 use Rattle.twin_laws.specs.declared.part.Part.TheVariants as parts
-use Rattle.twin_laws.specs.Twin.{Request, Between, Comes, Head, Tail, Does, nothing, has_room, with_taken, head_takes, numbered, sends_waiting, head_paired, head_alone, confirmed_to, head_does, tail_alone, applies_next, confirms_again, tail_applies, tail_does, from_other_logger, asked, bytes_of, datagram_of}
+use Rattle.twin_laws.specs.Twin.{Request, Between, Comes, Head, Tail, Does, nothing, has_room, with_taken, head_takes, is_wide, waits, waiting, numbered, sends_waiting, head_paired, head_alone, confirmed_to, head_does, tail_alone, applies_next, confirms_again, tail_applies, tail_does, from_other_logger, asked, bytes_of, datagram_of}
 use Rattle.twin_laws.specs.Twin.Between.{Forward, Got}
 use Rattle.twin_laws.specs.Twin.Comes.{Asks, Reports, Is_noise}
 use Rattle.twin_laws.specs.Pair.{Pair, IsPaired, head_has, tail_has, stopped_by}
@@ -83,8 +83,8 @@ room_left h r room =
 head_takes_so : (grammar : Grammar) (c : Comes) (h : Head) → IsGood grammar c → Takes grammar h → Takes grammar (head_does c h).next
 head_takes_so grammar (Asks r) h good t =
     holds_if (λ d. Takes grammar d.next) h.alone (head_alone r h) (head_paired r h) (λ alone. t)
-    (λ paired. holds_if (λ d. Takes grammar d.next) (is_answer r.message.body) (nothing h) (sends_waiting (head_takes r h)) (λ answers. t)
-    (λ asks. holds_if (Takes grammar) (has_room h) (with_taken r h) h
+    (λ paired. holds_if (λ d. Takes grammar d.next) (is_answer r.message.body) (nothing h) (if has_room h then head_takes r h else sends_waiting h) (λ answers. t)
+    (λ asks. holds_if (λ d. Takes grammar d.next) (has_room h) (head_takes r h) (sends_waiting h)
     (λ room. (all_append (IsTaken grammar) h.taken (r ∷ []) t.0 ((good, asks), tt), room_left h r room)) (λ full. t)))
 head_takes_so grammar (Reports (Got number)) h good t =
     holds_either_way (λ d. Takes grammar d.next) h.alone (nothing h) (nothing (confirmed_to number h)) t
@@ -103,8 +103,11 @@ SendsReal d = AllByRecursion IsReal d.to_other
 head_sends_real : (c : Comes) (h : Head) → SendsReal (head_does c h)
 head_sends_real (Asks r) h =
     holds_either_way (λ d. SendsReal d) h.alone (head_alone r h) (head_paired r h) tt
-    (holds_either_way (λ d. SendsReal d) (is_answer r.message.body) (nothing h) (sends_waiting (head_takes r h)) tt
-    (numbered_real (head_takes r h).confirmed (drop (head_takes r h).confirmed (head_takes r h).taken)))
+    (holds_either_way (λ d. SendsReal d) (is_answer r.message.body) (nothing h) (if has_room h then head_takes r h else sends_waiting h) tt
+    (holds_either_way (λ d. SendsReal d) (has_room h) (head_takes r h) (sends_waiting h)
+    (holds_either_way (AllByRecursion IsReal) (is_wide r.bytes && not (waits r h)) (Forward (length h.taken + 1) r ∷ []) (waiting (with_taken r h)) (tt, tt)
+    (numbered_real h.confirmed (drop h.confirmed (h.taken ++ r ∷ []))))
+    (numbered_real h.confirmed (drop h.confirmed h.taken))))
 head_sends_real (Reports (Got number)) h = holds_either_way (λ d. SendsReal d) h.alone (nothing h) (nothing (confirmed_to number h)) tt tt
 head_sends_real (Reports (Forward number r)) h = tt
 head_sends_real Is_noise h = tt

@@ -2,6 +2,7 @@
 use Rattle.std.proofs.Common.{◌≡◌, refl, arith, [], ◌∷◌}
 use Rattle.server_trait.specs.Service.{Machine}
 use Rattle.seq_arith.specs.declared.kinds.Grammar.TheVariants as grammars
+use Rattle.seq_arith.specs.MessageGrammar as messages
 use Rattle.ft_model.specs.Log.{log_after, answer_to}
 use Rattle.ft_model.specs.Network.Packet.{To_logger}
 use Rattle.ft_model.specs.declared.event.Event.TheVariants.{Boot, Deliver}
@@ -23,6 +24,7 @@ boots : {State : Type 0} (service : Machine State) → TwinHappens service at_fi
 boots service = (To_logger hello ∷ [], refl, (refl, (omega arith, omega arith), refl, refl), refl, refl)
 
 takes : {State : Type 0} (service : Machine State) → TwinHappens service booted_world (Usual (Deliver 1)) second_sent taken_world
+unfolding messages.spelling_by messages.spelled messages.header
 takes service = (Outside (To_logger hello), refl, (refl, refl))
 
 applies : {State : Type 0} (service : Machine State) → TwinHappens service taken_world (Usual (Deliver 2)) third_sent applied_world

@@ -3,6 +3,7 @@ use Rattle.tcp_rules.specs.declared.timestamping.Timestamping.TheVariants.{Off}
 use Rattle.std.proofs.Common.{◌≡◌, ℕ, ◌^◌, ◌==◌, false, true≢false, refl, sym, ap, ◌∙◌, subst, None, [], ◌∷◌, length}
 use native.Mathlib.Bridge.{le_by_compare, IsLe}
 use Rattle.seq_arith.specs.Message.{is_answer}
+use Rattle.seq_arith.specs.MessageGrammar as messages
 use Rattle.server_trait.specs.Service.{Machine}
 use Rattle.ft_io.proofs.Choices.{if_false, holds_either_way}
 use Rattle.ft_model.specs.Client.{move_asked}
@@ -23,7 +24,7 @@ use Rattle.ft_model.proofs.Lists.{some_is}
 use Rattle.ft_model.proofs.Turns.{laws, alone, segment_in}
 use Rattle.twin_laws.specs.declared.part.Part.{Part}
 use Rattle.twin_laws.specs.Flat.{flat, outside}
-use Rattle.twin_laws.specs.Twin.{Comes, Does, Head, nothing, sends_waiting, head_takes, head_alone, head_paired, head_does}
+use Rattle.twin_laws.specs.Twin.{Comes, Does, Head, nothing, sends_waiting, has_room, head_takes, head_alone, head_paired, head_does}
 use Rattle.twin_laws.specs.Twin.Between.{Forward, Got}
 use Rattle.twin_laws.specs.Twin.Comes.{Asks, Reports, Is_noise}
 use Rattle.twin_laws.specs.TwinLegal.{twin_start, event_of, twin_refusal, IsTwinAllowed, AllTwinAllowed, TwinLegal}
@@ -44,7 +45,7 @@ unfolding laws IsLe
 happens_1 service = (path.packet_1 ∷ [], refl, (refl, (le_by_compare 1 1 tt, le_by_compare 2 (2 ^ 64) tt), refl, refl), refl, refl)
 
 happens_2 : {State : Type 0} (service : Machine State) → Happens (quiet service) run.moment_1.world run.moment_2
-unfolding laws
+unfolding laws messages.spelling_by messages.spelled messages.header
 happens_2 service = (Outside path.packet_1, refl, (refl, refl))
 
 happens_3 : {State : Type 0} (service : Machine State) → Happens (quiet service) run.moment_2.world run.moment_3
@@ -74,7 +75,7 @@ unfolding laws
 happens_7 service = (Outside path.packet_3, refl, (path.packet_4 ∷ [], refl, ((path.node_at (Serving 1 (Opens numbers Off ∷ [])), refl, turn_5 service), refl), refl, refl))
 
 happens_8 : {State : Type 0} (service : Machine State) → Happens (quiet service) run.moment_7.world run.moment_8
-unfolding laws
+unfolding laws messages.spelling_by messages.spelled messages.header
 happens_8 service = (Outside path.packet_4, refl, (refl, refl))
 
 happens_9 : {State : Type 0} (service : Machine State) → Happens (quiet service) run.moment_8.world run.moment_9
@@ -152,13 +153,14 @@ stopped = refl
 pub says_nothing : (head : Head) (comes : Comes) → head.alone ≡ false → (head_does comes head).to_server ≡ []
 says_nothing head (Asks request) paired =
     ap (λ (d : Does Head). d.to_server) (if_false head.alone (head_alone request head) (head_paired request head) paired)
-    ∙ holds_either_way (λ (d : Does Head). d.to_server ≡ []) (is_answer request.message.body) (nothing head) (sends_waiting (head_takes request head)) refl refl
+    ∙ holds_either_way (λ (d : Does Head). d.to_server ≡ []) (is_answer request.message.body) (nothing head) _ refl
+    (holds_either_way (λ (d : Does Head). d.to_server ≡ []) (has_room head) (head_takes request head) (sends_waiting head) refl refl)
 says_nothing head (Reports (Got number)) paired = holds_either_way (λ (d : Does Head). d.to_server ≡ []) head.alone (nothing head) _ refl refl
 says_nothing head (Reports (Forward number request)) paired = refl
 says_nothing head Is_noise paired = refl
 
 pub no_answer : {State : Type 0} (service : Machine State) (after : TwinWorld) → TwinHappens service run.moment_7.world (Usual (events.Deliver 6)) run.answers_itself after → ⊥
-unfolding laws
+unfolding laws messages.spelling_by messages.spelled messages.header
 no_answer service after t =
     let comes : ParcelComes service (Outside path.packet_4) run.moment_7.world run.answers_itself after =
     subst (λ parcel. ParcelComes service parcel run.moment_7.world run.answers_itself after) (sym (some_is (Outside path.packet_4) t.0 t.1)) t.2 in

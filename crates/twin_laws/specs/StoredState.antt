@@ -1,6 +1,6 @@
 -- The state that a program stores of one of two loggers, and what it does with bytes: the same as its definition. A head stores how many requests it took,
 -- and the bytes of the unconfirmed ones. A tail stores how many it applied.
-use Rattle.std.specs.Prelude.{ℕ, Bool, true, false, ◌+◌, ◌-◌, ◌==◌, ◌&&◌, nat_lt, nat_le, map, Option, List, [], ◌∷◌, ◌++◌, length, drop, if◌then◌else◌}
+use Rattle.std.specs.Prelude.{ℕ, Bool, true, false, ◌+◌, ◌-◌, ◌==◌, ◌&&◌, not, nat_lt, nat_le, map, Option, List, [], ◌∷◌, ◌++◌, length, drop, if◌then◌else◌}
 use Rattle.std.specs.Option.{option_to_list}
 use Rattle.seq_arith.specs.declared.kinds.Grammar.{Grammar}
 use Rattle.seq_arith.specs.Message.{Message, is_answer}
@@ -12,7 +12,7 @@ use Rattle.twin_laws.specs.declared.part.Part.{Part}
 use Rattle.twin_laws.specs.declared.part.Part.TheVariants as parts
 use Rattle.twin_laws.specs.declared.part.Side.{Side}
 use Rattle.twin_laws.specs.declared.part.Side.TheVariants as sides
-use Rattle.twin_laws.specs.Twin.{Request, Between, Comes, Head, Tail, Does, may_take, asked, from_other_logger, bytes_of}
+use Rattle.twin_laws.specs.Twin.{Request, Between, Comes, Head, Tail, Does, may_take, is_wide, is_among, asked, from_other_logger, bytes_of}
 use Rattle.twin_laws.specs.Twin.Between.{Forward, Got}
 use Rattle.twin_laws.specs.Twin.Comes.{Asks, Reports}
 
@@ -88,11 +88,18 @@ abbrev pub keeps_too : Request → Kept → Kept
 keeps_too request kept =
     record kept { log = log_after kept.log request.message; number = kept.number + 1; waiting = kept.waiting ++ request.bytes ∷ [] }
 
-abbrev pub keeps_request : Request → Kept → Kept
-keeps_request request kept = if has_kept_room kept then keeps_too request kept else kept
+-- whether a message is forwarded alone: it is a wide one, and isn't that of one that waits
+abbrev pub forwards_once : List ℕ → Kept → Bool
+forwards_once bytes kept = is_wide bytes && not (is_among bytes kept.waiting)
+
+abbrev pub kept_takes : Request → Kept → KeptDoes
+kept_takes request kept =
+    if forwards_once request.bytes kept then record { next = keeps_too request kept; sent = forwards_sent kept.number (request.bytes ∷ []) }
+    else sends_kept (keeps_too request kept)
 
 abbrev pub kept_head_asked : Request → Kept → KeptDoes
-kept_head_asked request kept = if is_answer request.message.body then sends_nothing kept else sends_kept (keeps_request request kept)
+kept_head_asked request kept =
+    if is_answer request.message.body then sends_nothing kept else (if has_kept_room kept then kept_takes request kept else sends_kept kept)
 
 -- a Got removes what it confirms
 abbrev pub kept_confirmed : ℕ → Kept → Kept

@@ -1,8 +1,12 @@
 -- Two loggers that act as one: a chain of two (chain replication, van Renesse and Schneider, OSDI 2004). The head takes the server's messages, numbers them and
 -- forwards them. The tail applies them in that order and answers. One of them may stop, and the other then serves alone.
-use Rattle.std.specs.Prelude.{ℕ, Bool, false, ◌+◌, ◌-◌, ◌^◌, ◌==◌, ◌&&◌, nat_lt, nat_le, Result, Ok, Err, List, [], ◌∷◌, ◌++◌, length, drop, if◌then◌else◌}
+use Rattle.std.specs.Prelude.{ℕ, Bool, false, ◌+◌, ◌-◌, ◌^◌, ◌==◌, ◌&&◌, not, nat_lt, nat_le, map, Result, Ok, Err, List, [], ◌∷◌, ◌++◌, length, drop}
+use Rattle.std.specs.Prelude.{slice_index, if◌then◌else◌}
+use Rattle.std.specs.List.{list_any}
 use Rattle.std.specs.Option.{option_to_list}
+use Rattle.std.specs.Str.{bytes_eq}
 use Rattle.seq_arith.specs.declared.kinds.Grammar.{Grammar}
+use Rattle.seq_arith.specs.declared.kinds.Grammar.TheVariants as grammars
 use Rattle.seq_arith.specs.declared.kinds.BadMsg.{BadMsg}
 use Rattle.seq_arith.specs.declared.twin.BadTwin.{BadTwin}
 use Rattle.seq_arith.specs.Message.{Message, is_answer}
@@ -65,9 +69,6 @@ has_room head = may_take (length head.taken - head.confirmed) (length head.taken
 abbrev pub with_taken : Request → Head → Head
 with_taken request head = record head { log = log_after head.log request.message; taken = head.taken ++ request ∷ [] }
 
-abbrev pub head_takes : Request → Head → Head
-head_takes request head = if has_room head then with_taken request head else head
-
 -- requests with their numbers. The first has the number after `n`
 abbrev pub numbered : ℕ → List Request → List Between
 numbered n [] = []
@@ -77,12 +78,34 @@ numbered n (request ∷ requests) = Forward (n + 1) request ∷ numbered (n + 1)
 abbrev pub waiting : Head → List Between
 waiting head = numbered head.confirmed (drop head.confirmed head.taken)
 
--- On each request the head of a pair sends all that is unconfirmed, whether or not it took this one
 abbrev pub sends_waiting : Head → Does Head
 sends_waiting head = record { next = head; to_server = []; to_other = waiting head }
 
+-- whether a message is of the wide grammar, by its version
+abbrev pub is_wide : List ℕ → Bool
+is_wide bytes = slice_index bytes 2 == messages.version grammars.Wide
+
+-- whether these bytes are those of a message that waits: the server, which still lacks the answer, repeats it
+abbrev pub is_among : List ℕ → List (List ℕ) → Bool
+is_among bytes those = list_any (λ other. bytes_eq other bytes) those
+
+abbrev pub waits : Request → Head → Bool
+waits request head = is_among request.bytes (map (λ r. r.bytes) (drop head.confirmed head.taken))
+
+-- What is forwarded of a message that the head takes: all that is unconfirmed. In wide messages only the new one, unless the server repeats one that waits. So
+-- in these a message is forwarded once, and kept until the tail confirms it (the list of sent requests of chain replication); a Forward that was lost is sent
+-- again where the server repeats any unconfirmed message, or there is no room
+abbrev pub forwarding : Request → Head → List Between
+forwarding request head =
+    if is_wide request.bytes && not (waits request head) then Forward (length head.taken + 1) request ∷ [] else waiting (with_taken request head)
+
+abbrev pub head_takes : Request → Head → Does Head
+head_takes request head = record { next = with_taken request head; to_server = []; to_other = forwarding request head }
+
+-- On each request the head of a pair takes it and forwards. If it has no room it sends all that is unconfirmed
 abbrev pub head_paired : Request → Head → Does Head
-head_paired request head = if is_answer request.message.body then nothing head else sends_waiting (head_takes request head)
+head_paired request head =
+    if is_answer request.message.body then nothing head else (if has_room head then head_takes request head else sends_waiting head)
 
 -- a Got confirms all requests up to its number
 abbrev pub confirmed_to : ℕ → Head → Head

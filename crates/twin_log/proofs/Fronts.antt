@@ -1,6 +1,7 @@
 -- What was written at the front of some room, and what is after it.
-use Rattle.std.proofs.Common.{◌≡◌, ◌∙◌, ℕ, zero, suc, ◌+◌, ◌<◌, sym, ap, arith, refl, subst, append_assoc, get_or, List, [], ◌∷◌, ◌++◌, length, length-append, take, drop}
-use Rattle.std.specs.Prelude.{slice_get, Some}
+use Rattle.std.proofs.Common.{◌≡◌, ◌∙◌, ℕ, zero, suc, ◌+◌, ◌<◌, sym, ap, arith, refl, subst, append_assoc, get_or, List, [], ◌∷◌, ◌++◌, length, length-append, take}
+use Rattle.std.specs.Prelude.{slice_get, Some, Bool, ◌||◌, map}
+use Rattle.std.specs.List.{list_any}
 use Rattle.ft_io.proofs.Choices.{same_some}
 use Rattle.ft_model.proofs.Lists.{none_is_some}
 use Rattle.std.proofs.Math.Seq.{take-append_seam}
@@ -55,9 +56,16 @@ forwarded confirmed i messages message before out sent so_far is at =
       omega (arith, ap length is, length-append out one, so_far.1),
     )
 
+-- a test of what is made of each element
+pub any_map : {X Y : Type 0} (p : Y → Bool) (f : X → Y) (xs : List X) → list_any p (map f xs) ≡ list_any (λ x. p (f x)) xs
+any_map p f [] = refl
+any_map p f (x ∷ xs) = ap (λ rest. p (f x) || rest) (any_map p f xs)
+
 -- what the code's tactics cite
 pub ruleset seams = (take-append_seam)
 
 pub ruleset taken = (length-take)
+
+pub ruleset any_mapped = (any_map)
 
 pub ruleset mapped = (length-map, map-append, drop-map)

@@ -1,12 +1,13 @@
 //! Wrong results that the contracts of this crate exclude. Each function calls another one of the crate, and promises of its result what a wrong body would
 //! make false. It is proved from the other's contract alone, so it is no longer proved once that contract lets the wrong body pass.
 
-ghost use Rattle.std.specs.Prelude.{[], ◌∷◌, ◌≡◌, ◌≤◌, ◌<◌, ◌+◌, ◌-◌, ◌^◌, true, false, Ok, OnOk, OnErr};
+ghost use Rattle.std.specs.Prelude.{[], ◌∷◌, ◌++◌, ◌≡◌, ◌≤◌, ◌<◌, ◌+◌, ◌-◌, ◌^◌, true, false, Ok, OnOk, OnErr};
 ghost use Rattle.seq_arith.specs.Message.{Message};
 ghost use Rattle.seq_arith.specs.MessageGrammar.{reading_by};
 ghost use Rattle.seq_arith.specs.declared.kinds.Grammar.TheVariants as grammars;
-ghost use Rattle.logger_wire.specs.Value.{IsSendableBy};
-ghost use Rattle.twin_laws.specs.StoredState.{forwards_sent, sent_to_other};
+ghost use Rattle.logger_wire.specs.Value.{message_of, IsSendableBy};
+ghost use Rattle.twin_laws.specs.StoredState.{forwards_sent, sent_to_other, has_kept_room};
+ghost use Rattle.twin_laws.specs.Twin.{is_among};
 ghost use Rattle.twin_laws.specs.Twin.Between.{Got};
 ghost use Rattle.twin_laws.specs.declared.part.Part.TheVariants as parts;
 ghost use Rattle.twin_log.specs.Outbox.{is_asking_message};
@@ -96,4 +97,40 @@ fn takes_before_there_is_memory(
     ensures { OnErr result (log.new.number ≡ log.old.number) }
 {
     log.deliver(alloc, from, bytes, out)
+}
+
+/// A message that was forwarded waits until the tail confirms it: the clause `next` of `TwinLog::take_new`.
+fn drops_what_it_forwarded(
+    head: &mut TwinLog,
+    alloc: Global,
+    msg: &Msg<'_>,
+    bytes: &[u8],
+    out: &mut TwinOut,
+) -> Result<(), NoMemory>
+    requires sendable { IsSendableBy head.old.grammar msg.now }
+    requires read { reading_by head.old.grammar bytes.now ≡ Ok (message_of msg.now) }
+    requires room { has_kept_room head.old ≡ true }
+    requires empty { out.old ≡ [] }
+    ensures { OnOk result (head.new.waiting ≡ head.old.waiting ++ bytes.now ∷ []) }
+{
+    head.take_new(alloc, msg, bytes, out)
+}
+
+/// A new wide message is forwarded once, and nothing that waits goes with it: the clause `sent` of `TwinLog::take_new`.
+fn forwards_all_each_time(
+    head: &mut TwinLog,
+    alloc: Global,
+    msg: &Msg<'_>,
+    bytes: &[u8],
+    out: &mut TwinOut,
+) -> Result<(), NoMemory>
+    requires sendable { IsSendableBy head.old.grammar msg.now }
+    requires read { reading_by head.old.grammar bytes.now ≡ Ok (message_of msg.now) }
+    requires wide { head.old.grammar ≡ grammars.Wide }
+    requires new { is_among bytes.now head.old.waiting ≡ false }
+    requires room { has_kept_room head.old ≡ true }
+    requires empty { out.old ≡ [] }
+    ensures { OnOk result (out.new ≡ forwards_sent head.old.number (bytes.now ∷ [])) }
+{
+    head.take_new(alloc, msg, bytes, out)
 }

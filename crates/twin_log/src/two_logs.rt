@@ -1,6 +1,6 @@
 //! One of two loggers.
 
-ghost use Rattle.std.specs.Prelude.{[], ◌∷◌, ◌++◌, ◌≡◌, ◌≤◌, ◌<◌, ◌+◌, ◌^◌, true, false, Ok, OnOk, OnErr, IfOk, length};
+ghost use Rattle.std.specs.Prelude.{[], ◌∷◌, ◌++◌, ◌≡◌, ◌≤◌, ◌<◌, ◌+◌, ◌^◌, true, false, Ok, IsOk, OnOk, OnErr, IfOk, length};
 ghost use Rattle.seq_arith.specs.MessageGrammar.{reading_by};
 ghost use Rattle.seq_arith.specs.TwinGrammar.{reading_by as twin_reading};
 ghost use Rattle.seq_arith.specs.declared.kinds.Grammar.TheVariants.{Plain};
@@ -9,9 +9,10 @@ ghost use Rattle.twin_laws.specs.Twin.{asked, forwarded_as, from_other_logger};
 ghost use Rattle.twin_laws.specs.Twin.Between.{Got};
 ghost use Rattle.twin_laws.specs.Twin.Comes.{Reports};
 ghost use Rattle.twin_laws.specs.StoredState.{kept_does, paired_does, new_kept, left_alone, serves_alone, kept_head_asked, kept_tail_reported};
-ghost use Rattle.twin_laws.specs.StoredState.{keeps_request, keeps_too, has_kept_room, kept_confirmed, sends_kept, sent_to_other, applies_kept};
+ghost use Rattle.twin_laws.specs.StoredState.{kept_takes, keeps_too, has_kept_room, forwards_once as forwards_once_lem, kept_confirmed, sends_kept};
+ghost use Rattle.twin_laws.specs.StoredState.{forwards_sent, sent_to_other, applies_kept};
 ghost use Rattle.twin_laws.specs.declared.part.Side.TheVariants as sides;
-ghost use Rattle.twin_log.specs.Outbox.{answer_out, request_in};
+ghost use Rattle.twin_log.specs.Outbox.{answer_out, is_forwardable, request_in};
 
 use crate::twin_out::TwinOut;
 use crate::waiting::Waiting;
@@ -247,7 +248,8 @@ impl TwinLog {
         Ok(())
     }
 
-    /// Takes a message as the head of a pair, and forwards all that is unconfirmed. A message that only a logger sends is ignored.
+    /// Takes a message as the head of a pair, and forwards it. A message that only a logger sends is ignored. Where there is no room for one more, all that is
+    /// unconfirmed is forwarded.
     fn take(
         &mut self,
         alloc: Global,
@@ -266,22 +268,52 @@ impl TwinLog {
         if msg.body.is_answer() {
             return Ok(());
         }
-        self.keep(alloc, msg, bytes)?;
+        if self.has_room() {
+            return self.take_new(alloc, msg, bytes, out);
+        }
         self.forward(out);
         Ok(())
     }
 
-    /// Adds a message to those that a head took, if there is room.
-    fn keep(&mut self, alloc: Global, msg: &Msg<'_>, bytes: &[u8]) -> Result<(), NoMemory>
+    /// Adds a message to those that a head took, and forwards it: alone, or with all that is unconfirmed.
+    #[tactic(auto, using(crate::proofs::Outgoing::read_is_forwardable))]
+    pub(crate) fn take_new(
+        &mut self,
+        alloc: Global,
+        msg: &Msg<'_>,
+        bytes: &[u8],
+        out: &mut TwinOut,
+    ) -> Result<(), NoMemory>
         requires sendable { IsSendableBy self.old.grammar msg.now }
         requires read { reading_by self.old.grammar bytes.now ≡ Ok (message_of msg.now) }
-        ensures next { OnOk result (self.new ≡ keeps_request (request_in bytes.now (message_of msg.now)) self.old) }
+        requires room { has_kept_room self.old ≡ true }
+        requires empty { out.old ≡ [] }
+        ensures next { OnOk result (self.new ≡ (kept_takes (request_in bytes.now (message_of msg.now)) self.old).next) }
+        ensures sent { OnOk result (out.new ≡ (kept_takes (request_in bytes.now (message_of msg.now)) self.old).sent) }
         ensures refused { OnErr result (self.new ≡ self.old) }
+        ensures empty { OnErr result (out.new ≡ []) }
     {
-        if !self.has_room() {
-            return Ok(());
+        let once = self.forwards_once(bytes);
+        let taken = self.number;
+        self.add(alloc, msg, bytes)?;
+        if once {
+            send_forward(taken, bytes, out);
+        } else {
+            self.forward(out);
         }
-        self.add(alloc, msg, bytes)
+        Ok(())
+    }
+
+    /// Whether a message is forwarded alone: it is a wide one, and none that waits has its bytes.
+    #[tactic(auto, using(crate::proofs::Cases::plain_version, crate::proofs::Cases::wide_version))]
+    fn forwards_once(&self, bytes: &[u8]) -> bool
+        requires { IsOk (reading_by self.now.grammar bytes.now) }
+        ensures { result ≡ forwards_once_lem bytes.now self.now }
+    {
+        match self.grammar {
+            Grammar::Plain => false,
+            Grammar::Wide => !self.waiting.has(bytes),
+        }
     }
 
     /// Whether a head can take a further message.
@@ -388,6 +420,17 @@ fn send_answer(answer: &MsgOut, out: &mut TwinOut)
         return;
     }
     out.answer(bytes);
+}
+
+/// Forwards one message, with the number after `taken`.
+fn send_forward(taken: u64, message: &[u8], out: &mut TwinOut)
+    requires fits { is_forwardable message.now ≡ true }
+    requires number { taken + 1 < 2 ^ 64 }
+    requires empty { out.old ≡ [] }
+    ensures { out.new ≡ forwards_sent taken (message.now ∷ []) }
+{
+    let number = taken + 1;
+    out.put(&TwinMsg::Forward { number, message });
 }
 
 /// Confirms to the head all messages up to this number.

@@ -1,8 +1,11 @@
 //! The messages that the head has forwarded and the tail hasn't confirmed.
 
 ghost use Rattle.std.specs.Prelude.{[], ◌≡◌, ◌≤◌, ◌<◌, ◌+◌, ◌^◌, ◌++◌, ◌∷◌, true, Some, length, drop, slice_get, IfOk};
+ghost use Rattle.std.specs.List.{list_any};
+ghost use Rattle.std.specs.Str.{bytes_eq};
 ghost use Rattle.std.specs.VecDeque.{deque_capacity};
 ghost use Rattle.twin_laws.specs.StoredState.{forwards_sent};
+ghost use Rattle.twin_laws.specs.Twin.{is_among};
 ghost use Rattle.twin_log.specs.Outbox.{is_forwardable, AreForwardable, texts_of};
 
 use crate::twin_out::TwinOut;
@@ -49,6 +52,13 @@ fn text_at(messages: &VecDeque<Vec<u8>>, i: usize) -> &[u8]
     &messages[i]
 }
 
+/// Whether one of the messages has these bytes.
+fn has_text(messages: &VecDeque<Vec<u8>>, bytes: &[u8]) -> bool
+    ensures { result ≡ list_any (λ message. bytes_eq message.items bytes.now) messages.now.items }
+{
+    messages.iter().any(|message| message.as_slice() == bytes)
+}
+
 /// Forwards each message. The first has the number after `confirmed`.
 fn forward(messages: &VecDeque<Vec<u8>>, confirmed: u64, out: &mut TwinOut)
     requires fit { AreForwardable (texts_of messages.now.items) }
@@ -80,6 +90,14 @@ impl Waiting {
         ensures most { result ≤ 64 }
     {
         self.messages.len()
+    }
+
+    /// Whether one of the messages has these bytes.
+    #[tactic(auto, using(crate::proofs::Fronts::any_mapped))]
+    pub(crate) fn has(&self, bytes: &[u8]) -> bool
+        ensures { result ≡ is_among bytes.now self.now }
+    {
+        has_text(&self.messages, bytes)
     }
 
     /// Appends a message.
