@@ -222,7 +222,8 @@ def server(net, turns, boot, loggers, version):
 
 def part(net, turns, name, other, version):
     """One of two loggers. Told that the other has stopped, it serves alone."""
-    it, at = {"head": Head, "tail": Tail}[name](lambda sent: read_message(sent, version)), None
+    read = lambda sent: read_message(sent, version)  # noqa: E731
+    it, at = Head(read, version == WIDE) if name == "head" else Tail(read), None
     for _ in range(turns):
         came = net.receive()
         if came is None:

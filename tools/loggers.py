@@ -181,11 +181,12 @@ def answers_of(log, message):
 class Head:
     """The head of two loggers: its log, all messages that it took, in order, and how many of them the tail has confirmed.
 
-    `read` makes of what the server sent, and what goes on to the tail as it came, the message that it is; or None.
+    `read` makes of what the server sent, and what goes on to the tail as it came, the message that it is; or None. A new message that is `wide` is forwarded
+    once; all that waits goes again where the server repeats one of these, or where there is no room.
     """
 
-    def __init__(self, read=lambda sent: sent):
-        self.read, self.log, self.taken, self.confirmed, self.alone = read, Log(), [], 0, False
+    def __init__(self, read=lambda sent: sent, wide=False):
+        self.read, self.wide, self.log, self.taken, self.confirmed, self.alone = read, wide, Log(), [], 0, False
 
     def receive_server(self, sent):
         message = self.read(sent)
@@ -193,9 +194,12 @@ class Head:
             return []
         if self.alone:
             return answers_of(self.log, message)
-        if len(self.taken) - self.confirmed < UNCONFIRMED:
+        waiting = self.taken[self.confirmed :]
+        if len(waiting) < UNCONFIRMED:
             self.taken.append(sent)
             self.log.answer(message)
+            if self.wide and sent not in waiting:
+                return [Forward(len(self.taken), sent)]
         return [Forward(place + 1, self.taken[place]) for place in range(self.confirmed, len(self.taken))]
 
     def receive_other(self, said):
@@ -227,8 +231,8 @@ class Tail:
 class Pair:
     """A head and a tail, by the letters that a report has for them. Where one has stopped, the other serves alone."""
 
-    def __init__(self):
-        self.parts, self.stopped = {"H": Head(), "T": Tail()}, None
+    def __init__(self, wide=False):
+        self.parts, self.stopped = {"H": Head(wide=wide), "T": Tail()}, None
 
     @property
     def log(self):

@@ -635,7 +635,7 @@ class World:
     def __init__(self, service, server, clients, twin=False, marks=0, profile="plain"):
         self.service, self.address, self.clients, self.profile = service, server, clients, profile
         self.of_key = {client.key: place for place, client in enumerate(clients, 1)}
-        self.twin, self.marks, self.loggers = twin, marks, Pair() if twin else Journaled() if marks else Alone()
+        self.twin, self.marks, self.loggers = twin, marks, Pair(profile == "wan") if twin else Journaled() if marks else Alone()
         self.server, self.packets = None, []
         self.boots, self.crashes, self.last_boot = 0, 0, 0
 

@@ -113,6 +113,21 @@ class Pairs(unittest.TestCase):
         self.assertEqual([it.number for it in head.receive_server(hello)], [65])
         self.assertEqual(head.receive_server(said("Summary", count=0)), [])
 
+    def test_wide_head(self):
+        head = Head(wide=True)
+        asked = [said("List", index=index) for index in range(65)]
+        for number, message in enumerate(asked[:3], 1):
+            self.assertEqual(head.receive_server(message), [Forward(number, message)])
+        self.assertEqual([it.number for it in head.receive_server(asked[1])], [1, 2, 3, 4])
+        head.receive_other(Got(2))
+        self.assertEqual([it.number for it in head.receive_server(asked[0])], [5])
+        self.assertEqual([it.number for it in head.receive_server(asked[1])], [3, 4, 5, 6])
+        head.receive_other(Got(6))
+        for number, message in enumerate(asked[:64], 7):
+            self.assertEqual(head.receive_server(message), [Forward(number, message)])
+        self.assertEqual([it.number for it in head.receive_server(asked[64])], list(range(7, 71)))
+        self.assertEqual(len(head.taken), 70)
+
     def test_order(self):
         tail, hello = Tail(), said("Hello")
         self.assertEqual(tail.receive_server(hello) + tail.receive_other(Forward(2, hello)), [])

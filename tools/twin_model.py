@@ -134,8 +134,10 @@ def spell(sent, version=PLAIN):
 class Pair:
     """A head and a tail, with what each of them ever sent to the other."""
 
-    def __init__(self):
-        self.parts, self.sent, self.stopped = {"head": Head(read_message), "tail": Tail(read_message)}, {"head": [], "tail": []}, None
+    def __init__(self, version=PLAIN):
+        read = lambda data: read_message(data, version)
+        self.version, self.parts = version, {"head": Head(read, version == WIDE), "tail": Tail(read)}
+        self.sent, self.stopped = {"head": [], "tail": []}, None
         self.passed = {"head": 0, "tail": 0}  # how much of what was sent to each has come in order
 
     def deliver(self, part, side, data):
@@ -143,7 +145,8 @@ class Pair:
         if self.stopped == part:
             return []
         logger = self.parts[part]
-        out = [spell(it) for it in (logger.receive_server(data) if side == "server" else logger.receive_other(told(data)))]
+        sent = logger.receive_server(data) if side == "server" else logger.receive_other(told(data, self.version))
+        out = [spell(it, self.version) for it in sent]
         self.sent[part] += [bytes_ for to, bytes_ in out if to == "other"]
         return out
 
@@ -175,24 +178,26 @@ class Draws:
 DRAWN = [1, 1, 1, 9, 9, 9, 13, 13, 15, 5, 7, 16, 11, 11, 11, 11]  # kinds, each as often as it is drawn
 
 
-def drawn_message(draws, boot):
-    """A message of a server, or now and then one that only a logger sends."""
+def drawn_message(draws, boot, version):
+    """A message of a server, or now and then one that only a logger sends. In a wide one a Data may say that another of its turn follows."""
+    of = lambda kind, boot, body: spelled(b"FT", kind, boot, body, version)
     kind = DRAWN[draws.below(16)]
     key = pack(">IH", 0xC0000201, 40000 + draws.below(3))
     if kind == 1:
-        return spelled(b"FT", 1, boot + draws.below(8) // 7, b"")
+        return of(1, boot + draws.below(8) // 7, b"")
     if kind == 9:
-        return spelled(b"FT", 9, boot, key + pack(">IIH", draws.below(256), draws.below(256), 536))
+        return of(9, boot, key + pack(">IIH", draws.below(256), draws.below(256), 536))
     if kind == 13:
-        return spelled(b"FT", 13, boot, key + pack(">IH", draws.below(4), draws.below(8)))
+        return of(13, boot, key + pack(">IH", draws.below(4), draws.below(8)))
     if kind == 5:
-        return spelled(b"FT", 5, boot, key + pack(">I", draws.below(16)))
+        return of(5, boot, key + pack(">I", draws.below(16)))
     if kind == 7:
-        return spelled(b"FT", 7, boot, key + pack(">I", draws.below(4)))
+        return of(7, boot, key + pack(">I", draws.below(4)))
     if kind in (15, 16):
-        return spelled(b"FT", kind, boot, key)
-    offset, acked, fin, size = draws.below(16), draws.below(64), draws.below(8) // 7, draws.below(12)
-    return spelled(b"FT", 11, boot, key + pack(">IIB", offset, acked, fin) + bytes(97 + draws.below(26) for _ in range(size)))
+        return of(kind, boot, key)
+    offset, acked, ending, size = draws.below(16), draws.below(64), draws.below(8), draws.below(12)
+    fin = 1 if ending == 7 else FOLLOWED if ending == 6 and version == WIDE else 0
+    return of(11, boot, key + pack(">IIB", offset, acked, fin) + bytes(97 + draws.below(26) for _ in range(size)))
 
 
 def drawn_delivery(draws, pair):
@@ -203,7 +208,7 @@ def drawn_delivery(draws, pair):
         return []
     if kind < 8:
         part = "tail" if pair.stopped == "head" or draws.below(16) == 0 else "head"
-        return pair.deliver(part, "server", drawn_message(draws, 1))
+        return pair.deliver(part, "server", drawn_message(draws, 1, pair.version))
     part = "head" if kind < 16 else "tail"
     sent = pair.sent[other_of(part)]
     if not sent:
@@ -220,11 +225,11 @@ def drawn_delivery(draws, pair):
     return pair.deliver(part, "other", data)
 
 
-def tally(count, length, seed):
+def tally(version, count, length, seed):
     """What `lists` prints: what went to the server and to the other, the numbers at the end, and a number that follows from all bytes."""
     draws, answers, others, numbers, sum_ = Draws(seed), 0, 0, 0, 0
     for _ in range(count):
-        pair = Pair()
+        pair = Pair(version)
         for _ in range(length):
             for to, data in drawn_delivery(draws, pair):
                 answers, others = answers + (to == "server"), others + (to == "other")
@@ -241,11 +246,12 @@ def line_of(out):
 def played(pair, line):
     """What a line prints."""
     words = line.split()
+    version = WIDE if words[1:2] == ["wide"] else PLAIN
     if words[0] == "pair":
-        pair.__init__()
-        return "pair"
+        pair.__init__(version)
+        return line
     if words[0] == "lists":
-        return tally(*(int(word) for word in words[1:]))
+        return tally(version, *(int(word) for word in words[1:] if word != "wide"))
     if words[0] == "stop":
         pair.stop({"1": "head", "2": "tail"}[words[1]])
         return line
@@ -314,6 +320,19 @@ def cases():
     print("# Random lists of deliveries with losses, repeats, flipped bits and stops.")
     for seed in range(1, 11):
         print(f"lists 1000 60 {seed}")
+    print("# A wide message is forwarded once. All that waits goes again where the server repeats one of these, even if it isn't the last, or where 64 wait.")
+    wide = lambda at, text: spelled(b"FT", 11, 1, key + pack(">IIB", at, 0, 0) + text, WIDE)
+    first = [spelled(b"FT", 1, 1, b"", WIDE), spelled(b"FT", 9, 1, key + pack(">IIH", 1000, 5000, 536), WIDE), wide(0, b"abc")]
+    print("pair wide\n" + "\n".join(f"head server {data.hex()}" for data in first))
+    print(f"# The second Forward is lost, and the third comes before it.\ntail sent 1\nhead sent 1\ntail sent 3\nhead server {first[2].hex()}")
+    print(f"tail sent 4\ntail sent 5\ntail sent 6\nhead sent 2\nhead sent 3\nhead sent 4\nhead server {first[1].hex()}\nhead log\ntail log")
+    print("pair wide")
+    for i in range(66):
+        print(f"head server {(first[i] if i < 2 else wide(i - 2, b'x')).hex()}")
+    print("# To a pair of wide messages a plain one is noise.")
+    print(f"head server {hello.hex()}\nhead log")
+    for seed in range(1, 11):
+        print(f"lists wide 1000 60 {seed}")
 
 
 if __name__ == "__main__":

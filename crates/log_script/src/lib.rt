@@ -13,13 +13,14 @@
 //!
 //! Of two loggers, where a PART is `head` or `tail`:
 //!
-//! - `pair` begins with a new head and a new tail;
+//! - `pair` begins with a new head and a new tail, and `pair wide` with two of a server whose messages are wide;
 //! - `PART server HEX` and `PART other HEX` give a datagram that came from that side, and `PART sent N` gives what the other part sent as its Nth datagram,
 //!   counted from 1. What is sent is printed after the part, in order, each datagram as `server HEX` or `other HEX`; `-` if nothing is sent;
 //! - `PART log` prints the part's number, and its log's boot number and count of entries;
 //! - `stop 1` stops the head and `stop 2` the tail, and the other is informed, unless one has stopped before;
 //! - `lists COUNT LENGTH SEED` plays COUNT lists of LENGTH deliveries that are drawn from SEED, each with a new pair, and prints how many datagrams were sent
-//! to   the server and to the other, the sum of all numbers at the ends, and a number that depends on all bytes.
+//!   to the server and to the other, the sum of all numbers at the ends, and a number that depends on all bytes; `lists wide COUNT LENGTH SEED` with wide
+//!   messages.
 //!
 //! Of a log that is kept in a journal's file, which is in memory; each of these lines begins with the word `journal`:
 //!
@@ -37,7 +38,7 @@
 use ft_io::NoMemory;
 use kept::Bench;
 use logger_store::{MsgOut, TrimStore};
-use logger_wire::read_msg;
+use logger_wire::{Grammar, read_msg};
 use mark_store::MarkStore;
 use marking::{ask_line, deliver_bytes, kept_marked, mark_line};
 use random::deliver_random;
@@ -100,7 +101,7 @@ struct Logs {
 impl Logs {
     fn new(alloc: Global) -> Result<Logs, NoMemory> {
         let sent = TwinOut::new(alloc)?;
-        let pair = Pair::new(alloc)?;
+        let pair = Pair::new(alloc, Grammar::Plain)?;
         Ok(Logs {
             trimmed: TrimStore::new(alloc),
             marked: MarkStore::new(alloc),

@@ -1,6 +1,7 @@
 //! Two loggers that act as one, and the lines of a script on them.
 
 use ft_io::NoMemory;
+use logger_wire::Grammar;
 pub(crate) use pair::Pair;
 use random::play_random;
 use std::alloc::Global;
@@ -66,8 +67,13 @@ pub(crate) fn play_pair(
     let part = match word {
         "pair" => {
             // Where memory is refused the old ones stay.
-            *pair = Pair::new(alloc)?;
-            said.add(b"pair");
+            if rest == "wide" {
+                *pair = Pair::new(alloc, Grammar::Wide)?;
+                said.add(b"pair wide");
+            } else {
+                *pair = Pair::new(alloc, Grammar::Plain)?;
+                said.add(b"pair");
+            }
             return Ok(());
         }
         "stop" => {

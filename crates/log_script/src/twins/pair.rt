@@ -1,11 +1,13 @@
 //! A head and a tail, and what each of them ever sent to the other.
 
 use ft_io::NoMemory;
+use logger_wire::Grammar;
 use std::alloc::Global;
 use twin_log::{Part, Side, TwinLog, TwinOut};
 
 #[derive(Drop)]
 pub(crate) struct Pair {
+    grammar: Grammar,
     head: TwinLog,
     tail: TwinLog,
     from_head: Vec<Vec<u8>>,
@@ -16,15 +18,21 @@ pub(crate) struct Pair {
 }
 
 impl Pair {
-    pub(crate) fn new(alloc: Global) -> Result<Pair, NoMemory> {
+    /// Two loggers of a server whose messages have this grammar.
+    pub(crate) fn new(alloc: Global, grammar: Grammar) -> Result<Pair, NoMemory> {
         Ok(Pair {
-            head: TwinLog::new(alloc, Part::Head)?,
-            tail: TwinLog::new(alloc, Part::Tail)?,
+            grammar,
+            head: TwinLog::new_by(alloc, grammar, Part::Head)?,
+            tail: TwinLog::new_by(alloc, grammar, Part::Tail)?,
             from_head: Vec::new(alloc),
             from_tail: Vec::new(alloc),
             stopped: None,
             passed: (0, 0),
         })
+    }
+
+    pub(crate) fn grammar(&self) -> Grammar {
+        self.grammar
     }
 
     pub(crate) fn logger(&self, part: Part) -> &TwinLog {

@@ -5,6 +5,7 @@ ghost use Rattle.std.specs.Prelude.{◌<◌};
 use crate::twins::messages::{ROOM, any_message};
 use crate::twins::pair::Pair;
 use ft_io::NoMemory;
+use logger_wire::Grammar;
 use seq_arith::flip;
 use std::alloc::Global;
 use test_data::{Draws, Said, hashed};
@@ -99,7 +100,7 @@ fn deliver_one(
             Part::Head
         };
         let mut bytes = [0; ROOM];
-        let len = any_message(draws, &mut bytes);
+        let len = any_message(draws, pair.grammar(), &mut bytes);
         return pair.deliver(alloc, part, Side::Server, &bytes[..len], out);
     }
     let part = if kind < 16 { Part::Head } else { Part::Tail };
@@ -127,6 +128,14 @@ fn play_list(
     Ok(())
 }
 
+/// The grammar of a line's pairs, which is wide if it begins with that word, and the rest of the line.
+fn read_grammar(text: &str) -> (Grammar, &str) {
+    match text.strip_prefix("wide ") {
+        Some(rest) => (Grammar::Wide, rest),
+        None => (Grammar::Plain, text),
+    }
+}
+
 /// The three numbers of a line.
 fn numbers(text: &str) -> Option<(u32, u32, u64)> {
     let (count, rest) = text.split_once(' ')?;
@@ -144,12 +153,13 @@ fn numbers(text: &str) -> Option<(u32, u32, u64)> {
 /// Plays one list with a new pair.
 fn play_new(
     alloc: Global,
+    grammar: Grammar,
     len: u32,
     draws: &mut Draws,
     out: &mut TwinOut,
     tally: &mut Tally,
 ) -> Result<(), NoMemory> {
-    let mut pair = Pair::new(alloc)?;
+    let mut pair = Pair::new(alloc, grammar)?;
     play_list(alloc, len, draws, &mut pair, out, tally)
 }
 
@@ -160,6 +170,7 @@ pub(crate) fn play_random(
     out: &mut TwinOut,
     said: &mut Said,
 ) -> Result<(), NoMemory> {
+    let (grammar, text) = read_grammar(text);
     let Some((count, len, seed)) = numbers(text) else {
         said.add(b"no such line");
         return Ok(());
@@ -172,7 +183,7 @@ pub(crate) fn play_random(
         bytes: 0,
     };
     for _list in 0..count {
-        play_new(alloc, len, &mut draws, out, &mut tally)?;
+        play_new(alloc, grammar, len, &mut draws, out, &mut tally)?;
     }
     let Tally {
         answers,
