@@ -7,9 +7,10 @@
 //! `log marks READS ROUNDS` fills a log with marks with READS reads, at most 2^20, of 15 and 17 bytes in turn, and a mark after each 64. It prints the most
 //! bytes that were kept, and the minimum time that one of the first 16 and one of the last 16 marks took in nanoseconds, over all rounds.
 //!
-//! `log twin WHO COUNT BURST`, for `bench/twin.sh`, gives messages to one log or to a head and a tail: WHO is `one` or `pair`. COUNT messages, at most
-//! 100,000, are Data of 100 bytes, one after another in one entry. After each BURST of them a pair's tail is given all that the head has forwarded, in order,
-//! and the head all that the tail has confirmed. It prints how many messages there were, how many Forwards, and how many answers.
+//! `log twin WHO COUNT BURST`, for `bench/twin.sh`, gives messages to one log or to a head and a tail: WHO is `one` or `pair`, or `wide` for a pair that is
+//! given wide messages. COUNT messages, at most 100,000, are Data of 100 bytes, one after another in one entry. After each BURST of them a pair's tail is given
+//! all that the head has forwarded, in order, and the head all that the tail has confirmed. It prints how many messages there were, how many Forwards, and how
+//! many answers.
 
 ghost use Rattle.std.specs.Prelude.{◌≡◌, ◌≤◌, ◌<◌, ◌+◌, ◌^◌, length};
 ghost use Rattle.logger_wire.specs.Value.{IsSendable};

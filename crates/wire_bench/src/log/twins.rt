@@ -1,14 +1,13 @@
 //! Messages to one log, or to a head and a tail that act as one.
 
 ghost use Rattle.std.specs.Prelude.{◌≤◌, ◌<◌, ◌+◌, ◌^◌, length};
-ghost use Rattle.logger_wire.specs.Value.{IsSendable};
+ghost use Rattle.logger_wire.specs.Value.{IsSendableBy};
 
 use crate::CLIENT;
-use crate::log::{hello, opening};
 use anyhow::{Context, Result, bail, ensure};
 use ft_io::NoMemory;
 use logger_store::{LogStore, MsgOut};
-use logger_wire::{Body, Msg, read_msg, write_msg};
+use logger_wire::{Body, Grammar, Msg, Numbers, read_msg, write_msg_by};
 use std::alloc::Global;
 use twin_log::{Part, Side, TwinLog, TwinOut};
 
@@ -26,10 +25,11 @@ pub(crate) fn run_twins(alloc: Global, words: &[&str]) -> Result<Tally> {
     let count: u32 = count.parse().context("COUNT")?;
     let burst: u32 = burst.parse().context("BURST")?;
     ensure!(count <= MESSAGES, "COUNT is at most 100,000");
-    let said = if *who == "one" {
-        deliver_all(alloc, &mut LogStore::new(alloc), count)
-    } else {
-        to_pair(alloc, count, burst)
+    let said = match *who {
+        "one" => deliver_all(alloc, &mut LogStore::new(alloc), count),
+        "pair" => to_pair(alloc, Grammar::Plain, count, burst),
+        "wide" => to_pair(alloc, Grammar::Wide, count, burst),
+        _ => bail!("WHO is one, pair or wide"),
     };
     let Ok(tally) = said else {
         bail!("no memory");
@@ -68,31 +68,48 @@ impl Datagram {
     }
 }
 
-fn spelled(m: &Msg<'_>) -> Datagram
-    requires { IsSendable m.now }
+fn spelled(grammar: Grammar, m: &Msg<'_>) -> Datagram
+    requires { IsSendableBy grammar m.now }
 {
     let mut bytes = [0; 2_048];
-    let len = write_msg(m, &mut bytes);
+    let len = write_msg_by(grammar, m, &mut bytes);
     Datagram { bytes, len }
 }
 
 /// The message of a place: Hello, Open, and then Data of 100 bytes, one after another.
-fn message(i: u32) -> Datagram
+fn message(grammar: Grammar, i: u32) -> Datagram
     requires { i < 100002 }
 {
     match i {
-        0 => spelled(&hello()),
-        1 => spelled(&opening()),
-        _ => data(i - 2),
+        0 => hello(grammar),
+        1 => opening(grammar),
+        _ => data(grammar, i - 2),
     }
 }
 
 #[tactic(auto, unfolding(seq_arith::specs::MessageGrammar::has_length, seq_arith::specs::MessageGrammar::is_sound_by))]
-fn data(i: u32) -> Datagram
+fn hello(grammar: Grammar) -> Datagram {
+    let body = Body::Hello;
+    spelled(grammar, &Msg { boot: 1, body })
+}
+
+#[tactic(auto, unfolding(seq_arith::specs::MessageGrammar::has_length, seq_arith::specs::MessageGrammar::is_sound_by))]
+fn opening(grammar: Grammar) -> Datagram {
+    let body = Body::Open(Numbers {
+        key: CLIENT,
+        cisn: 1_000,
+        sisn: 5_000,
+        mss: limits::SEGMENT,
+    });
+    spelled(grammar, &Msg { boot: 1, body })
+}
+
+#[tactic(auto, unfolding(seq_arith::specs::MessageGrammar::has_length, seq_arith::specs::MessageGrammar::is_sound_by))]
+fn data(grammar: Grammar, i: u32) -> Datagram
     requires { i < 100000 }
 {
     let text = [b'a'; 100];
-    spelled(&Msg {
+    let m = Msg {
         boot: 1,
         body: Body::Data(logger_wire::Part {
             key: CLIENT,
@@ -102,7 +119,8 @@ fn data(i: u32) -> Datagram
             more: false,
             bytes: &text,
         }),
-    })
+    };
+    spelled(grammar, &m)
 }
 
 /// Gives one log, which is empty, the messages.
@@ -112,7 +130,7 @@ fn deliver_all(alloc: Global, log: &mut LogStore, count: u32) -> Result<Tally, N
     let mut out = MsgOut::new();
     let mut tally = Tally::new(count);
     for i in 0..count {
-        let datagram = message(i);
+        let datagram = message(Grammar::Plain, i);
         if let Ok(msg) = read_msg(datagram.bytes()) {
             log.answer(alloc, &msg, &mut out)?;
         }
@@ -126,6 +144,7 @@ fn deliver_all(alloc: Global, log: &mut LogStore, count: u32) -> Result<Tally, N
 /// A head, a tail, and what is on its way between them.
 #[derive(Drop)]
 struct Pair {
+    grammar: Grammar,
     head: TwinLog,
     tail: TwinLog,
     out: TwinOut,
@@ -135,11 +154,12 @@ struct Pair {
 }
 
 impl Pair {
-    fn new(alloc: Global, count: u32) -> Result<Pair, NoMemory> {
+    fn new(alloc: Global, grammar: Grammar, count: u32) -> Result<Pair, NoMemory> {
         Ok(Pair {
+            grammar,
             out: TwinOut::new(alloc)?,
-            head: TwinLog::new(alloc, Part::Head)?,
-            tail: TwinLog::new(alloc, Part::Tail)?,
+            head: TwinLog::new_by(alloc, grammar, Part::Head)?,
+            tail: TwinLog::new_by(alloc, grammar, Part::Tail)?,
             to_tail: Vec::new(alloc),
             to_head: Vec::new(alloc),
             tally: Tally::new(count),
@@ -151,7 +171,7 @@ impl Pair {
         requires { count ≤ 100000 }
     {
         for i in 0..count {
-            let datagram = message(i);
+            let datagram = message(self.grammar, i);
             self.ask(alloc, datagram.bytes())?;
             if burst == 0 || (i + 1) % burst == 0 {
                 self.settle(alloc)?;
@@ -216,9 +236,9 @@ fn keep_replies(
 }
 
 /// Gives a pair the messages.
-fn to_pair(alloc: Global, count: u32, burst: u32) -> Result<Tally, NoMemory>
+fn to_pair(alloc: Global, grammar: Grammar, count: u32, burst: u32) -> Result<Tally, NoMemory>
     requires { count ≤ 100000 }
 {
-    let mut pair = Pair::new(alloc, count)?;
+    let mut pair = Pair::new(alloc, grammar, count)?;
     pair.take_all(alloc, count, burst)
 }
