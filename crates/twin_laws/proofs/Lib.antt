@@ -11,6 +11,7 @@ mod OneOutcome
 mod OneTrace
 pub mod OneTurn
 mod Steps
+mod CatchingUp
 mod WorkedPair
 mod WorkedStop
 pub mod TraceBytes

@@ -84,6 +84,11 @@ abbrev pub pair_over : Pair → List Delivery → Pair
 pair_over p [] = p
 pair_over p (delivery ∷ deliveries) = pair_over (pair_after p delivery) deliveries
 
+-- a tail that is given datagrams of the head, one after another
+abbrev pub tail_over : Tail → List Between → Tail
+tail_over tail [] = tail
+tail_over tail (between ∷ betweens) = tail_over (tail_does (Reports between) tail).next betweens
+
 -- one log over requests in their order, and what it answers
 abbrev pub log_over : Log → List Request → Log
 log_over log [] = log

@@ -2,7 +2,7 @@
 //! function is a theorem.
 #![tactic(auto)]
 
-ghost use Rattle.std.specs.Prelude.{ℕ, List, [], ◌∷◌, Some, ◌≡◌, ◌<◌, ◌≤◌, ◌*◌, ◌^◌, false, length, Ok};
+ghost use Rattle.std.specs.Prelude.{ℕ, List, [], ◌∷◌, Some, ◌≡◌, ◌<◌, ◌≤◌, ◌*◌, ◌^◌, true, false, length, Ok};
 ghost use Rattle.std.specs.List.{AllByRecursion};
 ghost use Rattle.seq_arith.specs.Damage.{flipped};
 ghost use Rattle.seq_arith.specs.Message.{is_answer};
@@ -24,12 +24,12 @@ ghost use Rattle.ft_model.specs.declared.event.Event.{Event};
 ghost use Rattle.ft_model.specs.declared.event.Event.TheVariants.{Deliver};
 ghost use Rattle.ft_model.specs.declared.schedule.Schedule.{Schedule};
 ghost use Rattle.twin_laws.specs.Flat.{flat};
-ghost use Rattle.twin_laws.specs.Pair.{Delivery, ActsAsOne, IsPaired, pair_over, new_pair};
+ghost use Rattle.twin_laws.specs.Pair.{Delivery, ActsAsOne, IsPaired, pair_over, new_pair, tail_over};
 ghost use Rattle.twin_laws.specs.StoredState.{kept_head, kept_tail, kept_does, comes_from, in_bytes};
 ghost use Rattle.twin_laws.specs.declared.part.Part.{Part};
-ghost use Rattle.twin_laws.specs.Twin.{Comes, Request, Head, Tail, head_does, tail_does, from_other_logger, bytes_of};
+ghost use Rattle.twin_laws.specs.Twin.{Comes, Request, Head, Tail, head_does, tail_does, has_room, waiting, waits, from_other_logger, bytes_of};
 ghost use Rattle.twin_laws.specs.Twin.Between.{Forward, Got};
-ghost use Rattle.twin_laws.specs.Twin.Comes.{Reports, Is_noise};
+ghost use Rattle.twin_laws.specs.Twin.Comes.{Asks, Reports, Is_noise};
 ghost use Rattle.twin_laws.specs.TwinLegal.{IsTwinLegalFor, TwinLegal, twin_start};
 ghost use Rattle.twin_laws.specs.TwinOutcome.{IsTwinWhole, IsTwinRefused, IsTwinPastPackets};
 ghost use Rattle.twin_laws.specs.TwinReport.{twin_report};
@@ -50,6 +50,17 @@ mod part;
 /// that forwards nothing would satisfy it too. The definitions say what each of them does, and the code follows them.
 pub fn two_loggers_act_as_one()
     ensures { (deliveries : List Delivery) → ActsAsOne (pair_over new_pair deliveries) }
+{}
+
+/// A lost Forward isn't lost for good: all that is unconfirmed brings the tail up to date once it arrives in order, whatever was lost before. The head forwards
+/// it where the server repeats an unconfirmed message, and where there is no room for a further one. `two_loggers_act_as_one` has the premises on numbers.
+pub fn what_waits_is_forwarded_again()
+    ensures arrives { (head : Head) (tail : Tail) → tail.alone ≡ false → head.confirmed ≤ tail.applied → tail.applied ≤ length head.taken
+        → (tail_over tail (waiting head)).applied ≡ length head.taken }
+    ensures repeated { (request : Request) (head : Head) → head.alone ≡ false → is_answer request.message.body ≡ false → waits request head ≡ true
+        → (head_does (Asks request) head).to_other ≡ waiting (head_does (Asks request) head).next }
+    ensures full { (request : Request) (head : Head) → head.alone ≡ false → is_answer request.message.body ≡ false → has_room head ≡ false
+        → (head_does (Asks request) head).to_other ≡ waiting (head_does (Asks request) head).next }
 {}
 
 /// A joint trace with two loggers, made flat, is a joint trace with one log. So its clients see one server that never crashed.
