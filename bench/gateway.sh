@@ -76,7 +76,7 @@ echoes() { # ADDRESS CONNECTIONS BYTES
     local spaces=() i done_ time
     for ((i = 0; i < $2; i++)); do spaces+=("${machines[i % 3]}"); done
     bench/soak_clients.py ask "$1" "$port" "$3" 0 0 120 "${spaces[@]}" >"$work/clients"
-    read -r _ time _ _ _ _ done_ < <(grep '^end' "$work/clients")
+    read -r _ time _ _ _ _ done_ _ < <(grep '^end' "$work/clients")
     [ "$done_" = "$2" ] || { cat "$work/clients" >&2; exit 1; }
     echo "$time"
 }

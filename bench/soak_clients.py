@@ -2,13 +2,14 @@
 """Sockets of the kernel for bench/soak.sh.
 
     soak_clients.py serve HOST PORT                                   an echo server
-    soak_clients.py ask HOST PORT BYTES RATE KILLS LIMIT SPACE..      a client in each of these network namespaces, all in this process
+    soak_clients.py ask HOST PORT BYTES RATE KILLS LIMIT SPACE..      a client in each of these network namespaces, all in this process; SEED in the environment
+                                                                      says at which moments the kills come (KILLS without it)
 
 Each client sends its own BYTES bytes, at most RATE bytes a second (as fast as its socket takes them if RATE is 0), closes its side, and compares what is returned.
 It prints `kill SECONDS` each time that the next kill is due, KILLS times in all; `client N: WHY` for a client that received less than all, with the kernel's timeout
-if it wasn't done in time; and finally `end SECONDS RESETS LOST WRONG SILENCE DONE`: the time, the number of connections that were reset, of bytes that didn't arrive
-and of wrong bytes, the longest time in seconds in which a waiting client received nothing, and the number of clients that received all. It ends after LIMIT seconds
-at the latest.
+if it wasn't done in time; and finally `end SECONDS RESETS LOST WRONG SILENCE DONE AFTER LATE TIMEOUT`: the time, the number of connections that were reset, of bytes
+that didn't arrive and of wrong bytes, the longest time in seconds in which a waiting client received nothing, the number of clients that received all, the seconds from
+the last kill to the end, the longest silence after that kill, and the longest timeout that a client's TCP had (TCP_INFO). It ends after LIMIT seconds at the latest.
 """
 import ctypes
 import os
@@ -53,13 +54,24 @@ class Client:
         self.number, self.data = number, random.Random(number).randbytes(size)
         self.sent = self.back = self.wrong = 0
         self.is_reset, self.is_open, self.why = False, True, ""
-        self.silence, self.last = 0.0, time.monotonic()
+        self.silence, self.late, self.longest, self.last = 0.0, 0.0, 0.0, time.monotonic()
         self.link = socket.socket()
         self.link.setblocking(False)
         self.link.connect_ex(at)
 
     def got_all(self):
         return self.back == len(self.data) and not self.wrong and not self.is_reset
+
+    def look(self):
+        """Notes the timeout that the client's TCP has now."""
+        info = TCP_INFO.unpack(self.link.getsockopt(socket.IPPROTO_TCP, socket.TCP_INFO, TCP_INFO.size))
+        self.longest = max(self.longest, info[8] / 1e6)
+
+    def note_silence(self, last_kill):
+        """Notes the time in which nothing came, and the part of it after this moment."""
+        now = time.monotonic()
+        self.silence, self.late = max(self.silence, now - self.last), max(self.late, now - max(self.last, last_kill))
+        self.last = now
 
     def timeout(self):
         """What the kernel says of its retransmission timer: its seconds, the round trip that it has measured, and how often it has expired in a row."""
@@ -68,7 +80,6 @@ class Client:
 
     def end(self, why):
         self.is_open, self.why = False, why
-        self.silence = max(self.silence, time.monotonic() - self.last)
         self.link.close()
 
     def send(self, allowed):
@@ -95,8 +106,6 @@ class Client:
         if not more:
             self.end("the stream ended")
             return 0
-        now = time.monotonic()
-        self.silence, self.last = max(self.silence, now - self.last), now
         self.compare(more)
         self.back += len(more)
         return len(more)
@@ -116,7 +125,7 @@ class Kills:
     distances they would keep step with timeouts that double. Where the bytes have no rate, one comes each time that another part of all of them is back."""
 
     def __init__(self, count, size, rate, clients):
-        dice = random.Random(count)
+        dice = random.Random(int(os.environ.get("SEED", count)))
         self.by_clock, self.done = rate > 0, 0
         if self.by_clock:
             self.due = [(part + dice.random()) * (size - PIECE) / rate / count for part in range(count)]
@@ -135,7 +144,7 @@ def ask(at, size, rate, kills, limit, spaces):
     for number, space in enumerate(spaces, 1):
         enter(space)
         clients.append(Client(number, at, size))
-    back, kills = 0, Kills(kills, size, rate, len(spaces))
+    back, kills, last_kill = 0, Kills(kills, size, rate, len(spaces)), begun
     while (live := [each for each in clients if each.is_open]) and (passed := time.monotonic() - begun) < limit:
         allowed = size if rate == 0 else min(size, int(passed * rate) // PIECE * PIECE + PIECE)
         for each in live:
@@ -146,16 +155,23 @@ def ask(at, size, rate, kills, limit, spaces):
         for each in live:
             if each.link in came:
                 back += each.receive()
+                each.note_silence(last_kill)
+            if each.is_open:
+                each.look()
         if kills.is_due(time.monotonic() - begun, back):
             print(f"kill {time.monotonic() - begun:.1f}", flush=True)
+            last_kill = time.monotonic()
     for each in clients:
         if each.is_open:
+            each.note_silence(last_kill)
             each.end(f"not done after {limit:.0f} seconds; {each.timeout()}")
         if not each.got_all():
             print(f"client {each.number}: {each.back} of {size} bytes came: {each.why}")
     resets, lost = sum(each.is_reset for each in clients), sum(max(0, size - each.back) for each in clients)
     wrong, done = sum(each.wrong for each in clients), sum(each.got_all() for each in clients)
-    print(f"end {time.monotonic() - begun:.2f} {resets} {lost} {wrong} {max(each.silence for each in clients):.2f} {done}", flush=True)
+    silence, late, longest = (max(getattr(each, name) for each in clients) for name in ("silence", "late", "longest"))
+    now = time.monotonic()
+    print(f"end {now - begun:.2f} {resets} {lost} {wrong} {silence:.2f} {done} {now - last_kill:.2f} {late:.2f} {longest:.2f}", flush=True)
 
 
 def main():
