@@ -11,7 +11,7 @@ import sys
 
 sys.path.insert(0, str(pathlib.Path(__file__).parent.parent / "tools"))
 
-from endpoint_model import Endpoint  # noqa: E402
+from endpoint_model import Endpoint, Stamps  # noqa: E402
 from loggers import FOLLOWED, Log, answers_of  # noqa: E402
 from model import LIMIT, Segment  # noqa: E402
 from sender_model import PROFILES  # noqa: E402
@@ -606,8 +606,8 @@ def long(n):
     return n.to_bytes(4, "big")
 
 
-def spelled(at, to, flags, seq, ack, text=b"", options=b""):
-    """A packet between two addresses with ports, whose window is 65,535."""
+def spelled(at, to, flags, seq, ack, text=b"", options=b"", window=65535):
+    """A packet between two addresses with ports."""
     (at_ip, at_port), (to_ip, to_port) = [(bytes(map(int, a.split(":")[0].split("."))), int(a.split(":")[1]).to_bytes(2, "big")) for a in (at, to)]
     size = 20 + len(options) + len(text)
 
@@ -616,7 +616,7 @@ def spelled(at, to, flags, seq, ack, text=b"", options=b""):
 
     def body(check):
         front = at_port + to_port + long(seq) + long(ack) + bytes([(5 + len(options) // 4) << 4, flags])
-        return front + b"\xff\xff" + check.to_bytes(2, "big") + b"\0\0" + options + text
+        return front + window.to_bytes(2, "big") + check.to_bytes(2, "big") + b"\0\0" + options + text
 
     pseudo = at_ip + to_ip + b"\0\x06" + size.to_bytes(2, "big")
     return (head(checksum(head(0))) + body(checksum(pseudo + body(0)))).hex()
@@ -673,6 +673,81 @@ def played(words, steps, way="own", second=None):
     sends = sum(len(s) for c, s in steps)
     printed.extend(["status 0", f"turns {turns} datagrams {turns - ticks} sent {sends} lost 0 failed 0", "bound 127.0.0.1:7007 -", *calls])
 
+
+def option(stamps):
+    """The timestamps, with the two NOPs in front that align them."""
+    return b"" if stamps is None else bytes([1, 1, 8, 10]) + long(stamps[0]) + long(stamps[1])
+
+
+def stamped(comes, turns, echoes, text=b"", more=WAN, mss=None):
+    """The life of a client with all its packets, by the model. `echoes` has by hand what each of them echoes, or None where it carries no timestamps. The first that
+    comes offers this segment size."""
+    profile = PROFILES[more.split(" ")[-1] or "plain"]
+    it, stamps, accepted, calls, sent, status = Endpoint(1000, LIMIT, True, profile.measures), Stamps(profile.stamps), b"", [], [], 8
+    words = f"run client --local {PEER} --server 192.0.2.100:7 --isn 1000 --turns {turns}" + (f" --script hex:{text.hex()}" if text else " --script -") + more
+
+    def flush():
+        for segment in map(stamps.added, it.flush()):
+            flags = sum(bit for letter, bit in (("A", ACK), ("F", FIN), ("R", RST), ("S", SYN)) if letter in segment.flags)
+            options = (b"" if segment.mss is None else bytes([2, 4]) + segment.mss.to_bytes(2, "big")) + option(segment.stamps)
+            calls.append(f"sent 192.0.2.100:7 {spelled(PEER, '192.0.2.100:7', flags, segment.seq, segment.ack, segment.text, options, segment.window)}")
+            sent.append(segment.stamps and segment.stamps[1])
+
+    flush()
+    for place in range(turns):
+        if place < len(comes):
+            flags, seq, ack, more_text, values = (*comes[place], b"", None)[:5] if len(comes[place]) < 4 else (*comes[place], None)[:5]
+            size = mss if place == 0 else None
+            options = (b"" if size is None else bytes([2, 4]) + size.to_bytes(2, "big")) + option(values)
+            data = spelled("192.0.2.100:7", PEER, flags, seq, ack, more_text, options)
+            line(f"come 192.0.2.100:7 {data}")
+            calls.append(f"came 192.0.2.100:7 {data}")
+            letters = "".join(letter for letter, bit in (("A", ACK), ("F", FIN), ("R", RST), ("S", SYN)) if flags & bit)
+            stamps.arrive(it, Segment(letters, seq, ack, 65535, size, more_text, values))
+        else:
+            calls.append("silent")
+            it.tick()
+        if it.opened and not it.closed and it.state != "CLOSED":
+            text = text[it.write(text) :]
+            if not text:
+                it.close()
+        accepted += it.read(LIMIT)
+        flush()
+        if it.reset or it.state in ("TIME-WAIT", "CLOSED"):
+            status = 7 if it.reset else 0
+            break
+    assert sent == echoes, (comes, sent)
+    line(words, f"status {status}", *accepted.decode().splitlines(), *[said for number, said in ((7, reset), (8, spent)) if number == status], f"bound {PEER} -", *calls)
+
+
+line("# timestamps of a client: what it echoes, of segments in time and out of it", "# timestamps of a client: what it echoes, of segments in time and out of it")
+opens = (SYN | ACK, 5000, 1001, b"", (700, 1))
+# its SYN echoes 0; the SYN-ACK's value is the first that is echoed. A newer one is, and an older one isn't
+stamped([opens, (ACK, 5001, 1002, b"a", (705, 1)), (ACK, 5002, 1002, b"b", (703, 1)), (FIN | ACK, 5003, 1002, b"\n", (709, 1))], 9, [0, 700, 705, 705, 709])
+# values of the clock behind its end
+stamped([(SYN | ACK, 5000, 1001, b"", (2**32 - 2, 1)), (ACK, 5001, 1002, b"a", (2, 1)), (ACK, 5002, 1002, b"b", (2**32 - 1, 1)), (FIN | ACK, 5003, 1002, b"\n", (2, 1))], 9,
+    [0, 2**32 - 2, 2, 2, 2])
+# past the last acknowledgement; behind the window; before it; of a SYN in the window; without timestamps; with an echo of what was never sent
+stamped([opens, (ACK, 5002, 1002, b"b", (705, 1)), (ACK, 5001 + 65536, 1002, b"c", (706, 1)), (ACK, 4999, 1002, b"d", (707, 1)), (ACK, 5001, 1002, b"a"),
+    (ACK, 5003, 1002, b"\n", (708, 4000000000)), (FIN | ACK, 5004, 1002, b"", (709, 1))], 9, [0, 700, 700, 700, 700, 700, 708, 709])
+# at the right edge, and a RST there; then a RST at the next number
+stamped([opens, (ACK, EDGE, 1002, b"", (705, 1)), (RST, EDGE, 0, b"", (706, 1)), (RST, 5001, 0, b"", (707, 1))], 9, [0, 700, 700])
+# a text that begins before what is taken, and ends behind it
+stamped([opens, (ACK, 5001, 1002, b"ab", (705, 1)), (ACK, 5002, 1002, b"bc\n", (710, 1)), (FIN | ACK, 5005, 1002, b"", (711, 1))], 9, [0, 700, 705, 710, 711])
+# a wrong SYN-ACK, whose refusal carries none, and a right one
+stamped([(SYN | ACK, 5000, 1002, b"", (600, 1)), opens, (FIN | ACK, 5001, 1002, b"", (701, 1))], 9, [0, None, 700, 701])
+# a SYN-ACK without them: no later segment carries any; and the plain profile, which never has any
+stamped([(SYN | ACK, 5000, 1001), (ACK, 5001, 1002, b"a\n", (705, 1)), (FIN | ACK, 5003, 1002, b"", (706, 1))], 9, [0, None, None, None])
+stamped([opens, (ACK, 5001, 1002, b"a\n", (705, 1)), (FIN | ACK, 5003, 1002, b"", (706, 1))], 9, [None, None, None, None], more="")
+# again and again: the SYN, and then the FIN
+stamped([], 31, [0, 0, 0])
+stamped([opens], 12, [0, 700, 700])
+line("# the text of a client's segments leaves room for them", "# the text of a client's segments leaves room for them")
+rows = b"".join(b"%03d abcdefgh\n" % row for row in range(250))
+# three segments of text and the FIN, or as many as congestion control lets it send at first: four
+for size in (1460, 76, 70, None):
+    stamped([opens], 1, [0, 700, 700, 700, 700], text=rows, mss=size)
+stamped([(SYN | ACK, 5000, 1001)], 1, [0, None, None, None, None], text=rows, mss=1460)
 
 line("# Counter says 6 behind the first line, and, started again from the log, 12 behind the second", "# Counter says 6 behind the first line, and, started again from the log, 12 behind the second")
 first, second = b"hello\n", b"world\n"

@@ -14,7 +14,7 @@ It skips the lines that play many packets at once (`join`, `hostile`, `tally`), 
 import random
 import sys
 
-from model import LIMIT, WINDOW, Segment, Stream, gap, is_acceptable, is_at_right_edge, is_at_zero_window, length_of, number
+from model import LIMIT, STAMPED, WINDOW, Segment, Stream, gap, is_acceptable, is_at_right_edge, is_at_zero_window, length_of, number
 from sender_model import LONGEST, Congestion, Timing
 
 ACTS = ("in", "tick", "flush")
@@ -235,6 +235,34 @@ class Endpoint(Stream):
         elif self.rest == 0:
             self.interval = self.rest = self.timing.base
         return sent
+
+
+class Stamps:
+    """The timestamps that a client adds to the segments of an endpoint, and notes from those that it gets (RFC 7323, 3.2 and 4.3)."""
+
+    def __init__(self, uses):
+        self.recent = 0 if uses else None  # TS.Recent; None: no segment carries timestamps
+
+    def arrive(self, it, came):
+        """A segment comes to this endpoint. If the SYN had timestamps, its SYN-ACK offers the size that leaves room for them."""
+        opening, first, following, edge = it.state == "SYN-SENT", gap(came.seq, it.peer + 1), it.following(), it.end() + it.fin
+        fits = is_acceptable(first, length_of(came), following, edge) or is_at_right_edge(first, length_of(came), following, edge)
+        it.arrive(came)
+        if self.recent is None:
+            return
+        if opening:
+            if it.opened:
+                self.open(it, came)
+        elif came.stamps and "R" not in came.flags and fits and first <= following and gap(came.stamps[0], self.recent) >= 0:
+            self.recent = came.stamps[0]
+
+    def open(self, it, came):
+        self.recent = came.stamps[0] if came.stamps else None
+        if came.stamps:
+            it.size(came._replace(mss=max(64, it.mss - STAMPED)))
+
+    def added(self, segment):
+        return segment if self.recent is None or "R" in segment.flags else segment._replace(stamps=(1, self.recent))
 
 
 def text_of(word):

@@ -23,6 +23,7 @@ use Rattle.tcp_endpoint.specs.Output.{probes_text, probes_fin, with_probe, with_
 use Rattle.tcp_endpoint.specs.UserCalls.{after_tick, timer_ticked, waited, after_read, after_write, closing, write_room}
 use Rattle.endpoint_laws.proofs.Bounding.{text_facts, new_within}
 use Rattle.endpoint_laws.proofs.SendingLaw.{held_field}
+use Rattle.peer_client.specs.Stamping.{as_read}
 use Rattle.peer_client.specs.Live.{LiveState, new_live_in, is_of, met, arrivals, ticked, unread, given_up, supplied, next_part, closes, before_flush, turned}
 use Rattle.peer_client.proofs.TurnEnds.{read_behind}
 use Rattle.link_parts.specs.Receipt.{Received, datagram, silence, failure}
@@ -354,7 +355,8 @@ new_limited profile local server isn script short = record {
 
 met_limited : (isn : ℕ) (l : LiveState) (p : Segment) → IsLimited isn l → IsLimited isn (met l p)
 met_limited isn l p h =
-    record { tcb = own_read isn l.written _ (received l.tcb p) (received_limited isn l.written l.tcb.receiving.read p l.tcb h.tcb); written = h.written; script = h.script }
+    let read : Segment = as_read l.stamps p in
+    record { tcb = own_read isn l.written _ (received l.tcb read) (received_limited isn l.written l.tcb.receiving.read read l.tcb h.tcb); written = h.written; script = h.script }
 
 arrivals_limited : (isn : ℕ) (l : LiveState) (r : Result Segment BadPacket) → IsLimited isn l → IsLimited isn (arrivals l r)
 arrivals_limited isn l (Ok p) h = holds_either_way (IsLimited isn) (is_of l.local l.server p) (met l p) l (met_limited isn l p h) h
@@ -416,7 +418,7 @@ turned_read isn l h =
     (flush_limited isn m.written read (before_flush l).tcb closed).read_is
 
 met_read : (isn : ℕ) (l : LiveState) (p : Segment) → IsLimited isn l → (met l p).tcb.receiving.read ≡ l.tcb.receiving.read
-met_read isn l p h = (received_limited isn l.written l.tcb.receiving.read p l.tcb h.tcb).read_is
+met_read isn l p h = (received_limited isn l.written l.tcb.receiving.read (as_read l.stamps p) l.tcb h.tcb).read_is
 
 -- what comes leaves unread what was, and hands nothing out
 abbrev HandsNothing : LiveState → LiveState → Type 0

@@ -21,8 +21,8 @@ use Rattle.ft_model.specs.Client.{Client, is_new, is_opening, is_ended, is_open}
 use Rattle.ft_model.specs.declared.phase.Phase.TheVariants as phases
 use Rattle.endpoint_laws.proofs.Connecting.{received_by}
 use Rattle.peer_client.specs.declared.live.ClientEnd.TheVariants as ends
-use Rattle.peer_client.specs.Live.{LiveState, is_of, end_of, first_end, met, ticked}
-use Rattle.peer_client.specs.Refinement.{IsSame, AnswersBy, Waits, IsWaiting, IsConnected, IsReset, IsDue}
+use Rattle.peer_client.specs.Live.{LiveState, is_of, end_of, first_end, reached, ticked}
+use Rattle.peer_client.specs.Refinement.{IsSame, AnswersBy, Waits, IsWaiting, IsConnected, IsReset, RunsBeside}
 use Rattle.peer_client.proofs.Comes.{both_if}
 use Rattle.peer_client.proofs.News.{ticked_sends, ticked_same}
 use Rattle.ft_io.proofs.Booleans.{left_true, right_true}
@@ -226,10 +226,10 @@ opens l c p h =
 
 -- a segment comes
 syn_sent_comes : (l : LiveState) (c : Client) (p : Segment) → IsWaiting l c → is_of l.local l.server p ≡ true → p.head.ack < 2 ^ 32
-    → IsDue (record l { tcb = in_syn_sent l.tcb p; outcome = first_end l.outcome (end_of (in_syn_sent l.tcb p)) }) (machine.opened_by c p)
+    → RunsBeside (record l { tcb = in_syn_sent l.tcb p; outcome = first_end l.outcome (end_of (in_syn_sent l.tcb p)) }) (machine.opened_by c p)
 unfolding in_syn_sent
 syn_sent_comes l c p h from fits =
-    let R : Tcb → Client → Type 0 = λ t d. IsDue (record l { tcb = t; outcome = first_end l.outcome (end_of t) }) d in
+    let R : Tcb → Client → Type 0 = λ t d. RunsBeside (record l { tcb = t; outcome = first_end l.outcome (end_of t) }) d in
     let e : Tcb = l.tcb in
     let zero : Bool = int_eq (ack_at e p) (pos 0) in
     let right : Bool = p.head.ack == number_at c.isn 0 in
@@ -252,7 +252,7 @@ syn_sent_comes l c p h from fits =
     by_ack R false zero right same good bad e d c none on off = none
 
     refused : (rst : Bool) → (p.head.ack == number_at c.isn 0) ≡ false
-        → IsDue (record l { tcb = if rst then l.tcb else with_reset_reply l.tcb p; outcome = first_end l.outcome (end_of (if rst then l.tcb else with_reset_reply l.tcb p)) }) c
+        → RunsBeside (record l { tcb = if rst then l.tcb else with_reset_reply l.tcb p; outcome = first_end l.outcome (end_of (if rst then l.tcb else with_reset_reply l.tcb p)) }) c
     refused true wrong = inl (unchanged l c h)
     refused false wrong = inl (refuses l c p h from fits wrong)
 
@@ -260,9 +260,9 @@ opening_is : (c : Client) (p : Segment) → c.phase ≡ phases.Opening → machi
 opening_is c p h = ap (λ q. if is_opening q then machine.opened_by c p else (if is_open c.phase then machine.arrived c p else c)) h
 
 pub answer_comes : (l : LiveState) (c : Client) (p : Segment) → IsWaiting l c → is_of l.local l.server p ≡ true → p.head.ack < 2 ^ 32
-    → IsDue (met l p) (machine.received c p)
+    → RunsBeside (reached l p) (machine.received c p)
 answer_comes l c p h from fits =
-    let R : Tcb → Client → Type 0 = λ t d. IsDue (record l { tcb = t; outcome = first_end l.outcome (end_of t) }) d in
+    let R : Tcb → Client → Type 0 = λ t d. RunsBeside (record l { tcb = t; outcome = first_end l.outcome (end_of t) }) d in
     subst (λ (d : Client). R (received l.tcb p) d) (sym (opening_is c p h.phase))
     (subst (λ (t : Tcb). R t (machine.opened_by c p)) (sym (received_by l.tcb p h.waits.name)) (syn_sent_comes l c p h from fits))
 

@@ -21,7 +21,7 @@ use Rattle.ft_model.specs.declared.phase.Phase.TheVariants as phases
 use Rattle.endpoint_laws.proofs.TakenLaw.{begun_is}
 use Rattle.endpoint_laws.proofs.EndingLaw.{FollowsAt, named_at, received_follows, tick_follows}
 use Rattle.peer_client.specs.declared.live.ClientEnd.TheVariants as ends
-use Rattle.peer_client.specs.Live.{LiveState, end_of, first_end, met, ticked}
+use Rattle.peer_client.specs.Live.{LiveState, end_of, first_end, reached, ticked}
 use Rattle.peer_client.specs.Refinement.{IsSame, OnReceipt, Sends, Reported, IsConnected, IsStanding, HasReceived, IsReset, is_reset}
 use Rattle.peer_client.proofs.Named.{follows_of, over_at, ends_alike}
 use Rattle.peer_client.proofs.Arrives.{Before, AfterChecks, Resets, others_kept, others_reset}
@@ -125,7 +125,7 @@ reset_due l e t c d none reset_reply h r = record {
 
 -- a segment comes
 pub segment_comes : (l : LiveState) (c : Client) (p : Segment) → IsStanding l c → l.outcome ≡ None
-    → (has_ack p ≡ true → (pos 0 -ℤ pos (2 ^ 30)) ≤ℤ ack_of c.isn p) → IsConnected (met l p) (machine.received c p) ⊎ IsReset (met l p) (machine.received c p)
+    → (has_ack p ≡ true → (pos 0 -ℤ pos (2 ^ 30)) ≤ℤ ack_of c.isn p) → IsConnected (reached l p) (machine.received c p) ⊎ IsReset (reached l p) (machine.received c p)
 segment_comes l c p h none near =
     let e : Tcb = l.tcb in
     let b : Before e c l.written = before_of l c h in

@@ -21,7 +21,7 @@ use Rattle.ft_model.specs.Client.ClientKind.{Live}
 use Rattle.ft_model.specs.Client.Move.{Syn, Refuse}
 use Rattle.ft_model.specs.declared.phase.Phase.{Phase}
 use Rattle.ft_model.specs.declared.phase.Phase.TheVariants as phases
-use Rattle.peer_client.specs.Live.{LiveState, new_live_in, given_up, supplied, closes, before_flush, sent_by, turned}
+use Rattle.peer_client.specs.Live.{LiveState, new_live_in, given_up, supplied, closes, before_flush, sent_by_tcp, tcp_turned}
 use Rattle.peer_client.specs.Refinement.{AreMoves, IsSame, Sends, Refuses, AnswersBy, Waits, IsWaiting}
 use Rattle.peer_client.proofs.Spoken.{moves_on}
 use Rattle.peer_client.proofs.TurnEnds.{read_receives, write_sends, room_none, timed_sends, timed_same}
@@ -348,8 +348,8 @@ turn_ended_waits m c h =
 
 pub record Opened (l : LiveState) (c : Client) : Type 0 where
   pub later : Client
-  pub moves : AreMoves c (sent_by l) later
-  pub waiting : IsWaiting (turned l) later
+  pub moves : AreMoves c (sent_by_tcp l) later
+  pub waiting : IsWaiting (tcp_turned l) later
 
 pub waits_end : (l : LiveState) (c : Client) → Waits l c → Opened l c
 waits_end l c h =

@@ -18,7 +18,7 @@ use Rattle.endpoint_laws.specs.Turn.{Call, used}
 use Rattle.endpoint_laws.specs.Turn.Call.{Reads, Writes, Closes}
 use Rattle.endpoint_laws.proofs.EndingLaw.{FollowsAt, used_follows, flush_follows, named_at}
 use Rattle.endpoint_laws.proofs.AnswersAlone.{closed_sends}
-use Rattle.peer_client.specs.Live.{LiveState, given_up, next_part, supplied, closes, shut, before_flush, sent_by, turned}
+use Rattle.peer_client.specs.Live.{LiveState, given_up, next_part, supplied, closes, shut, before_flush, sent_by_tcp, tcp_turned}
 use Rattle.peer_client.specs.Refinement.{AreMoves, IsSame, OnReceipt, Sends, Reported, IsConnected, IsStanding}
 use Rattle.peer_client.proofs.Spoken.{grown, Speaks}
 use Rattle.peer_client.proofs.Leaves.{at_end, IsWithin, Flushes, Left, leaves}
@@ -296,8 +296,8 @@ speaks_of l c u written same phase r = record {
 -- the turn of a connection that goes on
 pub record Turned (l : LiveState) (c : Client) : Type 0 where
   pub later : Client
-  pub moves : AreMoves c (sent_by l) later
-  pub standing : IsStanding (turned l) later
+  pub moves : AreMoves c (sent_by_tcp l) later
+  pub standing : IsStanding (tcp_turned l) later
 
 pub follows_before : (l : LiveState) (c : Client) → IsConnected l c → FollowsAt (before_flush l).tcb
 follows_before l c h = subst FollowsAt (calls_are l) (used_follows (calls_of l) l.tcb (follows_of l c h))
@@ -384,7 +384,7 @@ turn_ends l c h begun =
     }
 
 -- in CLOSED nothing leaves
-pub closed_leaves : (l : LiveState) (c : Client) → IsConnected l c → has_begun (before_flush l).tcb.name ≡ false → sent_by l ≡ []
+pub closed_leaves : (l : LiveState) (c : Client) → IsConnected l c → has_begun (before_flush l).tcb.name ≡ false → sent_by_tcp l ≡ []
 closed_leaves l c h none =
     let u : Tcb = (before_flush l).tcb in
     closed_sends u (over_at u (follows_before l c h) none).0 ∙ ap reset_reply_segments (ready l c h).reset_reply

@@ -1,4 +1,5 @@
 pub mod Moves
 pub mod Scripted
+pub mod Stamping
 pub mod Live
 pub mod Refinement

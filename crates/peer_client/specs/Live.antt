@@ -1,16 +1,18 @@
 -- The live client: an active open of the TCP endpoint. Its user writes a script as there is room, closes after it, and reads what was accepted.
 use Rattle.limits.specs.Limits.{longest_stream}
-use Rattle.std.specs.Prelude.{ℕ, Bool, ◌+◌, ◌^◌, ◌==◌, ◌&&◌, ◌||◌, nat_le, min, Option, None, Some, Result, Ok, Err, List, length, take, drop, if◌then◌else◌}
+use Rattle.std.specs.Prelude.{ℕ, Bool, false, ◌+◌, ◌==◌, ◌&&◌, ◌||◌, nat_le, min, Option, None, Some, Result, Ok, Err, List, length, take, drop, if◌then◌else◌}
 use Rattle.ft_io.specs.declared.Addr.{Addr}
 use Rattle.seq_arith.specs.Packet.{Segment}
 use Rattle.seq_arith.specs.PacketGrammar.{reading}
 use Rattle.seq_arith.specs.declared.BadPacket.{BadPacket}
 use Rattle.tcp_rules.specs.Profile.{Profile}
-use Rattle.tcp_endpoint.specs.States.{has_begun, is_closed, is_time_wait}
+use Rattle.tcp_rules.specs.Timestamping.{timestamps_sent}
+use Rattle.tcp_endpoint.specs.States.{has_begun, is_closed, is_syn_sent, is_time_wait}
 use Rattle.tcp_endpoint.specs.Tcb.{Tcb, connecting, connecting_measuring}
 use Rattle.tcp_endpoint.specs.Arrival.{received}
 use Rattle.tcp_endpoint.specs.UserCalls.{after_tick, after_read, after_write, closing, write_room}
 use Rattle.tcp_endpoint.specs.Output.{leaving, flushed}
+use Rattle.peer_client.specs.Stamping.{StampState, first_stamps, as_read, stamps_after, all_stamped, after_sending}
 use Rattle.peer_client.specs.declared.live.ClientEnd.{ClientEnd}
 use Rattle.peer_client.specs.declared.live.ClientEnd.TheVariants.{Closed, Reset}
 
@@ -22,6 +24,7 @@ pub record LiveState : Type 0 where
   pub written : ℕ  -- how many bytes of the script were given to TCP
   pub seen : ℕ  -- how many of TCP's unread bytes were handed to the caller
   pub outcome : Option ClientEnd
+  pub stamps : StampState  -- the timestamps of its segments
 
 -- a new client, before its first flush
 abbrev pub new_live : Addr → Addr → ℕ → List ℕ → LiveState
@@ -33,12 +36,16 @@ new_live local server isn script = record {
   written = 0;
   seen = 0;
   outcome = None;
+  stamps = first_stamps false;
 }
 
--- the same of a client with this profile. A client has no log, so of the profile it has the measuring alone
+-- the same of a client with this profile. A client has no log, so of the profile it has the measuring and the timestamps
 abbrev pub new_live_in : Profile → Addr → Addr → ℕ → List ℕ → LiveState
 new_live_in profile local server isn script =
-    record (new_live local server isn script) { tcb = connecting_measuring profile.measures local server isn longest_stream }
+    record (new_live local server isn script) {
+      tcb = connecting_measuring profile.measures local server isn longest_stream;
+      stamps = first_stamps profile.timestamps;
+    }
 
 -- whether the segment is one of the connection, by both addresses and ports (RFC 9293, 3.10.7)
 abbrev pub is_of : Addr → Addr → Segment → Bool
@@ -54,9 +61,15 @@ abbrev pub first_end : Option ClientEnd → Option ClientEnd → Option ClientEn
 first_end (Some end) later = Some end
 first_end None later = later
 
--- a segment of the connection reaches its TCP
+-- TCP takes a segment
+abbrev pub reached : LiveState → Segment → LiveState
+reached l segment = record l { tcb = received l.tcb segment; outcome = first_end l.outcome (end_of (received l.tcb segment)) }
+
+-- a segment of the connection reaches TCP, and its timestamps are noted
 abbrev pub met : LiveState → Segment → LiveState
-met l segment = record l { tcb = received l.tcb segment; outcome = first_end l.outcome (end_of (received l.tcb segment)) }
+met l segment =
+    let taken : LiveState = reached l (as_read l.stamps segment)
+    in record taken { stamps = stamps_after (is_syn_sent l.tcb.name) (has_begun taken.tcb.name) segment l.stamps }
 
 -- bytes arrive: those that are no packet of the connection are dropped
 abbrev pub arrivals : LiveState → Result Segment BadPacket → LiveState
@@ -98,9 +111,15 @@ shut l = record l { tcb = if closes l then closing l.tcb else l.tcb }
 abbrev pub before_flush : LiveState → LiveState
 before_flush l = shut (supplied (given_up l))
 
--- the segments that are sent then
+-- the segments that TCP sends then, and those that leave: with timestamps, where the client's segments carry them
+abbrev pub sent_by_tcp : LiveState → List Segment
+sent_by_tcp l = leaving (before_flush l).tcb
+
 abbrev pub sent_by : LiveState → List Segment
-sent_by l = leaving (before_flush l).tcb
+sent_by l = all_stamped (timestamps_sent l.stamps.timestamping) (sent_by_tcp l)
+
+abbrev pub tcp_turned : LiveState → LiveState
+tcp_turned l = record (before_flush l) { tcb = flushed (before_flush l).tcb }
 
 abbrev pub turned : LiveState → LiveState
-turned l = record (before_flush l) { tcb = flushed (before_flush l).tcb }
+turned l = record (tcp_turned l) { stamps = after_sending (sent_by_tcp l) l.stamps }

@@ -22,6 +22,7 @@ use Rattle.ft_model.specs.declared.phase.Phase.TheVariants as phases
 use Rattle.peer_client.specs.declared.live.ClientEnd.{ClientEnd}
 use Rattle.peer_client.specs.declared.live.ClientEnd.TheVariants as ends
 use Rattle.peer_client.specs.Live.{LiveState, is_of}
+use Rattle.peer_client.specs.Stamping.{EchoFits}
 
 -- the segments are moves of the machine, one after another
 abbrev pub AreMoves : Client → List Segment → Client → Type 0
@@ -166,12 +167,18 @@ pub record IsStanding (l : LiveState) (c : Client) : Type 0 where
   pub edge : c.edge ≡ receive_edge l.tcb.receiving
   pub reported : Reported l.tcb c
 
+abbrev pub RestsBeside : LiveState → Client → Type 0
+RestsBeside l c = IsWaiting l c ⊎ IsStanding l c
+
 abbrev pub IsBetween : LiveState → Client → Type 0
-IsBetween l c = IsWaiting l c ⊎ IsStanding l c
+IsBetween l c = EchoFits l.stamps.timestamping × RestsBeside l c
 
 -- within a turn, until its flush
+abbrev pub RunsBeside : LiveState → Client → Type 0
+RunsBeside l c = Waits l c ⊎ (IsConnected l c ⊎ IsReset l c)
+
 abbrev pub IsDue : LiveState → Client → Type 0
-IsDue l c = Waits l c ⊎ (IsConnected l c ⊎ IsReset l c)
+IsDue l c = EchoFits l.stamps.timestamping × RunsBeside l c
 
 -- a packet of the client's own connection
 abbrev pub is_for_client : Client → Segment → Bool

@@ -1,12 +1,15 @@
 //! Wrong results that the contracts of this crate exclude. Each function calls another one of the crate, and promises of its result what a wrong body would
 //! make false. It is proved from the other's contract alone, so it is no longer proved once that contract lets the wrong body pass.
 
-ghost use Rattle.std.specs.Prelude.{[], ◌∷◌, ◌≡◌, ◌≤◌, ◌<◌, false, length, take};
+ghost use Rattle.std.specs.Prelude.{[], ◌∷◌, ◌≡◌, ◌≤◌, ◌<◌, ◌<ℤ◌, pos, false, length, take};
+ghost use Rattle.seq_arith.specs.Number.{gap};
 ghost use Rattle.peer_client.specs.Live.{sent_by, unread};
 
 use crate::client::Client;
 use crate::live::LiveClient;
 use crate::moves::Move;
+use crate::stamping::Stamping;
+use segment_codec::PacketRef;
 use tcp_endpoint::Outbox;
 
 /// The first byte that is handed out is the first that wasn't handed out before: the clause `bytes` of `LiveClient::hand_out`.
@@ -17,6 +20,15 @@ fn accept_loses_a_byte(client: &mut LiveClient) -> u8
     let mut first = [0];
     client.hand_out(&mut first);
     first[0]
+}
+
+/// No value of a segment that begins past the last acknowledgement sent is echoed: the contract of `Stamping::is_timely`.
+fn a_late_value_is_echoed(stamping: &Stamping, p: &PacketRef<'_>) -> bool
+    requires short { length p.now.payload.now ≤ 65535 }
+    requires late { pos 0 <ℤ gap p.now.head.seq.0 stamping.now.acknowledgement }
+    ensures { result ≡ false }
+{
+    stamping.is_timely(p)
 }
 
 /// No text is accepted at or above the right edge: the contract of `Client::next_text`.

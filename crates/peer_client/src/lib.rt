@@ -13,3 +13,4 @@ mod live;
 mod moves;
 mod receiving;
 mod segment;
+mod stamping;

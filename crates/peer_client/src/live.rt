@@ -1,22 +1,25 @@
 //! The live client: an active open of the TCP endpoint that sends a script and hands out what the server sends.
 
 ghost use Rattle.limits.specs.Limits.{longest_stream};
-ghost use Rattle.std.specs.Prelude.{None, IsSome, ◌≡◌, ◌+◌, ◌-◌, ◌^◌, ◌≤◌, ◌==◌, ◌&&◌, ◌||◌, [], ◌++◌, IfOk, length, min, take, drop};
+ghost use Rattle.std.specs.Prelude.{None, IsSome, ◌≡◌, ◌+◌, ◌-◌, ◌^◌, ◌≤◌, ◌==◌, ◌&&◌, [], ◌++◌, IfOk, length, min, take, drop};
 ghost use Rattle.segment_codec.specs.Value.{segment_of};
 ghost use Rattle.tcp_endpoint.specs.Output.{packets};
 ghost use Rattle.tcp_endpoint.specs.Packets.{AreReadable};
 ghost use Rattle.tcp_endpoint.specs.SendHalf.{IsShort};
-ghost use Rattle.tcp_endpoint.specs.States.{has_begun as begun_lem};
+ghost use Rattle.tcp_endpoint.specs.States.{has_begun as begun_lem, is_syn_sent as syn_sent_lem};
+ghost use Rattle.tcp_endpoint.specs.Arrival.{received};
 ghost use Rattle.tcp_endpoint.specs.UserCalls.{after_read};
 ghost use Rattle.peer_client.specs.Live.{new_live, new_live_in, is_of, end_of, first_end, met, after_packet, ticked, unread, handed, given_up};
+ghost use Rattle.peer_client.specs.Stamping.{as_read, stamps_after, EchoFits};
 ghost use Rattle.peer_client.specs.Live.{supplied, closes as closes_lem};
-ghost use Rattle.peer_client.specs.Live.{shut as shut_lem, before_flush, sent_by, turned};
+ghost use Rattle.peer_client.specs.Live.{shut as shut_lem, sent_by, turned};
 ghost use Rattle.peer_client.specs.Refinement.{IsBetween, IsDue, AcksNear, AckFits, receiving, Moves, HasReceived, handed_out, outcome_of};
 ghost use Rattle.seq_arith.specs.PacketGrammar.{reading};
 ghost use Rattle.tcp_rules.specs.Profiles.{profile_of};
 ghost use Rattle.ft_model.specs.Client.{Client, new_client};
 ghost use Rattle.ft_model.specs.Client.ClientKind.{Live};
 
+use crate::stamping::Stamping;
 use ft_io::{Addr, NoMemory};
 use limits::STREAM;
 use segment_codec::{PacketRef, read_packet};
@@ -49,6 +52,8 @@ pub struct LiveClient {
     /// How many of the endpoint's unread bytes were handed out.
     seen: usize,
     outcome: Option<ClientEnd>,
+    /// The timestamps of its segments.
+    stamping: Stamping,
 }
 
 impl Model for LiveClient {
@@ -66,6 +71,7 @@ impl Model for LiveClient {
       written = c.written;
       seen = c.seen;
       outcome = c.outcome;
+      stamps = c.stamping;
     } };
 
     ghost invariant = { λ c. (length c.script.items ≤ longest_stream) × (c.written ≤ length c.script.items) };
@@ -90,7 +96,8 @@ impl LiveClient {
         LiveClient::new_in(Profile::Plain, alloc, local, server, isn, script)
     }
 
-    /// The same of a client with this profile. Its TCP measures round trips exactly if the profile does.
+    /// The same of a client with this profile. Its TCP measures round trips, and its segments carry timestamps if the server's do, exactly if the profile says
+    /// so.
     pub fn new_in(
         profile: Profile,
         alloc: Global,
@@ -111,6 +118,7 @@ impl LiveClient {
             STREAM,
             profile.measures(),
         )?;
+        let stamping = Stamping::new(alloc, profile.timestamps())?;
         Ok(LiveClient {
             local,
             server,
@@ -119,6 +127,7 @@ impl LiveClient {
             written: 0,
             seen: 0,
             outcome: None,
+            stamping,
         })
     }
 
@@ -146,6 +155,7 @@ impl LiveClient {
     fn receive(&mut self, bytes: &[u8])
         ensures state { IsShort self.old.tcb.sending → self.new ≡ after_packet self.old bytes.now }
         ensures fits { AckFits (reading bytes.now) }
+        ensures echo { EchoFits self.new.stamps.timestamping }
         ensures stays { IsSome self.old.outcome → self.new.outcome ≡ self.old.outcome }
     {
         if let Ok(packet) = read_packet(bytes) {
@@ -153,6 +163,7 @@ impl LiveClient {
                 self.meet(packet);
             }
         }
+        self.stamping.echo_fits();
     }
 
     fn is_of_connection(&self, p: PacketRef<'_>) -> bool
@@ -169,8 +180,29 @@ impl LiveClient {
         ensures state { IsShort self.old.tcb.sending → self.new ≡ met self.old (segment_of p.entry) }
         ensures stays { IsSome self.old.outcome → self.new.outcome ≡ self.old.outcome }
     {
-        self.endpoint.on_packet(p);
+        let opening = is_syn_sent(self.endpoint.state().name);
+        self.reach_tcp(p);
+        self.note_timestamps(opening, p);
         self.note_end();
+    }
+
+    /// TCP takes a segment. It knows nothing of timestamps, so the segment size that it reads leaves room for them.
+    fn reach_tcp(&mut self, p: PacketRef<'_>)
+        requires { length p.payload.now ≤ 65535 }
+        ensures state { IsShort self.old.tcb.sending
+            → self.new ≡ record self.old { tcb = received self.old.tcb (as_read self.old.stamps (segment_of p.entry)) } }
+        ensures outcome { self.new.outcome ≡ self.old.outcome }
+    {
+        self.endpoint.on_packet(self.stamping.as_read(p));
+    }
+
+    /// Notes the timestamps of a segment that TCP has taken.
+    fn note_timestamps(&mut self, opening: bool, p: PacketRef<'_>)
+        requires { length p.payload.now ≤ 65535 }
+        ensures { self.new ≡ record self.old { stamps = stamps_after opening (begun_lem self.old.tcb.name) (segment_of p.entry) self.old.stamps } }
+    {
+        let begun = has_begun(self.endpoint.state().name);
+        self.stamping.note(opening, begun, p);
     }
 
     /// Notes how the connection has ended, if it has. The first outcome stays.
@@ -253,11 +285,14 @@ impl LiveClient {
         ensures state { self.new ≡ turned self.old }
         ensures sent { out.new ≡ packets (sent_by self.old) }
         ensures readable { AreReadable (sent_by self.old) }
+        ensures echo { EchoFits self.old.stamps.timestamping }
     {
+        self.stamping.echo_fits();
         self.discard();
         self.supply();
         self.shut();
         self.endpoint.flush(out);
+        self.stamping.stamp(out);
     }
 
     /// Drops from the endpoint what was handed out.
@@ -289,6 +324,13 @@ impl LiveClient {
     {
         has_begun(self.endpoint.state().name) && self.script.len() <= self.written
     }
+}
+
+/// Whether the client's SYN is sent, or due, and isn't answered yet.
+fn is_syn_sent(name: StateName) -> bool
+    ensures { result ≡ syn_sent_lem name }
+{
+    matches!(name, StateName::SynSent)
 }
 
 /// Whether both initial sequence numbers are known.

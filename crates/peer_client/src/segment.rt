@@ -1,6 +1,6 @@
 //! What the flags of an arriving segment say of its text.
 
-ghost use Rattle.std.specs.Prelude.{◌≡◌, ◌≤◌, ◌^◌};
+ghost use Rattle.std.specs.Prelude.{◌≡◌, ◌≤◌, ◌^◌, length};
 ghost use Rattle.seq_arith.specs.Packet.{has_fin as fin_lem, has_syn as syn_lem, has_rst as rst_lem, has_ack as ack_lem};
 ghost use Rattle.ft_model.specs.Offset.{text_of, fin_of, length_of};
 ghost use Rattle.segment_codec.specs.Value.{segment_of};
@@ -56,6 +56,7 @@ pub fn counts_fin(segment: &PacketRef<'_>) -> bool
 pub fn segment_len(segment: &PacketRef<'_>) -> u64
     ensures value { result ≡ length_of (segment_of segment.now) }
     ensures within { result ≤ 2 ^ 63 }
+    ensures most { length segment.now.payload.now ≤ 65535 → result ≤ 2 ^ 16 }
 {
     if has_rst(segment) {
         return 0;
