@@ -35,6 +35,8 @@ impl Model for OutPacket {
 }
 
 impl OutPacket {
+    ghost use Rattle.ft_model.specs.Wire.Party.{The_server};
+
     pub(crate) fn new(alloc: Global, to: To, bytes: &[u8]) -> Result<OutPacket, NoMemory>
         ensures { OnOk result (result ≡ Rattle.std.specs.Prelude.Ok (sent_to to bytes.now)) }
     {
@@ -60,6 +62,13 @@ impl OutPacket {
             To::Client(_) => false,
             To::Logger => is_done_message(grammar, &self.text),
         }
+    }
+
+    /// A fact for proofs: the server sends it.
+    pub fn sent_by_server(&self)
+        ensures { self.now.from ≡ The_server }
+    {
+        let _to = self.to;
     }
 
     /// The addressee.

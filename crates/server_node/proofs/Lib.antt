@@ -17,3 +17,4 @@ pub mod MarkedInputs
 pub mod MarkedApart
 pub mod MarkedNodes
 pub mod OtherGrammar
+pub mod ShownPlaces

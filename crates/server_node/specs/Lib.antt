@@ -6,6 +6,7 @@ pub mod RestartNumbers
 pub mod StageAlone
 pub mod Restarts
 pub mod Apart
+pub mod Places
 pub mod Runs
 pub mod StageTurns
 pub mod RestartTurns

@@ -13,6 +13,7 @@ pub mod laws;
 mod marked;
 mod marked_reviving;
 mod node;
+mod places;
 mod restarting;
 mod reviving;
 mod serving_turn;

@@ -4,9 +4,11 @@ ghost use Rattle.std.specs.Prelude.{◌≤◌};
 ghost use Rattle.server_node.specs.Stages.{IsSoundStage, IsSoundStage-prop};
 
 use crate::input::{Input, TurnEnd};
+use crate::places;
 use crate::serving_turn::go_in_place;
 use crate::stage::{Stage, conn_in, send_hello};
 use ft_io::{Addr, Key, NoMemory};
+use logger_wire::EntryHead;
 use node_serving::{Identity, OutPacket, Turn};
 use server_trait::{Saved, Service};
 use std::alloc::Global;
@@ -42,6 +44,13 @@ impl<S: Saved> Node<S> {
     ghost use Rattle.server_node.specs.Stages.{StageStands};
     ghost use Rattle.server_node.specs.StageTurns.{IsUnfenced, IsFenceOf};
     ghost use Rattle.server_trait.specs.Service.{machine};
+    ghost use Rattle.std.specs.Prelude.{List, length, option_map, slice_get};
+    ghost use Rattle.std.specs.List.{IsDistinct};
+    ghost use Rattle.std.specs.Map.{lookup, keys_of};
+    ghost use Rattle.ft_io.specs.Key.{key_eq};
+    ghost use Rattle.logger_wire.specs.Records.{head_said};
+    ghost use Rattle.ft_model.specs.Restart.{Fetched};
+    ghost use Rattle.server_node.specs.Places.{slots_at, is_serving, is_done, HasFetched, Forgets};
 
     /// Boots a server without marks, with the plain profile. The boot number is at least 1; initial sequence numbers are counted from `isn`; `kind` chooses the
     /// service. `sent` then has the Hello.
@@ -133,6 +142,57 @@ impl<S: Saved> Node<S> {
         ensures { result ≡ self.now.who }
     {
         self.who
+    }
+
+    /// Whether it serves, without marks.
+    pub fn is_serving(&self) -> bool
+        ensures { result ≡ is_serving self.now.stage }
+    {
+        places::is_serving(&self.stage)
+    }
+
+    /// How many places it has, while it serves without marks.
+    pub fn places(&self) -> usize
+        ensures { result ≡ length (slots_at self.now.stage) }
+    {
+        places::count(&self.stage)
+    }
+
+    /// The key at place `i`, counted from 0, while it serves without marks.
+    pub fn key_at(&self, i: usize) -> Option<Key>
+        ensures { result ≡ option_map (λ e. e.0) (slice_get (slots_at self.now.stage) i) }
+    {
+        places::key_at(&self.stage, i)
+    }
+
+    /// A fact for proofs: no key has two slots, in a node without marks.
+    pub fn apart(&self)
+        ensures { IsDistinct key_eq (keys_of (slots_at self.now.stage)) }
+    {
+        places::apart(&self.stage);
+    }
+
+    /// Whether the connection of a key has ended, in a node that serves without marks.
+    pub fn is_done(&self, key: Key) -> bool
+        ensures { result ≡ is_done (lookup (key_eq key) (slots_at self.now.stage)) }
+    {
+        places::is_done(&self.stage, key)
+    }
+
+    /// The head of a key's entry, if it has come and the log is still fetched.
+    pub fn fetched(&self, key: Key) -> Option<EntryHead>
+        ensures { (kind : ℕ) (fetched : List Fetched) → HasFetched S.Service kind fetched self.now.stage key (option_map head_said result) }
+    {
+        places::fetched(&self.stage, key)
+    }
+
+    /// Forgets a key, while the node serves without marks.
+    pub fn forget(&mut self, key: Key)
+        ensures stage { Forgets key self.old.stage self.new.stage }
+        ensures same { self.new.who ≡ self.old.who }
+        ensures sent { self.new.turn.sent.items ≡ self.old.turn.sent.items }
+    {
+        places::forget(&mut self.stage, key);
     }
 
     /// What the boot or the last turn sent.
