@@ -61,7 +61,7 @@ CalmKey (Some (Opens n t)) o = (m : Numbers) × (t : Timestamping) × (o ≡ Som
 CalmKey (Some (Ended k)) o = o ≡ Some (Ended k)
 CalmKey None o = (o ≡ None) ⊎ ((m : Numbers) × (t : Timestamping) × (o ≡ Some (Opens m t)))
 
-no_message : {P : Type 0} (input : Input) (message : Message) → is_message input ≡ false → input ≡ Message_comes message → P
+pub no_message : {P : Type 0} (input : Input) (message : Message) → is_message input ≡ false → input ≡ Message_comes message → P
 no_message input message calm e = absurd (true≢false (sym (ap is_message e) ∙ calm))
 
 module _ {State : Type 0} (service : Machine State) (node : Node) (input : Input) (calm : is_message input ≡ false) where
@@ -110,14 +110,14 @@ module _ {State : Type 0} (service : Machine State) (node : Node) (input : Input
       subst (CalmKey (Some place)) (sym w.3) (calm_place key place w.0 w.1 (its place refl) (place_went service node input place w.0 w.1 w.2))
   by_place key None went its w = inl w
 
-  calm_key : (key : Key) (opened : ℕ) (places later : List Place) (sent : List Packet) → AreDistinct (map key_of places) → ServingTurn service node input opened places later sent
+  pub calm_key : (key : Key) (opened : ℕ) (places later : List Place) (sent : List Packet) → AreDistinct (map key_of places) → ServingTurn service node input opened places later sent
       → CalmKey (place_at key places) (place_at key later)
   calm_key key opened places later sent d t =
       subst (λ l. CalmKey (place_at key places) (place_at key l)) (sym t.places)
       (calm_front key (place_at key places) t.went (newcomers node input opened places) (all_new input key opened places)
       (by_place key (place_at key places) t.went (λ place e. found_passes (λ x. key_eq (key_of x) key) places place e) (key_went service node input key places t.went t.by_places d t.all_go)))
 
-never_fenced : (node : Node) (input : Input) → is_message input ≡ false → fence node input ≡ None
+pub never_fenced : (node : Node) (input : Input) → is_message input ≡ false → fence node input ≡ None
 never_fenced node (Message_comes message) calm = absurd (true≢false calm)
 never_fenced node (Packet_comes segment) calm = refl
 never_fenced node Noise_comes calm = refl

@@ -4,3 +4,5 @@ pub mod Kept
 pub mod Reported
 pub mod Rests
 pub mod Restarted
+pub mod Noted
+pub mod Released

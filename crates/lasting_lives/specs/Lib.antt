@@ -1,3 +1,4 @@
 pub mod Watches
 pub mod Lives
 pub mod Known
+pub mod Noted

@@ -1,6 +1,6 @@
 //! What the server knows of a key besides what its node has: the watch of a live connection, or the quarantine of one that is done.
 
-ghost use Rattle.std.specs.Prelude.{◌≡◌};
+ghost use Rattle.std.specs.Prelude.{◌≡◌, nat_le};
 ghost use Rattle.seq_arith.specs.Packet.{Segment};
 ghost use Rattle.seq_arith.specs.Value.{said};
 ghost use Rattle.lasting_laws.specs.Closing.{is_newer, end_of_head};
@@ -62,7 +62,8 @@ impl Resting {
 
     /// Whether its quarantine of `wait` ticks is over.
     pub fn is_leaving(&self, wait: u32) -> bool
-        ensures { (q : Quarantined) → QuarantineStands self.now q → result ≡ is_leaving wait q }
+        ensures law { (q : Quarantined) → QuarantineStands self.now q → result ≡ is_leaving wait q }
+        ensures age { result ≡ nat_le wait self.now.age }
     {
         self.age >= wait
     }
