@@ -1,0 +1,16 @@
+pub mod Going
+pub mod Passing
+pub mod Leaving
+pub mod Forgotten
+pub mod LetGo
+pub mod Reported
+pub mod Due
+pub mod Tended
+pub mod Ticked
+pub mod Watching
+pub mod Shown
+pub mod Reading
+pub mod Noted
+pub mod TendAll
+pub mod TendOne
+pub mod Untouched

@@ -1,0 +1,4 @@
+pub mod Turns
+pub mod Notes
+pub mod Tending
+pub mod Shown
