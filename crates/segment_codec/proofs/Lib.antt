@@ -7,3 +7,4 @@ pub mod Placing
 pub mod Refusals
 pub mod Patching
 pub mod Setters
+pub mod Words

@@ -6,6 +6,7 @@ ghost use Rattle.seq_arith.specs.Checksum.{checksum};
 ghost use Rattle.seq_arith.specs.PacketGrammar.{tcp_text};
 ghost use Rattle.segment_codec.specs.Change.{put, sealed};
 
+use crate::summing::{check_of, words_of};
 use byteorder::{BigEndian, ByteOrder};
 use seq_arith::Sum16;
 
@@ -58,19 +59,15 @@ pub(crate) fn ip_checksum(bytes: &[u8]) -> u16
     sum.check()
 }
 
-/// The TCP checksum of a packet, computed over whatever is in the checksum's place.
+/// The TCP checksum of a packet, computed over whatever is in the checksum's place. It sums the protocol and the length too, and the addresses, which stand in
+/// front of the TCP header. The headers are summed by themselves: their number of bytes is known, so nothing of them that was just written is read again.
 pub(crate) fn tcp_checksum(bytes: &[u8]) -> u16
-    requires long { 20 ≤ length bytes.now }
+    requires long { 40 ≤ length bytes.now }
     requires short { length bytes.now < 2 ^ 16 }
     ensures { result ≡ checksum (tcp_text bytes.now) }
 {
-    let mut behind = [0, 6, 0, 0];
-    BigEndian::write_u16(&mut behind[2..], (bytes.len() - 20) as u16);
-    let mut sum = Sum16::new();
-    sum.take(&bytes[12..20]);
-    sum.take(&behind);
-    sum.take(&bytes[20..]);
-    sum.check()
+    let len = (bytes.len() - 20) as u64;
+    check_of(words_of(&bytes[12..40]) + words_of(&bytes[40..]) + 6 + len)
 }
 
 /// Computes the TCP checksum again, and writes it into its place.

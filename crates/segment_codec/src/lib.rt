@@ -15,6 +15,7 @@ mod fields;
 mod header;
 mod reading;
 mod setting;
+mod summing;
 mod writing;
 
 /// A packet whose payload stays in the bytes that it was read from.

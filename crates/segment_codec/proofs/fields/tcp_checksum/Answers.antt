@@ -1,17 +1,15 @@
-use Rattle.std.proofs.Common.{ℕ, List, [], take, drop, ◌∷◌, ◌++◌, length, ◌-◌, ◌∙◌, ap}
+use Rattle.std.proofs.Common.{ℕ, List, ◌-◌, ◌+◌, ◌≡◌, ◌%◌, false, take, drop, length, ap, ◌∙◌}
 use Rattle.std.proofs.lemmas.List.{take_rest}
-use Rattle.seq_arith.specs.Bytes.{two}
-use Rattle.seq_arith.specs.Checksum.{with_bytes}
-use Rattle.seq_arith.specs.PacketGrammar.{tcp_text}
-use Rattle.seq_arith.proofs.Sums.{three_pieces}
+use Rattle.seq_arith.specs.Checksum.{word_sum, check_of}
+use Rattle.segment_codec.proofs.Words.{same_checks, tcp_summed}
 use Rattle.segment_codec.proofs.fields.tcp_checksum.Goals as goal
 
 pub returns : goal.returns
-unfolding two tcp_text
 returns c =
     let bytes : List ℕ = c.args.bytes.now
-    in let addresses : List ℕ = take 8 (drop 12 bytes)
-    in c.check.ensures ∙ three_pieces c.take.new.self c.take-2.new.self c.take-3.new.self addresses (0 ∷ 6 ∷ two (length bytes - 20)) (drop 20 bytes)
-    (c.take.ensures ∙ ap (λ s. with_bytes s addresses) c.new-sum.ensures)
-    (c.take-2.ensures ∙ ap (λ xs. with_bytes c.take.new.self (0 ∷ 6 ∷ (xs ++ []))) c.write_u16.ensures)
-    (c.take-3.ensures ∙ ap (λ xs. with_bytes c.take-2.new.self xs) (take_rest bytes 20))
+    in let text : c.words_of-2.result % 65535 ≡ word_sum false (drop 40 bytes) % 65535 =
+    c.words_of-2.ensures.sum ∙ ap (λ xs. word_sum false xs % 65535) (take_rest bytes 40)
+    in c.check_of.ensures
+    ∙ same_checks c.words_of.result c.words_of-2.result (word_sum false (take 28 (drop 12 bytes))) (word_sum false (drop 40 bytes)) (length bytes - 20)
+    c.words_of.ensures.sum text
+    ∙ ap check_of (tcp_summed bytes c.requires.long c.requires.short)
