@@ -1,6 +1,6 @@
 //! `node_cases`: the cases on whole nodes, processes and runs. Without words it reads parts from its standard input: a line `== NAME` begins a part, and the
 //! lines up to the next such line are the script of that name. It prints the line `== NAME`, then what the script says, and `status N` where the script's
-//! status isn't 0. NAME is `connection`, whose cases are in its code, `link`, `node`, `replay`, `own`, whose lines are a schedule, or `bench`,
+//! status isn't 0. NAME is `connection`, whose cases are in its code, `link`, `node`, `lasting`, `replay`, `own`, whose lines are a schedule, or `bench`,
 //! whose lines are commands and what they read. A line before the first part and a name that no script has end it with status 2.
 //!
 //! `node_cases NAME` plays its whole standard input as the script of this name, and ends with its status. `node_cases bench WORD..` does what one command asks
@@ -59,7 +59,7 @@ fn are_for_ftnode(words: &[&str]) -> bool {
     match words {
         [] => false,
         [word] => match *word {
-            "connection" | "link" | "node" | "replay" | "bench" | "own" => false,
+            "connection" | "link" | "node" | "lasting" | "replay" | "bench" | "own" => false,
             _ => true,
         },
         _ => true,
@@ -82,6 +82,7 @@ impl<
             "connection" => connection_script::run(alloc, said),
             "link" => link_script::run(system, lines_of(text)?, said),
             "node" => node_script::run(alloc, lines_of(text)?, said),
+            "lasting" => lasting_script::run(alloc, lines_of(text)?, said),
             "replay" => replay_script::run::<Ftreplay, _>(system, lines_of(text)?, said),
             "own" => Ok(play_own(alloc, text, said)),
             "bench" => return play_commands(system, lines_of(text)?),
