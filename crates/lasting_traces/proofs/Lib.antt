@@ -1,0 +1,4 @@
+pub mod OneTurn
+pub mod OneMoment
+pub mod OneTrace
+pub mod OneOutcome
