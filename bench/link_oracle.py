@@ -11,7 +11,9 @@ import sys
 
 sys.path.insert(0, str(pathlib.Path(__file__).parent.parent / "tools"))
 
+import lasting_model  # noqa: E402
 from endpoint_model import Endpoint, Stamps  # noqa: E402
+from lasting_model import Named  # noqa: E402
 from loggers import FOLLOWED, Log, answers_of  # noqa: E402
 from model import LIMIT, Segment  # noqa: E402
 from sender_model import PROFILES  # noqa: E402
@@ -147,6 +149,17 @@ PROFILED = ((SERVER, "server"), (CLIENT, "client"), (DOUBLE + " --times 2", "ser
 allowed += [(words + more, name) for words, name in PROFILED for more in (" --profile plain", " --profile=plain")]
 allowed += [(words + more, name + " wan") for words, name in PROFILED for more in (" --profile wan", " --profile=wan")]
 allowed += [("server --profile=wan" + SERVER[6:], "server wan"), ("client --profile wan" + CLIENT[6:] + " --script hex:6869", "client wan")]
+# a quarantine and a silence: options of a server with one logger; and whether a logger forgets
+FORGETS = SERVER + " --forget 50"
+WAITS = ("", " 0", " 1000001", " 01000001", " -1", " x", " ''", "=", " yes", " 50 --forget 50")
+refused += [SERVER + " --forget" + text for text in WAITS] + [DOUBLE + " --forget 50"] + [words + " --forget 50" for words in (LOGGER, KEPT, PARTED, CLIENT, PAIR, ALONE)]
+refused += [FORGETS + " --silence" + text for text in ("", " 0", " 100000001", " x", " ''", "=", " 9 --silence 9")]
+refused += [words + " --silence 100" for words in (SERVER, LOGGER, KEPT, PARTED, CLIENT, PAIR, ALONE)] + [without(FORGETS, name) for name in ("local", "logger", "service", "boot", "isn", "turns")]
+refused += [words + " --forget" + text for words in (LOGGER, KEPT) for text in ("", " no", " Yes", " 1", " ''", "=", " yes --forget yes")]
+refused += [words + " --forget yes" for words in (PARTED, CLIENT, PAIR, ALONE)]
+allowed += [(FORGETS + more, "lasting") for more in ("", " --silence 1", " --silence=100000000 --times 2")] + [(SERVER + " --forget=1000000", "lasting"), (FORGETS + " --profile wan", "lasting wan")]
+allowed += [(words + more, name) for words, name in ((LOGGER, "logger"), (KEPT, "journal"), (KEPT + " --begin yes", "journal")) for more in (" --forget yes", " --forget=yes")]
+allowed += [(LOGGER + " --forget yes --profile wan", "logger wan")]
 allowed += [(KEPT, "journal"), ("logger --times=004000000000000 --turns=1000000 --local=127.0.0.1:7040", "logger")]
 allowed += [(PARTED, "head"), ("logger --other=127.0.0.1:7041 --part=tail --turns=3 --local=127.0.0.1:7040", "tail")]
 allowed += [(ALONE, "alone"), ("alone --to=127.0.0.1:7041 --local=127.0.0.1:7050", "alone"), (DOUBLE, "server"), (SERVER + " --second=127.0.0.1:7008", "server")]
@@ -192,13 +205,16 @@ class Net:
         return " ".join(f"{name} {count}" for name, count in self.counts.items())
 
 
-def logger(net, turns, version):
-    log = Log()
+def logger(net, turns, version, forgets):
+    log = lasting_model.Log()
     for _ in range(turns):
         came = net.receive()
         said = read_message(bytes.fromhex(came[1]), version) if came else None
         for answer in answers_of(log, said) if said else []:
             net.send(came[0], spell_message(answer, version).hex())
+        if came and forgets and said is None and (asked := lasting_model.read_forget(bytes.fromhex(came[1]))) and (answer := log.answer(asked)):
+            is_about = isinstance(answer, lasting_model.Forget)
+            net.send(came[0], (lasting_model.spelled(answer, bytes.fromhex(came[1])[16:22]) if is_about else spell_message(answer, version)).hex())
     return 0, net.told()
 
 
@@ -265,7 +281,7 @@ def run(words, come, bind=0, second_bind=False, send=0, receive=0, write=0, erro
     if bind:
         status, said = 4, "ftnode: link fault"
     elif role == "logger":
-        status, said = part(net, turns, options["--part"], options["--other"], version) if "--part" in options else logger(net, turns, version)
+        status, said = part(net, turns, options["--part"], options["--other"], version) if "--part" in options else logger(net, turns, version, "--forget" in options)
     elif role == "alone":
         status, said = alone(net, options["--to"])
     else:
@@ -630,9 +646,9 @@ def says(flags, seq, ack, text=b""):
     return PEER, spelled(PEER, "127.0.0.1:7007", flags, seq, ack, text)
 
 
-def hears(flags, seq, ack, text=b"", options=b""):
+def hears(flags, seq, ack, text=b"", options=b"", window=65535):
     """What the server sends the client."""
-    return PEER, spelled("127.0.0.1:7007", PEER, flags, seq, ack, text, options)
+    return PEER, spelled("127.0.0.1:7007", PEER, flags, seq, ack, text, options, window)
 
 
 def logs(kind, boot, body):
@@ -828,6 +844,31 @@ played(without(SERVER, "turns").replace("echo", "transfer") + WAN, [
 ], way="run")
 
 
+FORGET, FORGOTTEN = ((LOG, lasting_model.spelled(lasting_model.Forget(kind, 1, Named(KEY, 1000, 5000)), KEY).hex()) for kind in ("Forget", "Forgotten"))
+ECHOED = [
+    *OPENS,
+    (says(ACK, 1001, 5001, b"hello"), [hears(ACK, 5001, 1001), logs_data(1, 0, 0, b"hello"), logs_read(1, 0, 5)]),
+    (logs(STABLE, 1, kept(5, 0)), [hears(ACK, 5001, 1006)]),
+    (logs(READS, 1, kept(5, 1)), [hears(ACK, 5001, 1006, b"hello")]),
+    *closes(1006, 5006, 5, 5, 1, False),
+]
+NEXT = (says(SYN, 9000, 0), [logs(OPEN, 1, KEY + long(9000) + long(70536) + OPENING[-2:])])
+line("# a server with a quarantine of two ticks has its log recycle the entry, forgets the connection, and serves the next one at its address", "# a server with a quarantine of two ticks has its log recycle the entry, forgets the connection, and serves the next one at its address")
+for more in (" --forget 2", " --forget=2 --silence 9"):
+    played(without(SERVER, "turns") + more, [
+        *ECHOED,
+        (TICK, []),
+        (TICK, [FORGET]),
+        (says(ACK, 1007, 5007), []),
+        (TICK, [FORGET]),
+        (FORGOTTEN, []),
+        (FORGOTTEN, []),
+        NEXT,
+    ], way="run")
+line("# a newer SYN ends the quarantine; an older one is refused", "# a newer SYN ends the quarantine; an older one is refused")
+played(without(SERVER, "turns") + " --forget 9", [*ECHOED, (says(SYN, 1006, 0), [hears(RST | ACK, 0, 1007, window=0)]), (says(SYN, 9000, 0), [FORGET]), (TICK, [FORGET]), (FORGOTTEN, []), NEXT], way="run")
+
+
 # A server with two loggers
 BACK = "127.0.0.1:7009"
 line("# each message goes to the logger and next to the second, and a datagram of either is a message", "# each message goes to the logger and next to the second, and a datagram of either is a message")
@@ -943,6 +984,30 @@ LONE = LOGGER[:-1]
 for talk in talks:
     run(LONE + str(len(talk)) + WAN, far([(FROM, data) for data in talk]))
 run(LONE + str(len(talks[0])) + WAN, far([(FROM, data) for data in talks[0]]), way="own")
+line("# a logger that forgets recycles the entry of a connection that is done, if a Forget of its boot has both numbers; another takes none", "# a logger that forgets recycles the entry of a connection that is done, if a Forget of its boot has both numbers; another takes none")
+
+
+def about(kind, boot=1, cisn=1000, sisn=5000, key=KEY):
+    return lasting_model.spelled(lasting_model.Forget(kind, boot, Named(key, cisn, sisn)), key).hex()
+
+
+ended = [*begun, message(DONE, 1, KEY)]
+again = message(OPEN, 1, KEY + long(9000) + long(70536) + b"\2\x18")
+forgetting = [
+    [*ended, about("Forget"), about("Forget"), again, about("Forget"), message(LIST, 1, b"\0\0")],
+    # one that isn't done, then one that is; of other numbers, and of a key without an entry
+    [*begun, about("Forget"), message(DONE, 1, KEY), about("Forget", cisn=1001), about("Forget", sisn=5001), about("Forget", key=KEY[:-1] + b"\0"), message(LIST, 1, b"\0\0")],
+    # of an older boot, of a newer one, and what only a logger sends
+    [*ended, hello(2), about("Forget"), about("Forget", 3), about("Forgotten", 2), message(LIST, 2, b"\0\0"), about("Forget", 2)],
+    # damaged, cut, longer, and of no boot
+    [*ended, about("Forget")[:-1] + "9", about("Forget")[:-2], about("Forget") + "00", about("Forget", 0), message(LIST, 1, b"\0\0")],
+    [about("Forget"), about("Forget", 1, 0, 0)],
+]
+for talk in forgetting:
+    for more in (" --forget yes", ""):
+        run(LONE + str(len(talk)) + more, [(FROM, data) for data in talk])
+        run(LONE + str(len(talk)) + more + WAN, far([(FROM, data) for data in talk]))
+run(LONE + str(len(forgetting[0])) + " --forget yes", [(FROM, data) for data in forgetting[0]], way="own")
 line("# a logger of one profile takes no message of the other's version", "# a logger of one profile takes no message of the other's version")
 for talk in (*talks[:1], kinds):
     comes = [(FROM, data) for data in talk]

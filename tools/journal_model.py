@@ -14,6 +14,9 @@ import random
 import sys
 from struct import pack
 
+from lasting_model import Forget, Named, read_forget
+from lasting_model import Log as LastingLog
+from lasting_model import spelled as forget_spelled
 from loggers import Log, Message
 from twin_model import ANSWERS, PLAIN, WIDE, read_message, spell_message, spelled
 
@@ -69,13 +72,14 @@ def shown(data):
 
 
 def first(body):
-    """The first message of a body and its version, and how long it is; or None."""
+    """The first message of a body and its version, if it is one of the log, and how long it is; or None."""
     size = int.from_bytes(body[4:6], "big") if len(body) >= 6 else 0
     for version in (PLAIN, WIDE):
         message = read_message(body[:size], version)
         if message is not None and size <= len(body):
             return message, version, size
-    return None
+    message = read_forget(body[:size])
+    return None if message is None or size > len(body) else (message, None, size)
 
 
 def apart(body):
@@ -92,7 +96,7 @@ def apart(body):
 
 def is_other(bodies, version):
     found = first(bodies[0]) if bodies else None
-    return found is not None and found[1] != version
+    return found is not None and found[1] not in (None, version)
 
 
 def walk(data):
@@ -202,7 +206,7 @@ class Kept:
     """The log, where the next block begins, and what waits."""
 
     def __init__(self, version):
-        self.log, self.salt, self.tip, self.round, self.version = Log(), b"", (HEADER, 1, b""), b"", version
+        self.log, self.salt, self.tip, self.round, self.version = LastingLog(), b"", (HEADER, 1, b""), b"", version
 
     def hear(self, message):
         return None if message.name in ANSWERS else self.log.answer(message)
@@ -231,6 +235,8 @@ class Kept:
         answer = self.hear(message)
         if self.state() != before:
             self.round += data
+        if isinstance(answer, Forget):
+            return forget_spelled(answer, data[16:22])
         return b"" if answer is None else spell_message(answer, self.version)
 
     def state(self):
@@ -355,7 +361,7 @@ class Bench:
         data = bytes.fromhex(rest)
         if self.kept is None:
             return "no log"
-        message = read_message(data, self.kept.version)
+        message = read_message(data, self.kept.version) or read_forget(data)
         if message is None:
             return "no message"
         if len(self.kept.round) + 1491 > ROUND:
@@ -657,6 +663,37 @@ def large():
     order("death 9999 0 0\nopen\nentry 0")
 
 
+def about(kind, boot=5, cisn=1000, sisn=5000, key=KEY):
+    """A message about forgetting."""
+    return forget_spelled(Forget(kind, boot, Named(key, cisn, sisn)), key)
+
+
+def forgotten():
+    order("# A Forget that recycles an entry is kept, and no other: a commit behind each message. A log that gave entries up is read again as such.\nbegin 7")
+    given(hello(5), opening(5), opening(5, OTHER), data(5, 0, b"abc"), about("Forget"), about("Forgotten"))
+    order("commit")
+    given(done(5))
+    order("commit")
+    for message in (about("Forget", 4), about("Forget", 6), about("Forget", 5, 1001), about("Forget", 5, 1000, 5001), about("Forget", key=OTHER), about("Forgotten"), about("Forget"), about("Forget")):
+        given(message)
+        order("commit\nstate")
+    given(opening(5), data(5, 0, b"defg"))
+    order("entry 0\nentry 1\nentry 2\ncommit\ndeath 9999 0 0\nopen\nentry 0\nentry 1\nentry 2")
+    given(done(5), about("Forget"))
+    order("compact 8\nstate\nentry 0\ndeath 9999 0 0\nopen\nentry 0\nentry 1")
+    order("# Places that come back: 200 connections, one after another, with a new file at each fiftieth.\nbegin 7")
+    given(hello(5))
+    for turn in range(200):
+        key = pack(">IH", 7, turn % 3)
+        given(opening(5, key), data(5, 0, b"x", key=key), done(5, key), about("Forget", key=key))
+        order("commit" + f"\ncompact {turn}" * (turn % 50 == 49))
+    order("state\ndeath 9999 0 0\nopen")
+    order("# In a file: a Forget at the beginning of a block, of a connection without an entry, of another boot, damaged, and cut.")
+    begun = hello(5) + opening(5) + done(5)
+    for bodies in ((begun, about("Forget")), (begun + about("Forget") + opening(5),), (about("Forget"), begun), (begun, about("Forget", 4)), (begun, about("Forget")[:-1] + b"."), (begun + about("Forget")[:20],)):
+        order(f"file {file_of(*bodies).hex()}\nopen\nstate\nentry 0\nprofile wan\nopen\nprofile plain")
+
+
 def cases():
     changes()
     damage()
@@ -666,6 +703,7 @@ def cases():
     large()
     replaced()
     grammars()
+    forgotten()
 
 
 def make():

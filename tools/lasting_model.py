@@ -155,11 +155,23 @@ def spelled(said, key):
     def whole(check):
         return struct.pack(">2sBBHHQ", b"FW", 1, number, 16 + len(body), check, said.boot) + body
 
-    data = whole(0)
+    return whole(0xFFFF - summed(whole(0)))
+
+
+def read_forget(data):
+    """The message about forgetting that bytes spell, with its key as a number; or None."""
+    if len(data) != 30 or data[:3] != b"FW\1" or data[3] not in (1, 2) or data[4:6] != b"\0\x1e" or not any(data[8:16]):
+        return None
+    said = Forget(("Forget", "Forgotten")[data[3] - 1], *struct.unpack(">Q", data[8:16]), Named(int.from_bytes(data[16:22], "big"), *struct.unpack(">II", data[22:])))
+    return said if summed(data) == 0xFFFF else None
+
+
+def summed(data):
+    """The sum of the words of an even number of bytes, with each carry added."""
     total = sum(struct.unpack(f">{len(data) // 2}H", data))
     while total >> 16:
         total = (total & 0xFFFF) + (total >> 16)
-    return whole(0xFFFF - total)
+    return total
 
 
 def key_named(content):

@@ -3,12 +3,14 @@
 
     tools/log_status.py --logger 10.77.0.3:7008 [--warn PLACES] [--wait SECONDS] [--watch]
 
-    boot 7: 3 of 64 places
+    boot 7: 3 of 64 places, 1 empty, 1 done
     192.0.2.1:40000 bytes 1024 fin 0 reads 3 acknowledged 800 done 0
     ..
 
 `bytes`, `reads` and `fin` are what is logged of the client's stream, `acknowledged` what the client has acknowledged of the output, and `done` is 1 once the
-connection has ended. An ended connection keeps its place. --watch prints all of it every 60 seconds.
+connection has ended. An ended connection keeps its place; where the server has --forget and the logger `--forget yes`, until the quarantine is over. The first
+line counts the places of connections that are done, and of those of which nothing is logged: such a client hasn't sent anything yet, or is half-open. --watch
+prints all of it every 60 seconds.
 
 A logger with the profile wan takes only messages of version 2, and any other only those of version 1. It is asked with version 1 first, and with 2 where nothing
 answers; the first line then ends with `, profile wan`. A server of the other profile gets no answer from it.
@@ -139,13 +141,20 @@ def line(entry):
     return f"{socket.inet_ntoa(ip)}:{port} bytes {length} fin {fin} reads {reads} acknowledged {acknowledged} done {done}"
 
 
+def counts(entries):
+    """How many places are used, and of those how many are empty, and how many done, if there are any."""
+    done = sum(entry[8] for entry in entries)
+    empty = sum(not any(entry[6:11]) for entry in entries)
+    return f"{len(entries)} of {PLACES} places" + f", {empty} empty" * (empty > 0) + f", {done} done" * (done > 0)
+
+
 def report(logger, warn):
     """Prints what the logger holds, and gives the exit status."""
     entries = logger.entries()
     if entries is None:
         print("no answer: there is no logger, no server of its profile has spoken to it, or it has boot 1 and no connection", file=sys.stderr)
         return 3
-    print(f"boot {logger.boot}: {len(entries)} of {PLACES} places" + (", profile wan" if logger.version == WIDE else ""))
+    print(f"boot {logger.boot}: {counts(entries)}" + (", profile wan" if logger.version == WIDE else ""))
     for entry in entries:
         print(line(entry))
     sys.stdout.flush()

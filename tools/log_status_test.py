@@ -75,21 +75,21 @@ class States(unittest.TestCase):
         log.answer(Message("Data", 7, {"key": first, "offset": 11, "acked": 4, "fin": 0, "bytes": b""}))
         log.answer(Message("Data", 7, {"key": first, "offset": 11, "acked": 4, "fin": 1, "bytes": b"!"}))
         log.answer(Message("Done", 7, {"key": second}))
-        lines = ["boot 7: 2 of 64 places", "192.0.2.1:40000 bytes 12 fin 1 reads 1 acknowledged 4 done 0"]
+        lines = ["boot 7: 2 of 64 places, 1 done", "192.0.2.1:40000 bytes 12 fin 1 reads 1 acknowledged 4 done 0"]
         self.assertEqual(self.ask(log), (0, [*lines, "198.51.100.255:65535 bytes 0 fin 0 reads 0 acknowledged 0 done 1"], []))
         self.assertEqual((log.boot, len(log.entries)), (7, 2))
 
     def test_wide(self):
         """A logger that takes only messages of version 2 is named."""
         with StandIn(logger(log_of(7, clients(1)), WIDE)) as there:
-            self.assertEqual(run(there.where, "--wait", WAIT), (0, ["boot 7: 1 of 64 places, profile wan", FULL[0]], []))
+            self.assertEqual(run(there.where, "--wait", WAIT), (0, ["boot 7: 1 of 64 places, 1 empty, profile wan", FULL[0]], []))
 
     def test_empty(self):
         self.assertEqual(self.ask(log_of(2, [])), (0, ["boot 2: 0 of 64 places"], []))
 
     def test_first_boot(self):
         """A log with boot number 1 is listed once it has a connection; before that it doesn't answer."""
-        self.assertEqual(self.ask(log_of(1, clients(1))), (0, ["boot 1: 1 of 64 places", FULL[0]], []))
+        self.assertEqual(self.ask(log_of(1, clients(1))), (0, ["boot 1: 1 of 64 places, 1 empty", FULL[0]], []))
         status, out, err = self.ask(log_of(1, []))
         self.assertEqual((status, out, len(err)), (3, [], 1))
 
@@ -98,7 +98,7 @@ class States(unittest.TestCase):
         self.assertEqual((status, out, len(err)), (3, [], 1))
 
     def test_warning(self):
-        self.assertEqual(self.ask(log_of(3, clients(64))), (1, ["boot 3: 64 of 64 places", *FULL], []))
+        self.assertEqual(self.ask(log_of(3, clients(64))), (1, ["boot 3: 64 of 64 places, 64 empty", *FULL], []))
         for used, words, wanted in ((55, (), 0), (56, (), 1), (1, ("--warn", "1"), 1), (63, ("--warn", "64"), 0)):
             self.assertEqual(self.ask(log_of(3, clients(used)), *words)[0], wanted, (used, words))
 
@@ -129,7 +129,7 @@ class Answers(unittest.TestCase):
             times[data] += 1
             return right(data, asker) if times[data] > 2 else []
 
-        self.assertEqual(self.ask(third, "0.4"), (0, ["boot 4: 2 of 64 places", *FULL[:2]], []))
+        self.assertEqual(self.ask(third, "0.4"), (0, ["boot 4: 2 of 64 places, 2 empty", *FULL[:2]], []))
 
     def test_bad(self):
         """None of these is an answer to the question for entry 0 by boot number 1."""
@@ -157,7 +157,7 @@ class Answers(unittest.TestCase):
 
     def test_bad_before_right(self):
         right = logger(log_of(4, clients(64)))
-        self.assertEqual(self.ask(lambda data, asker: [b"junk", *right(data, asker)], "0.5")[1][0], "boot 4: 64 of 64 places")
+        self.assertEqual(self.ask(lambda data, asker: [b"junk", *right(data, asker)], "0.5")[1][0], "boot 4: 64 of 64 places, 64 empty")
 
     def test_others(self):
         """What another address says isn't the logger's."""
@@ -180,7 +180,7 @@ class Answers(unittest.TestCase):
             return logger(logs[count[0] > 9])(data, asker)
 
         lines = [f"198.51.100.7:{1 + place} bytes 0 fin 0 reads 0 acknowledged 0 done 0" for place in range(64)]
-        self.assertEqual(self.ask(restarted, "0.5"), (1, ["boot 9: 64 of 64 places", *lines], []))
+        self.assertEqual(self.ask(restarted, "0.5"), (1, ["boot 9: 64 of 64 places, 64 empty", *lines], []))
 
 
 class Words(unittest.TestCase):

@@ -8,9 +8,9 @@ It sends the server an acknowledgement from a port that has no connection. A ser
 the log is used. It asks at most three times, each time from another port.
 
 That isn't enough for a client to open: the logger has to be up, with the log that the server began with, and with a free place. A server whose logger has died
-since, or was started again with a new log, answers all the same. So with --logger it asks the logger, too, as tools/log_status.py does, and prints `serves`
-only if both answer and a place is free. With --boot, the server's boot number, it also requires the logger to have that one: if the logger's is larger, the
-server is fenced. Without --logger it prints `answers`.
+since, or was started again with a new log, answers all the same. So with --logger it asks the logger, too, as tools/log_status.py does, and prints `serves`, and
+how many places are used, only if both answer and a place is free. With --boot, the server's boot number, it also requires the logger to have that one: if the
+logger's is larger, the server is fenced. Without --logger it prints `answers`.
 
 Never name a logger that runs with --part: it would treat the questions as its server's.
 
@@ -27,7 +27,7 @@ import sys
 import time
 
 from internet import ACK, RST, address, fields, segment
-from log_status import PLACES, Logger
+from log_status import PLACES, Logger, counts
 
 TRIES = 3
 
@@ -59,8 +59,8 @@ def state_of_log(where, boot, wait):
     if boot is not None and logger.boot != boot:
         return 1, f"no client can open: the log has boot number {logger.boot}, and the server {boot}"
     if len(entries) == PLACES:
-        return 1, f"no further client can open: all {PLACES} places of the log are used"
-    return 0, "serves"
+        return 1, f"no further client can open: {counts(entries)} of the log are used"
+    return 0, f"serves; {counts(entries)}"
 
 
 def state(given):

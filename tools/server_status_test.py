@@ -110,9 +110,11 @@ class Loggers(unittest.TestCase):
     def check(self, log, boot, *words, version=PLAIN):
         """Whether it says that the server serves is whether an Open of the server's boot number is answered by Opened."""
         status, out, err = self.ask(logger(log, version), *words)
+        used = len(log.entries)
         opened = log.answer(Message("Open", boot, {"key": 1, "cisn": 1, "sisn": 2, "mss": 536}))
         can_open = opened is not None and opened.name == "Opened"
-        self.assertEqual((status, out) if can_open else (status > 0, out), (0, "serves") if can_open else (True, ""))
+        said = f"serves; {used} of 64 places" + f", {used} empty" * (used > 0)
+        self.assertEqual((status, out) if can_open else (status > 0, out), (0, said) if can_open else (True, ""))
         return status, err
 
     def test_places(self):

@@ -50,7 +50,7 @@ spared n log e d found other = ⊎_elim (λ same. whole n log same) on (either n
         let sisn = eq-eqb e.sisn n.sisn (ap (λ x. x.sisn) here ∙ r.sisn) in
         absurd (true≢false (sym (and_from _ _ (and_from _ _ cisn sisn) (ap (λ x. x.done) here ∙ r.done)) ∙ other))
 
-shorter : (q : Entry → Bool) (es : List Entry) → length (others q es) ≤ length es
+pub shorter : (q : Entry → Bool) (es : List Entry) → length (others q es) ≤ length es
 shorter q [] = omega arith
 shorter q (x ∷ es) = go (q x) refl (shorter q es)
   where

@@ -1,1 +1,2 @@
 pub mod Forgets
+pub mod AnyLogs

@@ -1,9 +1,10 @@
 //! What the log does with a message about forgetting.
 
-ghost use Rattle.std.specs.Prelude.{◌≡◌, ◌==◌, ◌&&◌, option_map, IfSome};
+ghost use Rattle.std.specs.Prelude.{◌≡◌, ◌==◌, ◌&&◌, false, option_map, IfSome};
 ghost use Rattle.std.specs.List.{list_any};
-ghost use Rattle.long_laws.specs.Forgetting.{forgotten_in, is_entry_of, after_forget, answer_to_forget};
-ghost use Rattle.forget_wire.specs.Value.{named_said, message_of};
+ghost use Rattle.long_laws.specs.Forgetting.{forgotten_in, is_entry_of, is_recycled, after_forget, answer_to_forget};
+ghost use Rattle.forget_wire.specs.Value.{named_said, body_of, message_of};
+ghost use Rattle.forget_store.specs.AnyMessage.{recycles as recycles_lem};
 ghost use Rattle.forget_store.specs.Replies.{reply_said, IsSendable};
 ghost use Rattle.long_laws.specs.ForgetGrammar.{IsSpellable};
 
@@ -26,6 +27,28 @@ fn has_entry(log: &LogStore, named: &Named) -> bool
     match log.head_of(named.key) {
         Some(head) => is_its(&head, named),
         None => false,
+    }
+}
+
+/// Whether the log has the entry of this connection, and it is done.
+fn has_done_entry(log: &LogStore, named: &Named) -> bool
+    ensures { result ≡ list_any (is_recycled (named_said named.now)) log.now.entries }
+{
+    match log.head_of(named.key) {
+        Some(head) => is_its(&head, named) && head.done,
+        None => false,
+    }
+}
+
+/// Whether a message about forgetting changes the log: it has the log's boot number, and recycles an entry.
+#[tactic(auto, using(crate::proofs::AnyLogs::unchanged))]
+pub(crate) fn recycles(log: &LogStore, m: &ForgetMsg) -> bool
+    ensures value { result ≡ (m.now.boot == log.now.boot && recycles_lem (body_of m.now.body) log.now) }
+    ensures stays { result ≡ false → after_forget log.now (message_of m.now) ≡ log.now }
+{
+    match &m.body {
+        ForgetBody::Forget(named) => m.boot == log.boot() && has_done_entry(log, named),
+        ForgetBody::Forgotten(_) => false,
     }
 }
 

@@ -3,10 +3,12 @@
 #![tactic(auto)]
 
 pub use forgetting::take_forget;
+pub use heeding::{AnyMsg, Heeded, is_changed, read_heeded, take_any};
 pub use reply::Reply;
 pub use store::{AnswerOut, answer};
 
 mod excluded;
 mod forgetting;
+mod heeding;
 mod reply;
 mod store;

@@ -1,10 +1,12 @@
 //! The log over bytes, with room for one answer.
 
-ghost use Rattle.std.specs.Prelude.{[], ◌≡◌, ◌≤◌, ◌<◌, Some, OnOk, OnErr};
+ghost use Rattle.std.specs.Prelude.{[], ◌≡◌, ◌≤◌, ◌<◌, Some, false, IsOk, OnOk, OnErr};
 ghost use Rattle.seq_arith.specs.Message.Body.{StaleMsg};
 ghost use Rattle.long_laws.specs.ForgetGrammar.{IsSpellable, spelling};
 ghost use Rattle.long_laws.specs.Forgetting.{forgotten_message, after_forget, answer_to_forget};
-ghost use Rattle.logger_store.specs.StoreState.{answer_bytes_by};
+ghost use Rattle.ft_model.specs.Log.{log_after, answer_to};
+ghost use Rattle.logger_store.specs.StoreState.{answer_bytes_by, wants_memory};
+ghost use Rattle.logger_wire.specs.Value.{message_of as msg_said, IsSendableBy};
 ghost use Rattle.forget_wire.specs.Value.{named_said, message_of};
 ghost use Rattle.forget_store.specs.Replies.{reply_said, reply_bytes, after_bytes, answer_to_bytes, IsSendable};
 
@@ -94,6 +96,37 @@ impl AnswerOut {
             Reply::Forgotten { boot, named } => self.put_forgotten(boot, named),
             Reply::Stale { boot, newer } => self.put_stale(grammar, boot, newer),
         }
+    }
+}
+
+impl AnswerOut {
+    /// Applies a message of the log to it, and replaces the content by the answer, or by nothing.
+    pub(crate) fn take_usual(
+        &mut self,
+        log: &mut LogStore,
+        alloc: Global,
+        grammar: Grammar,
+        m: &Msg<'_>,
+    ) -> Result<(), NoMemory>
+        requires { IsSendableBy grammar m.now }
+        ensures next { OnOk result (log.new ≡ log_after log.old (msg_said m.now)) }
+        ensures answer { OnOk result (self.new ≡ answer_bytes_by grammar (answer_to log.old (msg_said m.now))) }
+        ensures refused { OnErr result (log.new ≡ log.old) }
+        ensures empty { OnErr result (self.new ≡ []) }
+        ensures memory { wants_memory log.old (msg_said m.now) ≡ false → IsOk result }
+    {
+        self.forgotten = None;
+        log.answer_by(alloc, grammar, m, &mut self.of_log)
+    }
+
+    /// Applies a message about forgetting to the log, and replaces the content by the answer, or by nothing.
+    pub(crate) fn take_forgetting(&mut self, log: &mut LogStore, grammar: Grammar, m: &ForgetMsg)
+        requires { IsSpellable (message_of m.now) }
+        ensures next { log.new ≡ after_forget log.old (message_of m.now) }
+        ensures answer { self.new ≡ reply_bytes grammar (answer_to_forget log.old (message_of m.now)) }
+    {
+        self.clear();
+        receive_forget(log, grammar, m, self);
     }
 }
 

@@ -33,13 +33,13 @@ received_of : (received : List Received) → received_in (turns_of received) ≡
 received_of [] = refl
 received_of (last ∷ earlier) = ap (λ l. last ∷ l) (received_of earlier)
 
-round_front : (at : Place) (received : List Received) (done : List DiskCall) → IsFrontOf (committing at.tip (changes_in at.grammar at.log received)) done
+round_front : (at : Place) (received : List Received) (done : List DiskCall) → IsFrontOf (committing at.tip (changes_in at.heeded at.log received)) done
     → IsFront (round_calls at (turns_of received)) (on_link (receives received) ++ on_disk done)
 round_front at received done f =
-    subst (λ l. IsFront (on_link (receives l) ++ (on_disk (committing at.tip (changes_in at.grammar at.log l)) ++ on_link (answers_in at.grammar at.log (turns_of received)))) (on_link (receives received) ++ on_disk done))
+    subst (λ l. IsFront (on_link (receives l) ++ (on_disk (committing at.tip (changes_in at.heeded at.log l)) ++ on_link (answers_in at.heeded at.log (turns_of received)))) (on_link (receives received) ++ on_disk done))
     (sym (received_of received))
-    (behind_all (on_link (receives received)) (on_disk (committing at.tip (changes_in at.grammar at.log received)) ++ on_link (answers_in at.grammar at.log (turns_of received))) (on_disk done)
-    (disk_part (committing at.tip (changes_in at.grammar at.log received)) done (on_link (answers_in at.grammar at.log (turns_of received))) f))
+    (behind_all (on_link (receives received)) (on_disk (committing at.tip (changes_in at.heeded at.log received)) ++ on_link (answers_in at.heeded at.log (turns_of received))) (on_disk done)
+    (disk_part (committing at.tip (changes_in at.heeded at.log received)) done (on_link (answers_in at.heeded at.log (turns_of received))) f))
 
 -- what stands of a life
 abbrev pub IsMoment : Place → Addr → List Step → List DeskCall → Type 0
@@ -54,7 +54,7 @@ no_round start local rounds [] all f =
 no_round start local rounds (call ∷ done) all f = absurd f
 
 one_round : (start : Place) (local : Addr) (rounds : List Step) (received : List Received) (done : List DiskCall) → AreSteps start rounds → IsRound received
-    → IsFrontOf (committing (place_after start rounds).tip (changes_in (place_after start rounds).grammar (place_after start rounds).log received)) done
+    → IsFrontOf (committing (place_after start rounds).tip (changes_in (place_after start rounds).heeded (place_after start rounds).log received)) done
     → IsMoment start local rounds (on_link (receives received) ++ on_disk done)
 one_round start local rounds received done all is_round f = (
   Turned (turns_of received) ∷ rounds,
@@ -70,7 +70,7 @@ pub moment : (start : Place) (local : Addr) (rounds : List Step) (received : Lis
     → IsUnanswered (place_after start rounds) received cut → IsMoment start local rounds cut
 moment start local rounds received cut all u = subst (IsMoment start local rounds) (sym u.calls_are) (by received u.is_round u.front)
   where
-    by : (received : List Received) → (received ≡ []) ⊎ IsRound received → IsFrontOf (committing (place_after start rounds).tip (changes_in (place_after start rounds).grammar (place_after start rounds).log received)) u.done
+    by : (received : List Received) → (received ≡ []) ⊎ IsRound received → IsFrontOf (committing (place_after start rounds).tip (changes_in (place_after start rounds).heeded (place_after start rounds).log received)) u.done
         → IsMoment start local rounds (on_link (receives received) ++ on_disk u.done)
     by [] is f = no_round start local rounds u.done all f
     by (last ∷ earlier) (inl none) f = cc

@@ -1,6 +1,6 @@
 -- The premise on what a death leaves, at a moment at which only one file may have the name.
 use Rattle.std.proofs.Common.{◌≡◌, ◌∙◌, inl, inr, ℕ, Bool, true, false, Some, refl, ap, subst, List, [], ◌∷◌, ◌++◌}
-use Rattle.seq_arith.specs.declared.kinds.Grammar.{Grammar}
+use Rattle.forget_store.specs.declared.heeding.Heeded.{Heeded}
 use Rattle.disk.specs.Remains.{IsFrontOf}
 use Rattle.disk.specs.declared.calls.DiskCall.{DiskCall}
 use Rattle.disk.specs.declared.calls.DiskCall.TheVariants.{Appended, Put, Cut, Synced, Replaced}
@@ -54,9 +54,9 @@ settled_cutting end [] = refl
 settled_cutting end (byte ∷ tail) = refl
 
 -- those of an opening
-pub settled_opening : (grammar : Grammar) (begins : Bool) (file : List ℕ) (opening : List DiskCall) (torn : ℕ) (start : Place) → Starts grammar begins (Some file) opening torn start
+pub settled_opening : (heeded : Heeded) (begins : Bool) (file : List ℕ) (opening : List DiskCall) (torn : ℕ) (start : Place) → Starts heeded begins (Some file) opening torn start
     → is_unsettled false opening ≡ false
-settled_opening grammar false file opening torn start opens =
+settled_opening heeded false file opening torn start opens =
     let whole = (opens.finds file refl).0 in
     ap (is_unsettled false) whole.calls_are ∙ settled_cutting (tip_of opens.made opens.bodies).end whole.tail
-settled_opening grammar true file opening torn start makes = ap (is_unsettled false) makes.opening_is
+settled_opening heeded true file opening torn start makes = ap (is_unsettled false) makes.opening_is

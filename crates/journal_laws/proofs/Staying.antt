@@ -10,10 +10,8 @@ use Rattle.seq_arith.specs.Message.{Message, Body, is_answer}
 use Rattle.seq_arith.specs.Message.Body.{OpenMsg, DataMsg, ReadMsg, DoneMsg}
 use Rattle.ft_model.specs.Log.{Log, Entry, log_after, with_message, with_body, with_entry, entry_of, with_part, with_read, is_next_read, is_hello}
 use Rattle.ft_model.specs.Keys.{AreDistinct, has_key}
-use Rattle.ft_model.proofs.Asked.{entry_keys, distinct_after}
+use Rattle.ft_model.proofs.Asked.{entry_keys}
 use Rattle.ft_model.proofs.Lists.{same_key}
-use Rattle.ft_model.proofs.LogAnswers.{log_went}
-use Rattle.trace_laws.specs.NeededMessages.{log_after_all}
 use Rattle.logger_store.specs.Changes.{part_changes, body_changes, changes}
 use Rattle.logger_store.proofs.Changed.{part_stays, read_stays, end_stays, open_stays, and_rest}
 
@@ -68,11 +66,3 @@ stays log message d none =
     by_cases (message.boot == log.boot)
     (λ b. if_true (message.boot == log.boot) (with_body message.body log) log b ∙ body_stays message.body log d (and_rest (message.boot == log.boot) _ b no))
     (λ b. if_false (message.boot == log.boot) (with_body message.body log) log b)))
-
--- the keys of a log differ that messages made
-pub distinct_next : (log : Log) (message : Message) → AreDistinct (entry_keys log) → AreDistinct (entry_keys (log_after log message))
-distinct_next log message d = distinct_after log message (log_after log message) (log_went log message) d
-
-pub distinct_all : (log : Log) (messages : List Message) → AreDistinct (entry_keys log) → AreDistinct (entry_keys (log_after_all log messages))
-distinct_all log [] d = d
-distinct_all log (message ∷ messages) d = distinct_all (log_after log message) messages (distinct_next log message d)

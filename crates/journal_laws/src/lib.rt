@@ -8,7 +8,8 @@ ghost use Rattle.std.specs.Option.{option_to_list, option_map};
 ghost use Rattle.ft_io.specs.declared.Addr.{Addr};
 ghost use Rattle.ft_io.specs.declared.link_call.LinkCall.TheVariants.{Bound};
 ghost use Rattle.seq_arith.specs.Message.{Message};
-ghost use Rattle.seq_arith.specs.declared.kinds.Grammar.{Grammar};
+ghost use Rattle.forget_store.specs.declared.heeding.Heeded.{Heeded};
+ghost use Rattle.forget_store.specs.AnyMessage.{log_after_each};
 ghost use Rattle.server_trait.specs.Service.{machine};
 ghost use Rattle.ft_model.specs.Log.{Log, log_after, answer_to};
 ghost use Rattle.ft_model.specs.Network.{packet_at};
@@ -17,7 +18,6 @@ ghost use Rattle.ft_model.specs.World.{World};
 ghost use Rattle.ft_model.specs.declared.event.Event.TheVariants.{Deliver};
 ghost use Rattle.trace_laws.specs.Deaths.{MayHappen};
 ghost use Rattle.trace_laws.specs.Deaths.Step.{Calm, Dies};
-ghost use Rattle.trace_laws.specs.NeededMessages.{log_after_all};
 ghost use Rattle.disk.specs.Remains.{IsFrontOf, LeftBy};
 ghost use Rattle.disk.specs.CallRecord.{on_disk, disk_calls};
 ghost use Rattle.disk.specs.declared.calls.DiskCall.{DiskCall};
@@ -38,11 +38,11 @@ use server_trait::Service;
 /// to the last answer, and maybe more, in their order. So it is while a new file takes the old one's place, too. The premise on the death is that no whole
 /// block is in the file that wasn't written.
 pub fn what_was_answered_is_there()
-    ensures { (grammar : Grammar) (begins : Bool) (file : List ℕ) (opening : List DiskCall) (torn : ℕ) (start : Place) (local : Addr) (rounds : List Step)
+    ensures { (heeded : Heeded) (begins : Bool) (file : List ℕ) (opening : List DiskCall) (torn : ℕ) (start : Place) (local : Addr) (rounds : List Step)
         (done : List DeskCall) (left : List ℕ)
-        → Starts grammar begins (Some file) opening torn start → (begins ≡ true → file ≡ []) → AreSteps start rounds
+        → Starts heeded begins (Some file) opening torn start → (begins ≡ true → file ≡ []) → AreSteps start rounds
         → IsFront (OnLink (Bound local) ∷ calls_of start rounds) done → LeftBy file (λ c. c ≡ file) (disk_calls (on_disk opening ++ done)) left
-        → BringsNoneBy file (disk_calls (on_disk opening ++ done)) left → Outlives grammar start.log done left }
+        → BringsNoneBy file (disk_calls (on_disk opening ++ done)) left → Outlives heeded start.log done left }
 {}
 
 /// A logger that stopped in a round, or after its last one, or while a new file was to take its file's place, has made the calls of some moment of a run. So
@@ -60,10 +60,10 @@ pub fn an_unanswered_round_is_a_moment()
 
 /// A death while a journal is opened leaves the log that the journal had.
 pub fn an_opening_takes_nothing()
-    ensures { (grammar : Grammar) (file made : List ℕ) (bodies : List (List ℕ)) (opening done : List DiskCall) (tip : Tip) (log : Log) (left : List ℕ)
+    ensures { (heeded : Heeded) (file made : List ℕ) (bodies : List (List ℕ)) (opening done : List DiskCall) (tip : Tip) (log : Log) (left : List ℕ)
         → IsWhole file made bodies opening
         → HasLog made bodies tip log → IsFrontOf opening done → LeftBy file (λ c. c ≡ file) done left → BringsNone (seen_by file done) left
-        → Outlives grammar log (on_disk done) left }
+        → Outlives heeded log (on_disk done) left }
 {}
 
 /// In every world, receiving a message that was sent to the logger, and sending the log's answer to it, is the delivery of a packet.
@@ -74,11 +74,11 @@ pub fn an_answer_is_a_delivery<S: Service>()
         (record world { log = log_after world.log message; packets = world.packets ++ option_to_list (option_map From_logger (answer_to world.log message)) }) }
 {}
 
-/// A process has died, and after the restart its log may have messages that it hadn't answered. In a world this is a death of the logger, which then has this
-/// log.
+/// A process has died, and after the restart its log may have messages that it hadn't answered. In a world without messages about forgetting this is a death of
+/// the logger, which then has this log.
 pub fn a_death_is_a_step<S: Service>()
-    ensures { (grammar : Grammar) (kind : ℕ) (world : World) (numbers : List ℕ) (before after : Log) (calls : List DeskCall)
-        (back : ComesBack grammar before after calls)
-        → world.log ≡ log_after_all before back.answered → AreUnderWay world.packets numbers back.kept
+    ensures { (heeded : Heeded) (kind : ℕ) (world : World) (numbers : List ℕ) (before after : Log) (calls : List DeskCall)
+        (back : ComesBack heeded before after calls)
+        → world.log ≡ log_after_each before back.answered → AreUnderWay world.packets numbers back.kept
         → MayHappen (machine (S.started kind) S.after S.greeting) world (Dies numbers) [] (record world { log = after }) }
 {}

@@ -23,8 +23,8 @@ receives_count (last ∷ earlier) = length-append (receives earlier) (received_a
 received_behind : (before : KeptState) (last : Received) (earlier : List Received)
     → with_received (with_all_received before earlier) last ≡ with_all_received before (last ∷ earlier)
 received_behind before last earlier =
-    ap (λ bytes. record before { log = log_behind before.grammar before.log (last ∷ earlier); round = bytes })
-    (append_assoc before.round (changes_in before.grammar before.log earlier) (change_by before.grammar (log_behind before.grammar before.log earlier) last))
+    ap (λ bytes. record before { log = log_behind before.heeded before.log (last ∷ earlier); round = bytes })
+    (append_assoc before.round (changes_in before.heeded before.log earlier) (change_by before.heeded (log_behind before.heeded before.log earlier) last))
 
 with_none_received : (kept : KeptState) → with_all_received kept [] ≡ kept
 with_none_received kept = ap (λ bytes. record kept { round = bytes }) (append-nil kept.round)
@@ -45,7 +45,7 @@ record Goes (received : List Received) (before after : KeptState) (old new : Opt
   reports : Reports old new (on_link (receives received))
   counts_are : counts ≡ with_calls counted (receives received)
   after_is : after ≡ with_all_received before received
-  answers_are : answers ≡ replies_to before.grammar before.log received
+  answers_are : answers ≡ replies_to before.heeded before.log received
 
 proceeds : (i : ℕ) (more : Bool) (before mid after : KeptState) (old between new : Option (List DeskCall)) (c k counts : Counts) (waiting answers : List Answer)
     → (s : IsGathering i before mid old between c k waiting) → (t : HasTaken more mid after between new k counts waiting answers)
@@ -54,7 +54,7 @@ proceeds i more before mid after old between new c k counts waiting answers s t 
   reports = reports_more old between new (receives s.received) (received_as t.received ∷ []) s.reports t.reports;
   counts_are = t.counts_are ∙ (ap (λ x. with_calls x (received_as t.received ∷ [])) s.counts_are ∙ with_both c (receives s.received) (received_as t.received ∷ []));
   after_is = t.after_is ∙ (ap (λ x. with_received x t.received) s.after_is ∙ received_behind before t.received s.received);
-  answers_are = t.answers_are ∙ ap₂ (λ x (k : KeptState). x ++ reply_to k.grammar k.log t.received) s.answers_are s.after_is;
+  answers_are = t.answers_are ∙ ap₂ (λ x (k : KeptState). x ++ reply_to k.heeded k.log t.received) s.answers_are s.after_is;
 }
 
 pub gathering_on : (i : ℕ) (more : Bool) (before mid after : KeptState) (old between new : Option (List DeskCall)) (c k counts : Counts) (waiting answers : List Answer) → more ≡ true
@@ -106,11 +106,11 @@ gathered i before after old new c counts answers some few s = record {
 
 -- a round ends because memory runs out
 pub gathering_cut : (i most : ℕ) (before mid : KeptState) (old between new : Option (List DeskCall)) (c k : Counts) (answers : List Answer) → i < most → most ≤ 256
-    → IsGathering i before mid old between c k answers → ((r : Received) × (wants_then mid.grammar mid.log r ≡ true) × Reports between new (on_link (received_as r ∷ [])))
-    → IsCutGathering most before.grammar before.log old new
+    → IsGathering i before mid old between c k answers → ((r : Received) × (wants_then mid.heeded mid.log r ≡ true) × Reports between new (on_link (received_as r ∷ [])))
+    → IsCutGathering most before.heeded before.log old new
 gathering_cut i most before mid old between new c k answers lt le s (r, w, t) = record {
   received = r ∷ s.received;
-  wants = ap (λ (k : KeptState). wants_then k.grammar k.log r) (sym s.after_is) ∙ w;
+  wants = ap (λ (k : KeptState). wants_then k.heeded k.log r) (sym s.after_is) ∙ w;
   within = omega (arith, s.count_is);
   is_round = (omega (arith, s.count_is), s.are_datagrams);
   reports = reports_more old between new (receives s.received) (received_as r ∷ []) s.reports t;

@@ -6,9 +6,9 @@ use Rattle.ft_io.specs.Sink.{AppendsFront}
 use Rattle.ft_io.specs.Reported.{Reports}
 use Rattle.ft_io.specs.declared.link_call.LinkCall.TheVariants.{Bound}
 use Rattle.ft_io.proofs.Recordings.{reports_on}
-use Rattle.seq_arith.specs.declared.kinds.Grammar.{Grammar}
+use Rattle.forget_store.specs.declared.heeding.Heeded.{Heeded}
 use Rattle.ft_model.specs.Log.{empty_log}
-use Rattle.trace_laws.specs.NeededMessages.{log_after_all}
+use Rattle.forget_store.specs.AnyMessage.{log_after_each}
 use Rattle.disk.specs.CallRecord.{on_disk}
 use Rattle.disk.specs.declared.calls.DeskCall.{DeskCall}
 use Rattle.disk.specs.declared.calls.DeskCall.TheVariants.{OnLink}
@@ -23,7 +23,7 @@ use Rattle.kept_log.specs.declared.opening.OpenEnd.TheVariants as open_end
 use Rattle.link_parts.specs.Counts.{count_line}
 use Rattle.link_parts.specs.declared.counts.Counts.{Counts}
 use Rattle.link_parts.specs.LineOutput.{ReportStops}
-use Rattle.link_parts.specs.LoggerParts.{grammar_for}
+use Rattle.link_parts.specs.LoggerParts.{heeded_by}
 use Rattle.link_parts.specs.declared.status.NodeEnd.{NodeEnd}
 use Rattle.link_parts.specs.declared.status.NodeEnd.TheVariants as ends
 use Rattle.journal_parts.specs.Ends.{from_open, from_keep, cut_text}
@@ -35,56 +35,56 @@ use Rattle.journal_parts.specs.declared.status.ProcessEnd.{ProcessEnd}
 use Rattle.journal_parts.specs.declared.status.ProcessEnd.TheVariants.{Node, JournalFault, BadJournal, NoJournal, InUse}
 
 -- a file was opened by its name, and the journal in it wasn't
-pub opening_stops : (grammar : Grammar) (file left : Option (List ℕ)) (old mid new : Option (List DeskCall)) (end : OpenEnd) → left ≡ file → Reports old mid [] → HasStopped left mid new end
-    → (end ≡ open_end.OtherGrammar → HasOtherGrammar grammar left) → OpeningStops grammar false file old new (from_open end)
-opening_stops grammar file left old mid new open_end.NoMemory is t s other = reports_on old mid new [] [] t s
-opening_stops grammar file left old mid new open_end.Empty is t (s, none) other = (reports_on old mid new [] [] t s, λ bytes e. none bytes (is ∙ e))
-opening_stops grammar file left old mid new open_end.Unfinished is t (s, part) other = (reports_on old mid new [] [] t s, λ bytes e. part bytes (is ∙ e))
-opening_stops grammar file left old mid new open_end.Older is t (s, older) other = (reports_on old mid new [] [] t s, λ bytes e. older bytes (is ∙ e))
-opening_stops grammar file left old mid new open_end.OtherGrammar is t s other = (reports_on old mid new [] [] t s, λ bytes e. other refl bytes (is ∙ e))
-opening_stops grammar file left old mid new (open_end.Wrong at) is t (s, damaged) other = (reports_on old mid new [] [] t s, (λ bytes e. damaged bytes (is ∙ e)), refl)
-opening_stops grammar file left old mid new open_end.Failed is t (inl s) other = inl (reports_on old mid new [] [] t s)
-opening_stops grammar file left old mid new open_end.Failed is t (inr s) other = inr (record {
+pub opening_stops : (heeded : Heeded) (file left : Option (List ℕ)) (old mid new : Option (List DeskCall)) (end : OpenEnd) → left ≡ file → Reports old mid [] → HasStopped left mid new end
+    → (end ≡ open_end.OtherGrammar → HasOtherGrammar heeded.grammar left) → OpeningStops heeded false file old new (from_open end)
+opening_stops heeded file left old mid new open_end.NoMemory is t s other = reports_on old mid new [] [] t s
+opening_stops heeded file left old mid new open_end.Empty is t (s, none) other = (reports_on old mid new [] [] t s, λ bytes e. none bytes (is ∙ e))
+opening_stops heeded file left old mid new open_end.Unfinished is t (s, part) other = (reports_on old mid new [] [] t s, λ bytes e. part bytes (is ∙ e))
+opening_stops heeded file left old mid new open_end.Older is t (s, older) other = (reports_on old mid new [] [] t s, λ bytes e. older bytes (is ∙ e))
+opening_stops heeded file left old mid new open_end.OtherGrammar is t s other = (reports_on old mid new [] [] t s, λ bytes e. other refl bytes (is ∙ e))
+opening_stops heeded file left old mid new (open_end.Wrong at) is t (s, damaged) other = (reports_on old mid new [] [] t s, (λ bytes e. damaged bytes (is ∙ e)), refl)
+opening_stops heeded file left old mid new open_end.Failed is t (inl s) other = inl (reports_on old mid new [] [] t s)
+opening_stops heeded file left old mid new open_end.Failed is t (inr s) other = inr (record {
   opening = s.calls;
   torn = s.cut;
-  start = record { tip = tip_of s.made s.bodies; log = log_after_all empty_log s.messages; grammar = grammar };
+  start = record { tip = tip_of s.made s.bodies; log = log_after_each empty_log s.messages; heeded = heeded };
   done = s.done;
   starts = record {
     made = s.made;
     bodies = s.bodies;
     has_log = record { time = s.time; messages = s.messages; kept = s.kept; tip_is = refl; log_is = refl };
     finds = λ bytes e. s.finds bytes (is ∙ e);
-    grammar_is = refl;
+    heeded_is = refl;
   };
   front = s.is_front;
   reports = reports_on old mid new [] (on_disk s.done) t s.reports;
 })
 
 -- a file was made, and the journal in it wasn't
-pub making_stops : (grammar : Grammar) (file : Option (List ℕ)) (made : List ℕ) (old mid new : Option (List DeskCall)) (end : KeepEnd) → length made ≡ 8 → Reports old mid [] → HasNotBegun made mid new end
-    → OpeningStops grammar true file old new (from_keep end)
-making_stops grammar file made old mid new keep_end.NoMemory time t s = reports_on old mid new [] [] t s
-making_stops grammar file made old mid new keep_end.Failed time t (done, front, s) = inr (record {
+pub making_stops : (heeded : Heeded) (file : Option (List ℕ)) (made : List ℕ) (old mid new : Option (List DeskCall)) (end : KeepEnd) → length made ≡ 8 → Reports old mid [] → HasNotBegun made mid new end
+    → OpeningStops heeded true file old new (from_keep end)
+making_stops heeded file made old mid new keep_end.NoMemory time t s = reports_on old mid new [] [] t s
+making_stops heeded file made old mid new keep_end.Failed time t (done, front, s) = inr (record {
   opening = making made;
   torn = 0;
-  start = record { tip = first_tip made; log = empty_log; grammar = grammar };
+  start = record { tip = first_tip made; log = empty_log; heeded = heeded };
   done = done;
-  starts = record { made = made; grammar_is = refl; has_log = no_blocks made time; opening_is = refl; none = refl };
+  starts = record { made = made; heeded_is = refl; has_log = no_blocks made time; opening_is = refl; none = refl };
   front = front;
   reports = reports_on old mid new [] (on_disk done) t s;
 })
 
 -- .. and one that was made
-pub made_opens : (grammar : Grammar) (file : Option (List ℕ)) (made : List ℕ) (old mid new : Option (List DeskCall)) (start : Place) → Reports old mid [] → HasLog made [] start.tip start.log
-    → start.grammar ≡ grammar → Reports mid new (on_disk (making made)) → IsOpen grammar true file 0 start old new
-made_opens grammar file made old mid new start t has own s =
-    (making made, record { made = made; grammar_is = own; has_log = has; opening_is = refl; none = refl }, (λ never. absurd (true≢false never)), reports_on old mid new [] (on_disk (making made)) t s)
+pub made_opens : (heeded : Heeded) (file : Option (List ℕ)) (made : List ℕ) (old mid new : Option (List DeskCall)) (start : Place) → Reports old mid [] → HasLog made [] start.tip start.log
+    → start.heeded ≡ heeded → Reports mid new (on_disk (making made)) → IsOpen heeded true file 0 start old new
+made_opens heeded file made old mid new start t has own s =
+    (making made, record { made = made; heeded_is = own; has_log = has; opening_is = refl; none = refl }, (λ never. absurd (true≢false never)), reports_on old mid new [] (on_disk (making made)) t s)
 
-pub found_opens : (grammar : Grammar) (file left : Option (List ℕ)) (old mid new : Option (List DeskCall)) (torn : ℕ) (start : Place) → left ≡ file → Reports old mid []
-    → start.grammar ≡ grammar → HasGrammar grammar left → IsOpened left mid new start.tip torn start.log → IsOpen grammar false file torn start old new
-found_opens grammar file left old mid new torn start is t own has s = (
+pub found_opens : (heeded : Heeded) (file left : Option (List ℕ)) (old mid new : Option (List DeskCall)) (torn : ℕ) (start : Place) → left ≡ file → Reports old mid []
+    → start.heeded ≡ heeded → HasGrammar heeded.grammar left → IsOpened left mid new start.tip torn start.log → IsOpen heeded false file torn start old new
+found_opens heeded file left old mid new torn start is t own has s = (
   s.calls,
-  record { made = s.made; bodies = s.bodies; has_log = s.has_log; finds = λ bytes e. s.finds bytes (is ∙ e); grammar_is = own },
+  record { made = s.made; bodies = s.bodies; has_log = s.has_log; finds = λ bytes e. s.finds bytes (is ∙ e); heeded_is = own },
   (λ _ bytes e. has bytes (is ∙ e)),
   reports_on old mid new [] (on_disk s.calls) t s.reports,
 )
@@ -203,7 +203,7 @@ module _ (role : JournalRole) (start : Place) (torn : ℕ) (old bound new : Opti
 
 -- a whole life
 module _ (role : JournalRole) (file : Option (List ℕ)) (torn : ℕ) (start : Place) (old opened new : Option (List DeskCall)) where
-  pub kept : (Writes Notes : List ℕ → Type 0) → IsOpen (grammar_for role.logger) role.begins file torn start old opened → HasServedNoted role start torn opened new Writes Notes → IsKeeper role file old new Writes Notes
+  pub kept : (Writes Notes : List ℕ → Type 0) → IsOpen (heeded_by role.logger) role.begins file torn start old opened → HasServedNoted role start torn opened new Writes Notes → IsKeeper role file old new Writes Notes
   kept Writes Notes (opening, starts, own, o) l = record {
     opening = opening;
     start = start;
@@ -218,7 +218,7 @@ module _ (role : JournalRole) (file : Option (List ℕ)) (torn : ℕ) (start : P
     noted = l.noted;
   }
 
-  cut : (Notes : List ℕ → Type 0) → IsOpen (grammar_for role.logger) role.begins file torn start old opened → IsCutServingNoted role start torn opened new Notes → IsCutKeeper role file old new Notes
+  cut : (Notes : List ℕ → Type 0) → IsOpen (heeded_by role.logger) role.begins file torn start old opened → IsCutServingNoted role start torn opened new Notes → IsCutKeeper role file old new Notes
   cut Notes (opening, starts, own, o) s = record {
     opening = opening;
     start = start;
@@ -236,7 +236,7 @@ module _ (role : JournalRole) (file : Option (List ℕ)) (torn : ℕ) (start : P
     noted = s.noted;
   }
 
-  unreplaced : (Notes : List ℕ → Type 0) → IsOpen (grammar_for role.logger) role.begins file torn start old opened → IsCutReplacingNoted role start torn opened new Notes → IsCutCompacting role file old new Notes
+  unreplaced : (Notes : List ℕ → Type 0) → IsOpen (heeded_by role.logger) role.begins file torn start old opened → IsCutReplacingNoted role start torn opened new Notes → IsCutCompacting role file old new Notes
   unreplaced Notes (opening, starts, own, o) s = record {
     opening = opening;
     start = start;
@@ -253,7 +253,7 @@ module _ (role : JournalRole) (file : Option (List ℕ)) (torn : ℕ) (start : P
     noted = s.noted;
   }
 
-  unbound : (Notes : List ℕ → Type 0) → IsOpen (grammar_for role.logger) role.begins file torn start old opened → Reports opened new [] → Notes (cut_text torn) → IsUnbound (grammar_for role.logger) role.begins file old new Notes
+  unbound : (Notes : List ℕ → Type 0) → IsOpen (heeded_by role.logger) role.begins file torn start old opened → Reports opened new [] → Notes (cut_text torn) → IsUnbound (heeded_by role.logger) role.begins file old new Notes
   unbound Notes (opening, starts, own, o) t n = record {
     opening = opening;
     torn = torn;
@@ -263,7 +263,7 @@ module _ (role : JournalRole) (file : Option (List ℕ)) (torn : ℕ) (start : P
     noted = n;
   }
 
-  pub life_stops : (out_old out_new err_old err_new : Option (List ℕ)) (end : ProcessEnd) → IsOpen (grammar_for role.logger) role.begins file torn start old opened
+  pub life_stops : (out_old out_new err_old err_new : Option (List ℕ)) (end : ProcessEnd) → IsOpen (heeded_by role.logger) role.begins file torn start old opened
       → ServingNotedStops role start torn opened new out_old out_new err_old err_new end → KeeperStops role file old new out_old out_new err_old err_new end
   life_stops out_old out_new err_old err_new (Node ends.NoMemory) o (s, same) = (inr (cut (Appends err_old err_new) o s), same)
   life_stops out_old out_new err_old err_new (Node ends.WriteFault) o (inl s) = inl (kept (AppendsFront out_old out_new) (Appends err_old err_new) o s)
@@ -282,7 +282,7 @@ module _ (role : JournalRole) (file : Option (List ℕ)) (torn : ℕ) (start : P
   life_stops out_old out_new err_old err_new InUse o s = absurd s
 
 -- an opening that stopped stops the process
-pub stops_first : (role : JournalRole) (file : Option (List ℕ)) (old new : Option (List DeskCall)) (out err : Option (List ℕ)) (end : ProcessEnd) → OpeningStops (grammar_for role.logger) role.begins file old new end
+pub stops_first : (role : JournalRole) (file : Option (List ℕ)) (old new : Option (List DeskCall)) (out err : Option (List ℕ)) (end : ProcessEnd) → OpeningStops (heeded_by role.logger) role.begins file old new end
     → KeeperStops role file old new out out err err end
 stops_first role file old new out err (Node ends.NoMemory) s = (inl (s, refl), refl)
 stops_first role file old new out err (Node ends.WriteFault) s = absurd s

@@ -10,11 +10,12 @@ use Rattle.disk.specs.Remains.{IsFrontOf}
 use Rattle.disk.specs.declared.calls.DiskCall.{DiskCall}
 use Rattle.disk.specs.declared.calls.DeskCall.{DeskCall}
 use Rattle.disk.specs.declared.calls.DeskCall.TheVariants.{OnLink, OnDisk}
-use Rattle.seq_arith.specs.Message.{Message}
-use Rattle.seq_arith.specs.MessageGrammar.{reading_by}
 use Rattle.seq_arith.specs.declared.kinds.Grammar.{Grammar}
+use Rattle.long_laws.specs.Forgetting.{ForgetAnswer}
+use Rattle.forget_store.specs.AnyMessage.{heeded_in}
+use Rattle.forget_store.specs.declared.heeding.Heeded.{Heeded}
 use Rattle.ft_model.specs.Log.{Log}
-use Rattle.logger_store.specs.StoreState.{answer_bytes_by}
+use Rattle.forget_store.specs.Replies.{reply_bytes}
 use Rattle.kept_log.specs.Compaction.{HasSameLog, replacing, IsCompacted}
 use Rattle.kept_log.specs.Format.{tip_of}
 use Rattle.kept_log.specs.declared.tip.Tip.{Tip}
@@ -78,84 +79,84 @@ split (x ∷ xs) ys calls (lost, later, is, h) =
       calls_are = is ∙ (ap (λ l. this ++ l) s.calls_are ∙ sym (append_assoc this s.first s.rest));
     }
 
-one_answered : (grammar : Grammar) (log : Log) (r : Received) (calls : List LinkCall) → AreHanded (reply_to grammar log r) calls → (is_lost : Bool) × (calls ≡ answering grammar log is_lost r)
-one_answered grammar log (datagram from bytes) calls (lost, rest, is, none) =
-    let this = handing_bytes from lost (answer_bytes_by grammar (answer_for log (reading_by grammar bytes))) in
-    (lost, is ∙ (ap (λ l. this ++ l) none ∙ (append-nil this ∙ handing_is grammar from lost (answer_for log (reading_by grammar bytes)))))
-one_answered grammar log silence calls none = (false, none)
-one_answered grammar log failure calls none = (false, none)
+one_answered : (heeded : Heeded) (log : Log) (r : Received) (calls : List LinkCall) → AreHanded (reply_to heeded log r) calls → (is_lost : Bool) × (calls ≡ answering heeded log is_lost r)
+one_answered heeded log (datagram from bytes) calls (lost, rest, is, none) =
+    let this = handing_bytes from lost (reply_bytes heeded.grammar (answer_for log (heeded_in heeded bytes))) in
+    (lost, is ∙ (ap (λ l. this ++ l) none ∙ (append-nil this ∙ handing_is heeded.grammar from lost (answer_for log (heeded_in heeded bytes)))))
+one_answered heeded log silence calls none = (false, none)
+one_answered heeded log failure calls none = (false, none)
 
 -- the turns of a round whose answers were handed to send by these calls
-record Answers (grammar : Grammar) (log : Log) (received : List Received) (calls : List LinkCall) : Type 0 where
+record Answers (heeded : Heeded) (log : Log) (received : List Received) (calls : List LinkCall) : Type 0 where
   round : Round
   same : received_in round ≡ received
-  calls_are : calls ≡ answers_in grammar log round
+  calls_are : calls ≡ answers_in heeded log round
 
-answers : (grammar : Grammar) (log : Log) (received : List Received) (calls : List LinkCall) → AreHanded (replies_to grammar log received) calls → Answers grammar log received calls
-answers grammar log [] calls h = record { round = []; same = refl; calls_are = h }
-answers grammar log (last ∷ earlier) calls h =
-    let s = split (replies_to grammar log earlier) (reply_to grammar (log_behind grammar log earlier) last) calls h in
-    let before = answers grammar log earlier s.first s.first_handed in
-    let (lost, is) = one_answered grammar (log_behind grammar log earlier) last s.rest s.rest_handed in
+answers : (heeded : Heeded) (log : Log) (received : List Received) (calls : List LinkCall) → AreHanded (replies_to heeded log received) calls → Answers heeded log received calls
+answers heeded log [] calls h = record { round = []; same = refl; calls_are = h }
+answers heeded log (last ∷ earlier) calls h =
+    let s = split (replies_to heeded log earlier) (reply_to heeded (log_behind heeded log earlier) last) calls h in
+    let before = answers heeded log earlier s.first s.first_handed in
+    let (lost, is) = one_answered heeded (log_behind heeded log earlier) last s.rest s.rest_handed in
     record {
       round = record { received = last; is_lost = lost } ∷ before.round;
       same = ap (λ l. last ∷ l) before.same;
-      calls_are = s.calls_are ∙ ap₂ (λ a b. a ++ b) before.calls_are (is ∙ ap (λ l. answering grammar (log_behind grammar log l) lost last) (sym before.same));
+      calls_are = s.calls_are ∙ ap₂ (λ a b. a ++ b) before.calls_are (is ∙ ap (λ l. answering heeded (log_behind heeded log l) lost last) (sym before.same));
     }
 
 -- a place is its three parts
-abbrev place_at : Tip → Log → Grammar → Place
-place_at tip log grammar = record { tip = tip; log = log; grammar = grammar }
+abbrev place_at : Tip → Log → Heeded → Place
+place_at tip log heeded = record { tip = tip; log = log; heeded = heeded }
 
-same_place : (t u : Tip) (k l : Log) (g h : Grammar) → t ≡ u → k ≡ l → g ≡ h → place_at t k g ≡ place_at u l h
-same_place t u k l g h tip log grammar = ap₂ (λ x y. place_at x y g) tip log ∙ ap (place_at u l) grammar
+same_place : (t u : Tip) (k l : Log) (g h : Heeded) → t ≡ u → k ≡ l → g ≡ h → place_at t k g ≡ place_at u l h
+same_place t u k l g h tip log heeded = ap₂ (λ x y. place_at x y g) tip log ∙ ap (place_at u l) heeded
 
 -- what a round's receives leave to be committed
 record Waits (before mid : KeptState) (received : List Received) : Type 0 where
   tip : mid.tip ≡ before.tip
-  log : mid.log ≡ log_behind before.grammar before.log received
-  grammar : mid.grammar ≡ before.grammar
-  round : mid.round ≡ changes_in before.grammar before.log received
+  log : mid.log ≡ log_behind before.heeded before.log received
+  heeded : mid.heeded ≡ before.heeded
+  round : mid.round ≡ changes_in before.heeded before.log received
 
 waits : (before mid : KeptState) (received : List Received) → before.round ≡ [] → mid ≡ with_all_received before received → Waits before mid received
 waits before mid received idle is = record {
   tip = ap (λ (k : KeptState). k.tip) is;
   log = ap (λ (k : KeptState). k.log) is;
-  grammar = ap (λ (k : KeptState). k.grammar) is;
-  round = ap (λ (k : KeptState). k.round) is ∙ ap (λ l. l ++ changes_in before.grammar before.log received) idle;
+  heeded = ap (λ (k : KeptState). k.heeded) is;
+  round = ap (λ (k : KeptState). k.round) is ∙ ap (λ l. l ++ changes_in before.heeded before.log received) idle;
 }
 
 pub turned : (count : ℕ) (before mid after : KeptState) (old t1 t2 new : Option (List DeskCall)) (c k counts : Counts) (replies : List Answer) → before.round ≡ []
-    → HasGathered count before mid old t1 c k replies → Reports t1 t2 (on_disk (committing mid.tip mid.round)) → after.round ≡ [] → after.log ≡ mid.log → after.grammar ≡ mid.grammar
+    → HasGathered count before mid old t1 c k replies → Reports t1 t2 (on_disk (committing mid.tip mid.round)) → after.round ≡ [] → after.log ≡ mid.log → after.heeded ≡ mid.heeded
     → after.tip ≡ tip_after mid.tip mid.round → HasAnswered replies t2 new k counts → HasTurned count before after old new c counts
 turned count before mid after old t1 t2 new c k counts replies idle g kept none log same end a =
     let w = waits before mid g.received idle g.after_is in
-    let f = answers before.grammar before.log g.received a.calls (subst (λ l. AreHanded l a.calls) g.answers_are a.handed) in
+    let f = answers before.heeded before.log g.received a.calls (subst (λ l. AreHanded l a.calls) g.answers_are a.handed) in
     let place = place_of before in
-    let commit : committing mid.tip mid.round ≡ committing before.tip (changes_in before.grammar before.log (received_in f.round)) =
-    ap₂ (λ x y. committing x y) w.tip (w.round ∙ ap (changes_in before.grammar before.log) (sym f.same)) in
+    let commit : committing mid.tip mid.round ≡ committing before.tip (changes_in before.heeded before.log (received_in f.round)) =
+    ap₂ (λ x y. committing x y) w.tip (w.round ∙ ap (changes_in before.heeded before.log) (sym f.same)) in
     let came : receives g.received ≡ receives (received_in f.round) = ap receives (sym f.same) in
-    let links = round_links (receives (received_in f.round)) (answers_in before.grammar before.log f.round) (committing before.tip (changes_in before.grammar before.log (received_in f.round))) in
+    let links = round_links (receives (received_in f.round)) (answers_in before.heeded before.log f.round) (committing before.tip (changes_in before.heeded before.log (received_in f.round))) in
     record {
       round = f.round;
       count_is = sym (length-map f.round (λ (t : LoggerTurn). t.received)) ∙ (ap length f.same ∙ g.count_is);
       is_round = subst IsRound (sym f.same) g.is_round;
-      reports = reports_on old t1 new (on_link (receives (received_in f.round))) (on_disk (committing before.tip (changes_in before.grammar before.log (received_in f.round))) ++ on_link (answers_in before.grammar before.log f.round))
+      reports = reports_on old t1 new (on_link (receives (received_in f.round))) (on_disk (committing before.tip (changes_in before.heeded before.log (received_in f.round))) ++ on_link (answers_in before.heeded before.log f.round))
           (subst (λ l. Reports old t1 (on_link l)) came g.reports)
-          (reports_on t1 t2 new (on_disk (committing before.tip (changes_in before.grammar before.log (received_in f.round)))) (on_link (answers_in before.grammar before.log f.round))
+          (reports_on t1 t2 new (on_disk (committing before.tip (changes_in before.heeded before.log (received_in f.round)))) (on_link (answers_in before.heeded before.log f.round))
           (subst (λ l. Reports t1 t2 (on_disk l)) commit kept) (subst (λ l. Reports t2 new (on_link l)) f.calls_are a.reports));
       counts_are = a.counts_are ∙ (ap₂ (λ x y. with_calls x y) (g.counts_are ∙ ap (with_calls c) came) f.calls_are
-          ∙ (with_both c (receives (received_in f.round)) (answers_in before.grammar before.log f.round) ∙ ap (with_calls c) (sym links)));
-      place = same_place after.tip (tip_after before.tip (changes_in before.grammar before.log (received_in f.round))) after.log
-          (log_behind before.grammar before.log (received_in f.round)) after.grammar before.grammar
-          (end ∙ (ap₂ (λ x y. tip_after x y) w.tip (w.round ∙ ap (changes_in before.grammar before.log) (sym f.same))))
-          (log ∙ (w.log ∙ ap (log_behind before.grammar before.log) (sym f.same)))
-          (same ∙ w.grammar);
+          ∙ (with_both c (receives (received_in f.round)) (answers_in before.heeded before.log f.round) ∙ ap (with_calls c) (sym links)));
+      place = same_place after.tip (tip_after before.tip (changes_in before.heeded before.log (received_in f.round))) after.log
+          (log_behind before.heeded before.log (received_in f.round)) after.heeded before.heeded
+          (end ∙ (ap₂ (λ x y. tip_after x y) w.tip (w.round ∙ ap (changes_in before.heeded before.log) (sym f.same))))
+          (log ∙ (w.log ∙ ap (log_behind before.heeded before.log) (sym f.same)))
+          (same ∙ w.heeded);
       idle = none;
     }
 
 -- a round that ends because memory runs out
-pub cut_by_memory : (most : ℕ) (at : Place) (old new : Option (List DeskCall)) → IsCutGathering most at.grammar at.log old new → IsCutRound most at old new
+pub cut_by_memory : (most : ℕ) (at : Place) (old new : Option (List DeskCall)) → IsCutGathering most at.heeded at.log old new → IsCutRound most at old new
 cut_by_memory most at old new g = record {
   received = g.received;
   reason = inl g.wants;
@@ -185,18 +186,18 @@ cut_by_commit count most before mid old t1 new c k replies few idle g (done, fro
       reports = reports_on old t1 new (on_link (receives g.received)) (on_disk done) g.reports reported;
     }
 
-replies_count : (grammar : Grammar) (log : Log) (received : List Received) → length (replies_to grammar log received) ≤ length received
-replies_count grammar log [] = omega arith
-replies_count grammar log (last ∷ earlier) =
-    let few = replies_count grammar log earlier in
-    let sum = length-append (replies_to grammar log earlier) (reply_to grammar (log_behind grammar log earlier) last) in
-    let one = one_reply grammar (log_behind grammar log earlier) last in
+replies_count : (heeded : Heeded) (log : Log) (received : List Received) → length (replies_to heeded log received) ≤ length received
+replies_count heeded log [] = omega arith
+replies_count heeded log (last ∷ earlier) =
+    let few = replies_count heeded log earlier in
+    let sum = length-append (replies_to heeded log earlier) (reply_to heeded (log_behind heeded log earlier) last) in
+    let one = one_reply heeded (log_behind heeded log earlier) last in
     omega (arith, few, sum, one)
   where
-    one_reply : (grammar : Grammar) (log : Log) (r : Received) → length (reply_to grammar log r) ≤ 1
-    one_reply grammar log (datagram from bytes) = omega arith
-    one_reply grammar log silence = omega arith
-    one_reply grammar log failure = omega arith
+    one_reply : (heeded : Heeded) (log : Log) (r : Received) → length (reply_to heeded log r) ≤ 1
+    one_reply heeded log (datagram from bytes) = omega arith
+    one_reply heeded log silence = omega arith
+    one_reply heeded log failure = omega arith
 
 -- there is room for the counts of the answers
 pub room_to_answer : (count : ℕ) (before mid : KeptState) (old t1 : Option (List DeskCall)) (c k : Counts) (replies : List Answer) → HasRoom 512 c
@@ -204,8 +205,8 @@ pub room_to_answer : (count : ℕ) (before mid : KeptState) (old t1 : Option (Li
 room_to_answer count before mid old t1 c k replies room g few =
     let calls = few_calls (receives g.received) in
     let came : length (receives g.received) ≡ count = receives_count g.received ∙ g.count_is in
-    let wait : length replies ≡ length (replies_to before.grammar before.log g.received) = ap length g.answers_are in
-    let most = replies_count before.grammar before.log g.received in
+    let wait : length replies ≡ length (replies_to before.heeded before.log g.received) = ap length g.answers_are in
+    let most = replies_count before.heeded before.log g.received in
     let so : length replies ≤ 256 = omega (arith, wait, most, g.count_is) in
     subst (HasRoom (length replies)) (sym g.counts_are) (record {
       turns = omega (arith, room.turns, calls.turns, came, so);
@@ -266,8 +267,8 @@ due_after least last start before rounds last_is at_is due =
 -- a new file took the old one's place
 compacted_on : (least last next count : ℕ) (start : Place) (before after : KeptState) (made : List ℕ) (old mid new : Option (List DeskCall)) (counts : Counts)
     → IsServing least last count start (place_of before) old mid counts → IsDue least last before.tip.end → next ≡ after.tip.end
-    → IsCompacted made before.tip before.log after.tip mid new → after.log ≡ before.log → after.grammar ≡ before.grammar → IsReady least next count start (place_of after) old new counts
-compacted_on least last next count start before after made old mid new counts serving due next_is k same grammar =
+    → IsCompacted made before.tip before.log after.tip mid new → after.log ≡ before.log → after.heeded ≡ before.heeded → IsReady least next count start (place_of after) old new counts
+compacted_on least last next count start before after made old mid new counts serving due next_is k same heeded =
     let s = serving.served in
     let replaced : List DeskCall = on_disk (replacing made k.bodies) in
     record {
@@ -281,7 +282,7 @@ compacted_on least last next count start before after made old mid new counts se
         reports = reports_on old mid new (calls_of start s.rounds) replaced s.reports k.reports;
         counts_are = s.counts_are
             ∙ ap counts_of (sym (link_calls-append (calls_of start s.rounds) replaced ∙ append-nil (link_calls (calls_of start s.rounds))));
-        at_is = same_place after.tip (tip_of made k.bodies) after.log (place_after start s.rounds).log after.grammar (place_after start s.rounds).grammar k.next_is (same ∙ ap (λ p. p.log) s.at_is) (grammar ∙ ap (λ p. p.grammar) s.at_is);
+        at_is = same_place after.tip (tip_of made k.bodies) after.log (place_after start s.rounds).log after.heeded (place_after start s.rounds).heeded k.next_is (same ∙ ap (λ p. p.log) s.at_is) (heeded ∙ ap (λ p. p.heeded) s.at_is);
       };
       last_is = next_is ∙ ap (λ t. t.end) k.next_is;
       rests = never_due least (tip_of made k.bodies).end;
@@ -289,18 +290,18 @@ compacted_on least last next count start before after made old mid new counts se
 
 -- nothing was called
 same_served : (least count : ℕ) (start : Place) (before after : KeptState) (old mid new : Option (List DeskCall)) (counts : Counts) (s : HasServed least count start (place_of before) old mid counts)
-    → after.log ≡ before.log → after.grammar ≡ before.grammar → Stays before after mid new → (Reports old new (calls_of start s.rounds)) × (place_of after ≡ place_after start s.rounds)
-same_served least count start before after old mid new counts s log grammar (tip, none) = (
+    → after.log ≡ before.log → after.heeded ≡ before.heeded → Stays before after mid new → (Reports old new (calls_of start s.rounds)) × (place_of after ≡ place_after start s.rounds)
+same_served least count start before after old mid new counts s log heeded (tip, none) = (
   subst (Reports old new) (append-nil (calls_of start s.rounds)) (reports_on old mid new (calls_of start s.rounds) [] s.reports none),
-  same_place after.tip before.tip after.log before.log after.grammar before.grammar tip log grammar ∙ s.at_is,
+  same_place after.tip before.tip after.log before.log after.heeded before.heeded tip log heeded ∙ s.at_is,
 )
 
 -- the file was due, or not; it was replaced, or stays
 pub readied : (least last next count : ℕ) (start : Place) (before after : KeptState) (old mid new : Option (List DeskCall)) (counts : Counts)
     → IsServing least last count start (place_of before) old mid counts → HasCompacted least last next before after mid new → IsReady least next count start (place_of after) old new counts
-readied least last next count start before after old mid new counts serving (log, grammar, idle, inl (rests, next_is, stays)) =
+readied least last next count start before after old mid new counts serving (log, heeded, idle, inl (rests, next_is, stays)) =
     let s = serving.served in
-    let same = same_served least count start before after old mid new counts s log grammar stays in
+    let same = same_served least count start before after old mid new counts s log heeded stays in
     record {
       served = record {
         rounds = s.rounds;
@@ -314,11 +315,11 @@ readied least last next count start before after old mid new counts serving (log
       rests = λ due. rests (subst (λ n. IsDue least n before.tip.end) (sym serving.last_is)
           (subst (λ p. IsDue least (last_length start s.rounds) p.tip.end) (sym s.at_is) due));
     }
-readied least last next count start before after old mid new counts serving (log, grammar, idle, inr (due, next_is, inl (made, k))) =
-    compacted_on least last next count start before after made old mid new counts serving due next_is k log grammar
-readied least last next count start before after old mid new counts serving (log, grammar, idle, inr (due, next_is, inr stays)) =
+readied least last next count start before after old mid new counts serving (log, heeded, idle, inr (due, next_is, inl (made, k))) =
+    compacted_on least last next count start before after made old mid new counts serving due next_is k log heeded
+readied least last next count start before after old mid new counts serving (log, heeded, idle, inr (due, next_is, inr stays)) =
     let s = serving.served in
-    let same = same_served least count start before after old mid new counts s log grammar stays in
+    let same = same_served least count start before after old mid new counts s log heeded stays in
     record {
       served = record {
         rounds = Stayed ∷ s.rounds;
@@ -338,16 +339,16 @@ pub not_compacted : (least last : ℕ) (before : KeptState) (reported : Option (
 not_compacted least last before reported rests idle = (refl, refl, idle, inl (rests, refl, (refl, none_reported reported)))
 
 pub is_compacted : (least last next : ℕ) (done : Bool) (made : List ℕ) (before after : KeptState) (old new : Option (List DeskCall)) → IsDue least last before.tip.end → next ≡ after.tip.end
-    → after.log ≡ before.log → after.grammar ≡ before.grammar → after.round ≡ [] → (done ≡ true → IsCompacted made before.tip before.log after.tip old new) → (done ≡ false → Stays before after old new)
+    → after.log ≡ before.log → after.heeded ≡ before.heeded → after.round ≡ [] → (done ≡ true → IsCompacted made before.tip before.log after.tip old new) → (done ≡ false → Stays before after old new)
     → HasCompacted least last next before after old new
-is_compacted least last next true made before after old new due next_is log grammar idle compacted stays = (log, grammar, idle, inr (due, next_is, inl (made, compacted refl)))
-is_compacted least last next false made before after old new due next_is log grammar idle compacted stays = (log, grammar, idle, inr (due, next_is, inr (stays refl)))
+is_compacted least last next true made before after old new due next_is log heeded idle compacted stays = (log, heeded, idle, inr (due, next_is, inl (made, compacted refl)))
+is_compacted least last next false made before after old new due next_is log heeded idle compacted stays = (log, heeded, idle, inr (due, next_is, inr (stays refl)))
 
 -- a file that isn't due stays
 pub never_replaced : (least last next : ℕ) (before after : KeptState) (old new : Option (List DeskCall)) → (IsDue least last before.tip.end → ⊥)
     → HasCompacted least last next before after old new → Reports old new []
-never_replaced least last next before after old new never (log, grammar, idle, inl (rests, next_is, (tip, none))) = none
-never_replaced least last next before after old new never (log, grammar, idle, inr (due, next_is, rest)) = absurd (never due)
+never_replaced least last next before after old new never (log, heeded, idle, inl (rests, next_is, (tip, none))) = none
+never_replaced least last next before after old new never (log, heeded, idle, inr (due, next_is, rest)) = absurd (never due)
 
 -- .. or that failed
 pub replacing_cut : (least last count most : ℕ) (start : Place) (before : KeptState) (old mid new : Option (List DeskCall)) (counts : Counts) → count ≤ most
@@ -378,7 +379,7 @@ serving_cut least last i most turns start at old mid new c few ready cut =
     record {
       rounds = s.rounds;
       received = cut.received;
-      reason = inr (subst (λ p. HasReason p.grammar p.log cut.received) s.at_is cut.reason);
+      reason = inr (subst (λ p. HasReason p.heeded p.log cut.received) s.at_is cut.reason);
       cut = cut.cut;
       are_rounds = s.are_rounds;
       unanswered = subst (λ p. IsUnanswered p cut.received cut.cut) s.at_is cut.unanswered;
@@ -409,22 +410,22 @@ pub faulted_by : (least most : ℕ) (start : Place) (old new : Option (List Desk
     → HasEndedBy least most start old new end
 faulted_by least most start old new end is s = subst (HasEndedBy least most start old new) (sym is) (inr s)
 
-answers_few : (grammar : Grammar) (log : Log) (round : Round) → length (answers_in grammar log round) ≤ length round
-answers_few grammar log [] = omega arith
-answers_few grammar log (last ∷ earlier) =
-    let few = answers_few grammar log earlier in
-    let sum = length-append (answers_in grammar log earlier) (answering grammar (log_behind grammar log (received_in earlier)) last.is_lost last.received) in
-    let one = one_answer grammar (log_behind grammar log (received_in earlier)) last.is_lost last.received in
+answers_few : (heeded : Heeded) (log : Log) (round : Round) → length (answers_in heeded log round) ≤ length round
+answers_few heeded log [] = omega arith
+answers_few heeded log (last ∷ earlier) =
+    let few = answers_few heeded log earlier in
+    let sum = length-append (answers_in heeded log earlier) (answering heeded (log_behind heeded log (received_in earlier)) last.is_lost last.received) in
+    let one = one_answer heeded (log_behind heeded log (received_in earlier)) last.is_lost last.received in
     omega (arith, few, sum, one)
   where
-    one_handing : (grammar : Grammar) (to : Addr) (is_lost : Bool) (answer : Option Message) → length (handing grammar to is_lost answer) ≤ 1
+    one_handing : (grammar : Grammar) (to : Addr) (is_lost : Bool) (answer : Option ForgetAnswer) → length (handing grammar to is_lost answer) ≤ 1
     one_handing grammar to is_lost None = omega arith
-    one_handing grammar to is_lost (Some m) = omega arith
+    one_handing grammar to is_lost (Some answer) = omega arith
 
-    one_answer : (grammar : Grammar) (log : Log) (is_lost : Bool) (r : Received) → length (answering grammar log is_lost r) ≤ 1
-    one_answer grammar log is_lost (datagram from bytes) = one_handing grammar from is_lost (answer_for log (reading_by grammar bytes))
-    one_answer grammar log is_lost silence = omega arith
-    one_answer grammar log is_lost failure = omega arith
+    one_answer : (heeded : Heeded) (log : Log) (is_lost : Bool) (r : Received) → length (answering heeded log is_lost r) ≤ 1
+    one_answer heeded log is_lost (datagram from bytes) = one_handing heeded.grammar from is_lost (answer_for log (heeded_in heeded bytes))
+    one_answer heeded log is_lost silence = omega arith
+    one_answer heeded log is_lost failure = omega arith
 
 links_few : (start : Place) (rounds : List Step) → length (link_calls (calls_of start rounds)) ≤ 2 * turns_in rounds
 links_few start [] = omega arith
@@ -438,11 +439,11 @@ links_few start (Turned last ∷ earlier) =
     let few = links_few start earlier in
     let all : length (link_calls (calls_of start earlier ++ round_calls at last)) ≡ length (link_calls (calls_of start earlier)) + length (link_calls (round_calls at last)) =
     ap length (link_calls-append (calls_of start earlier) (round_calls at last)) ∙ length-append (link_calls (calls_of start earlier)) (link_calls (round_calls at last)) in
-    let this : length (link_calls (round_calls at last)) ≡ length (receives (received_in last)) + length (answers_in at.grammar at.log last) =
-    ap length (round_links (receives (received_in last)) (answers_in at.grammar at.log last) (committing at.tip (changes_in at.grammar at.log (received_in last))))
-    ∙ length-append (receives (received_in last)) (answers_in at.grammar at.log last) in
+    let this : length (link_calls (round_calls at last)) ≡ length (receives (received_in last)) + length (answers_in at.heeded at.log last) =
+    ap length (round_links (receives (received_in last)) (answers_in at.heeded at.log last) (committing at.tip (changes_in at.heeded at.log (received_in last))))
+    ∙ length-append (receives (received_in last)) (answers_in at.heeded at.log last) in
     let came : length (receives (received_in last)) ≡ length last = receives_count (received_in last) ∙ length-map last (λ (t : LoggerTurn). t.received) in
-    let reported = answers_few at.grammar at.log last in
+    let reported = answers_few at.heeded at.log last in
     omega (arith, few, all, this, came, reported)
 
 -- there is room for the counts of a round

@@ -4,7 +4,7 @@ use Rattle.std.specs.Io.KnownBytes.{Appends}
 use Rattle.ft_io.specs.Sink.{AppendsFront}
 use Rattle.ft_io.specs.Reported.{Reports}
 use Rattle.ft_io.specs.declared.link_call.LinkCall.TheVariants.{Bound}
-use Rattle.seq_arith.specs.declared.kinds.Grammar.{Grammar}
+use Rattle.forget_store.specs.declared.heeding.Heeded.{Heeded}
 use Rattle.disk.specs.Remains.{IsFrontOf}
 use Rattle.disk.specs.CallRecord.{on_link, on_disk, link_calls}
 use Rattle.disk.specs.declared.calls.DeskCall.{DeskCall}
@@ -15,7 +15,7 @@ use Rattle.kept_log.specs.Compaction.{HasSameLog, replacing}
 use Rattle.kept_log.specs.Format.{making}
 use Rattle.kept_log.specs.Startup.{IsWhole, IsDamaged, IsUnfinished, IsOlder, HasGrammar, HasOtherGrammar}
 use Rattle.link_parts.specs.Counts.{counts_of, count_line}
-use Rattle.link_parts.specs.LoggerParts.{grammar_for}
+use Rattle.link_parts.specs.LoggerParts.{heeded_by}
 use Rattle.link_parts.specs.Receipt.{Received}
 use Rattle.link_parts.specs.declared.status.NodeEnd.TheVariants.{LinkFault, NoMemory, WriteFault}
 use Rattle.journal_parts.specs.Rounds.{Place, Step, IsRound, receives, changes_in, place_after, calls_of, turns_in}
@@ -30,29 +30,29 @@ use Rattle.journal_parts.specs.Ends.{cut_text}
 
 -- Where a process starts that opens its file: at the log of the blocks that the file has. By these calls it cuts off what a death has left after them, so
 -- many bytes
-pub record Opens (grammar : Grammar) (file : Option (List ℕ)) (opening : List DiskCall) (torn : ℕ) (start : Place) : Type 0 where
+pub record Opens (heeded : Heeded) (file : Option (List ℕ)) (opening : List DiskCall) (torn : ℕ) (start : Place) : Type 0 where
   pub made : List ℕ
   pub bodies : List (List ℕ)
   pub has_log : HasLog made bodies start.tip start.log
   pub finds : (bytes : List ℕ) → file ≡ Some bytes → (whole : IsWhole bytes made bodies opening) × (torn ≡ length whole.tail)
-  pub grammar_is : start.grammar ≡ grammar
+  pub heeded_is : start.heeded ≡ heeded
 
 -- .. and one that makes its file: at the empty log
-pub record Makes (grammar : Grammar) (opening : List DiskCall) (torn : ℕ) (start : Place) : Type 0 where
+pub record Makes (heeded : Heeded) (opening : List DiskCall) (torn : ℕ) (start : Place) : Type 0 where
   pub made : List ℕ
-  pub grammar_is : start.grammar ≡ grammar
+  pub heeded_is : start.heeded ≡ heeded
   pub has_log : HasLog made [] start.tip start.log
   pub opening_is : opening ≡ making made
   pub none : torn ≡ 0
 
 -- no journal of another grammar is opened
-abbrev pub OpensOwn : (grammar : Grammar) (begins : Bool) → Option (List ℕ) → Type 0
-OpensOwn grammar begins file = begins ≡ false → HasGrammar grammar file
+abbrev pub OpensOwn : (heeded : Heeded) (begins : Bool) → Option (List ℕ) → Type 0
+OpensOwn heeded begins file = begins ≡ false → HasGrammar heeded.grammar file
 
 -- a process makes its file if its words say so
-abbrev pub Starts : (grammar : Grammar) (begins : Bool) (file : Option (List ℕ)) (opening : List DiskCall) (torn : ℕ) (start : Place) → Type 0
-Starts grammar false file opening torn start = Opens grammar file opening torn start
-Starts grammar true file opening torn start = Makes grammar opening torn start
+abbrev pub Starts : (heeded : Heeded) (begins : Bool) (file : Option (List ℕ)) (opening : List DiskCall) (torn : ℕ) (start : Place) → Type 0
+Starts heeded false file opening torn start = Opens heeded file opening torn start
+Starts heeded true file opening torn start = Makes heeded opening torn start
 
 -- A complete run: the file is opened or made, then comes the bind, then rounds, with this many turns in all. The counts of their calls are written
 pub record IsKeeper (role : JournalRole) (file : Option (List ℕ)) (old new : Option (List DeskCall)) (Writes Notes : List ℕ → Type 0) : Type 0 where
@@ -60,8 +60,8 @@ pub record IsKeeper (role : JournalRole) (file : Option (List ℕ)) (old new : O
   pub start : Place
   pub rounds : List Step  -- the newest first
   pub torn : ℕ
-  pub starts : Starts (grammar_for role.logger) role.begins file opening torn start
-  pub own : OpensOwn (grammar_for role.logger) role.begins file
+  pub starts : Starts (heeded_by role.logger) role.begins file opening torn start
+  pub own : OpensOwn (heeded_by role.logger) role.begins file
   pub are_rounds : AreStepsBy role.compact start rounds
   pub count_is : turns_in rounds ≡ role.logger.turns
   pub reports : Reports old new (on_disk opening ++ OnLink (Bound role.logger.local) ∷ calls_of start rounds)
@@ -73,14 +73,14 @@ pub record IsKeeper (role : JournalRole) (file : Option (List ℕ)) (old new : O
 pub record IsUnanswered (at : Place) (received : List Received) (calls : List DeskCall) : Type 0 where
   pub done : List DiskCall
   pub is_round : (received ≡ []) ⊎ IsRound received
-  pub front : IsFrontOf (committing at.tip (changes_in at.grammar at.log received)) done
+  pub front : IsFrontOf (committing at.tip (changes_in at.heeded at.log received)) done
   pub calls_are : calls ≡ on_link (receives received) ++ on_disk done
 
 -- where a run stops: before its first round, where there was no memory for its answers; after all, where there was none for the line of its counts; or in a
 -- round, for a reason
 abbrev pub IsStopped : (turns : ℕ) → Place → List Step → List Received → Type 0
 IsStopped turns start rounds received =
-    ((received ≡ []) × ((rounds ≡ []) ⊎ (turns_in rounds ≡ turns))) ⊎ HasReason (place_after start rounds).grammar (place_after start rounds).log received
+    ((received ≡ []) × ((rounds ≡ []) ⊎ (turns_in rounds ≡ turns))) ⊎ HasReason (place_after start rounds).heeded (place_after start rounds).log received
 
 -- a run that ended in a round, or after all of them
 pub record IsCutKeeper (role : JournalRole) (file : Option (List ℕ)) (old new : Option (List DeskCall)) (Notes : List ℕ → Type 0) : Type 0 where
@@ -91,8 +91,8 @@ pub record IsCutKeeper (role : JournalRole) (file : Option (List ℕ)) (old new 
   pub cut : List DeskCall
   pub torn : ℕ
   pub reason : IsStopped role.logger.turns start rounds received
-  pub starts : Starts (grammar_for role.logger) role.begins file opening torn start
-  pub own : OpensOwn (grammar_for role.logger) role.begins file
+  pub starts : Starts (heeded_by role.logger) role.begins file opening torn start
+  pub own : OpensOwn (heeded_by role.logger) role.begins file
   pub are_rounds : AreStepsBy role.compact start rounds
   pub unanswered : IsUnanswered (place_after start rounds) received cut
   pub within : turns_in rounds + length received ≤ role.logger.turns
@@ -115,8 +115,8 @@ pub record IsCutCompacting (role : JournalRole) (file : Option (List ℕ)) (old 
   pub rounds : List Step
   pub cut : List DeskCall
   pub torn : ℕ
-  pub starts : Starts (grammar_for role.logger) role.begins file opening torn start
-  pub own : OpensOwn (grammar_for role.logger) role.begins file
+  pub starts : Starts (heeded_by role.logger) role.begins file opening torn start
+  pub own : OpensOwn (heeded_by role.logger) role.begins file
   pub are_rounds : AreStepsBy role.compact start rounds
   pub due : IsDueAfter role.compact start rounds
   pub unreplaced : IsUnreplaced (place_after start rounds) cut
@@ -125,27 +125,27 @@ pub record IsCutCompacting (role : JournalRole) (file : Option (List ℕ)) (old 
   pub noted : Notes (cut_text torn)
 
 -- a run that ended while its file was opened or made: a prefix of the calls that do it, whose last call may have failed
-pub record IsCutOpening (grammar : Grammar) (begins : Bool) (file : Option (List ℕ)) (old new : Option (List DeskCall)) : Type 0 where
+pub record IsCutOpening (heeded : Heeded) (begins : Bool) (file : Option (List ℕ)) (old new : Option (List DeskCall)) : Type 0 where
   pub opening : List DiskCall
   pub torn : ℕ
   pub start : Place
   pub done : List DiskCall
-  pub starts : Starts grammar begins file opening torn start
+  pub starts : Starts heeded begins file opening torn start
   pub front : IsFrontOf opening done
   pub reports : Reports old new (on_disk done)
 
 -- a run that ended before its address was bound
-pub record IsUnbound (grammar : Grammar) (begins : Bool) (file : Option (List ℕ)) (old new : Option (List DeskCall)) (Notes : List ℕ → Type 0) : Type 0 where
+pub record IsUnbound (heeded : Heeded) (begins : Bool) (file : Option (List ℕ)) (old new : Option (List DeskCall)) (Notes : List ℕ → Type 0) : Type 0 where
   pub opening : List DiskCall
   pub torn : ℕ
   pub start : Place
-  pub starts : Starts grammar begins file opening torn start
+  pub starts : Starts heeded begins file opening torn start
   pub reports : Reports old new (on_disk opening)
   pub noted : Notes (cut_text torn)
 
 -- its file is open
-abbrev pub IsOpen : (grammar : Grammar) (begins : Bool) → Option (List ℕ) → (torn : ℕ) → Place → (old new : Option (List DeskCall)) → Type 0
-IsOpen grammar begins file torn start old new = (opening : List DiskCall) × Starts grammar begins file opening torn start × OpensOwn grammar begins file
+abbrev pub IsOpen : (heeded : Heeded) (begins : Bool) → Option (List ℕ) → (torn : ℕ) → Place → (old new : Option (List DeskCall)) → Type 0
+IsOpen heeded begins file torn start old new = (opening : List DiskCall) × Starts heeded begins file opening torn start × OpensOwn heeded begins file
     × Reports old new (on_disk opening)
 
 -- a file that is refused, at this place
@@ -153,33 +153,33 @@ abbrev pub IsRefused : Option (List ℕ) → ℕ → Type 0
 IsRefused file at = (bytes : List ℕ) → file ≡ Some bytes → IsDamaged at bytes
 
 -- why there is no journal to go on with: only a process that opens its file finds one that lacks something, and only one that makes it finds it there
-abbrev pub Lacks : (grammar : Grammar) (begins : Bool) → Option (List ℕ) → Lack → Type 0
-Lacks grammar false file Missing = Unit {0}
-Lacks grammar false file Empty = (bytes : List ℕ) → file ≡ Some bytes → bytes ≡ []
-Lacks grammar false file Unfinished = (bytes : List ℕ) → file ≡ Some bytes → IsUnfinished bytes
-Lacks grammar false file Older = (bytes : List ℕ) → file ≡ Some bytes → IsOlder bytes
-Lacks grammar false file OtherProfile = HasOtherGrammar grammar file
-Lacks grammar true file Present = Unit {0}
-Lacks grammar _ file _ = ⊥
+abbrev pub Lacks : (heeded : Heeded) (begins : Bool) → Option (List ℕ) → Lack → Type 0
+Lacks heeded false file Missing = Unit {0}
+Lacks heeded false file Empty = (bytes : List ℕ) → file ≡ Some bytes → bytes ≡ []
+Lacks heeded false file Unfinished = (bytes : List ℕ) → file ≡ Some bytes → IsUnfinished bytes
+Lacks heeded false file Older = (bytes : List ℕ) → file ≡ Some bytes → IsOlder bytes
+Lacks heeded false file OtherProfile = HasOtherGrammar heeded.grammar file
+Lacks heeded true file Present = Unit {0}
+Lacks heeded _ file _ = ⊥
 
 -- how the opening stops: a file that is refused is unchanged
-abbrev pub OpeningStops : (grammar : Grammar) (begins : Bool) → (file : Option (List ℕ)) → (old new : Option (List DeskCall)) → ProcessEnd → Type 0
-OpeningStops grammar begins file old new InUse = Reports old new []
-OpeningStops grammar begins file old new (BadJournal at) = Reports old new [] × IsRefused file at × (begins ≡ false)
-OpeningStops grammar begins file old new (NoJournal lack) = Reports old new [] × Lacks grammar begins file lack
-OpeningStops grammar begins file old new JournalFault = Reports old new [] ⊎ IsCutOpening grammar begins file old new
-OpeningStops grammar begins file old new (Node NoMemory) = Reports old new []
-OpeningStops grammar begins file old new _ = ⊥
+abbrev pub OpeningStops : (heeded : Heeded) (begins : Bool) → (file : Option (List ℕ)) → (old new : Option (List DeskCall)) → ProcessEnd → Type 0
+OpeningStops heeded begins file old new InUse = Reports old new []
+OpeningStops heeded begins file old new (BadJournal at) = Reports old new [] × IsRefused file at × (begins ≡ false)
+OpeningStops heeded begins file old new (NoJournal lack) = Reports old new [] × Lacks heeded begins file lack
+OpeningStops heeded begins file old new JournalFault = Reports old new [] ⊎ IsCutOpening heeded begins file old new
+OpeningStops heeded begins file old new (Node NoMemory) = Reports old new []
+OpeningStops heeded begins file old new _ = ⊥
 
 -- How such a logger stops early. No message of the round in which it stops is answered. A file that is refused is unchanged
 module _ (role : JournalRole) (file : Option (List ℕ)) (old new : Option (List DeskCall)) (out_old out_new err_old err_new : Option (List ℕ)) where
   abbrev pub KeeperStops : ProcessEnd → Type 0
-  KeeperStops (Node LinkFault) = IsUnbound (grammar_for role.logger) role.begins file old new (Appends err_old err_new) × (out_new ≡ out_old)
+  KeeperStops (Node LinkFault) = IsUnbound (heeded_by role.logger) role.begins file old new (Appends err_old err_new) × (out_new ≡ out_old)
   KeeperStops (Node WriteFault) =
       IsKeeper role file old new (AppendsFront out_old out_new) (Appends err_old err_new)
-      ⊎ (IsUnbound (grammar_for role.logger) role.begins file old new (AppendsFront err_old err_new) × (out_new ≡ out_old))
+      ⊎ (IsUnbound (heeded_by role.logger) role.begins file old new (AppendsFront err_old err_new) × (out_new ≡ out_old))
   KeeperStops (Node NoMemory) = ((Reports old new [] × (err_new ≡ err_old)) ⊎ IsCutKeeper role file old new (Appends err_old err_new)) × (out_new ≡ out_old)
   KeeperStops JournalFault =
-      (((Reports old new [] ⊎ IsCutOpening (grammar_for role.logger) role.begins file old new) × (err_new ≡ err_old))
+      (((Reports old new [] ⊎ IsCutOpening (heeded_by role.logger) role.begins file old new) × (err_new ≡ err_old))
       ⊎ (IsCutKeeper role file old new (Appends err_old err_new) ⊎ IsCutCompacting role file old new (Appends err_old err_new))) × (out_new ≡ out_old)
-  KeeperStops end = OpeningStops (grammar_for role.logger) role.begins file old new end × (err_new ≡ err_old) × (out_new ≡ out_old)
+  KeeperStops end = OpeningStops (heeded_by role.logger) role.begins file old new end × (err_new ≡ err_old) × (out_new ≡ out_old)

@@ -4,14 +4,14 @@ use Rattle.std.specs.List.{AllByRecursion}
 use Rattle.ft_io.specs.Sink.{AppendsFront}
 use Rattle.ft_io.specs.Reported.{Reports}
 use Rattle.ft_io.specs.declared.link_call.LinkCall.{LinkCall}
-use Rattle.seq_arith.specs.MessageGrammar.{reading_by}
-use Rattle.seq_arith.specs.declared.kinds.Grammar.{Grammar}
+use Rattle.forget_store.specs.AnyMessage.{heeded_in}
+use Rattle.forget_store.specs.declared.heeding.Heeded.{Heeded}
 use Rattle.ft_model.specs.Log.{Log}
 use Rattle.disk.specs.CallRecord.{on_link, link_calls}
 use Rattle.disk.specs.declared.calls.DeskCall.{DeskCall}
 use Rattle.kept_log.specs.Compaction.{IsCompacted, IsCutCompaction}
 use Rattle.kept_log.specs.JournaledLog.{KeptState}
-use Rattle.logger_store.specs.StoreState.{answer_bytes_by}
+use Rattle.forget_store.specs.Replies.{reply_bytes}
 use Rattle.link_parts.specs.declared.counts.Counts.{Counts}
 use Rattle.link_parts.specs.Counts.{counts_of, with_calls, count_line}
 use Rattle.link_parts.specs.LoggerParts.{handing_bytes}
@@ -33,35 +33,35 @@ use Rattle.journal_parts.specs.Due.{IsDue, IsDueAfter, AreStepsBy}
 use Rattle.journal_parts.specs.Waits.{LastWants, HasReason}
 
 abbrev pub place_of : KeptState → Place
-place_of kept = record { tip = kept.tip; log = kept.log; grammar = kept.grammar }
+place_of kept = record { tip = kept.tip; log = kept.log; heeded = kept.heeded }
 
 -- after a receive: its message is applied to the log, and waits for the commit if it has changed the log
 abbrev pub with_received : KeptState → Received → KeptState
-with_received kept r = record kept { log = log_then kept.grammar kept.log r; round = kept.round ++ change_by kept.grammar kept.log r }
+with_received kept r = record kept { log = log_then kept.heeded kept.log r; round = kept.round ++ change_by kept.heeded kept.log r }
 
 -- bytes arrived
 abbrev pub with_bytes : KeptState → List ℕ → KeptState
 with_bytes kept bytes = record kept {
-  log = log_with kept.log (reading_by kept.grammar bytes);
-  round = kept.round ++ change_in kept.log bytes (reading_by kept.grammar bytes);
+  log = log_with kept.log (heeded_in kept.heeded bytes);
+  round = kept.round ++ change_in kept.log bytes (heeded_in kept.heeded bytes);
 }
 
 -- .. after these receives, the newest first
 abbrev pub with_all_received : KeptState → List Received → KeptState
 with_all_received kept received = record kept {
-  log = log_behind kept.grammar kept.log received;
-  round = kept.round ++ changes_in kept.grammar kept.log received;
+  log = log_behind kept.heeded kept.log received;
+  round = kept.round ++ changes_in kept.heeded kept.log received;
 }
 
 -- what waits to be sent because of a receive: an answer, or no bytes where there is none
-abbrev pub reply_to : Grammar → Log → Received → List Answer
-reply_to grammar log (datagram from bytes) = record { to = from; out = answer_bytes_by grammar (answer_for log (reading_by grammar bytes)) } ∷ []
-reply_to grammar log silence = []
-reply_to grammar log failure = []
+abbrev pub reply_to : Heeded → Log → Received → List Answer
+reply_to heeded log (datagram from bytes) = record { to = from; out = reply_bytes heeded.grammar (answer_for log (heeded_in heeded bytes)) } ∷ []
+reply_to heeded log silence = []
+reply_to heeded log failure = []
 
-abbrev pub replies_to : Grammar → Log → List Received → List Answer
-replies_to grammar log [] = []
-replies_to grammar log (last ∷ earlier) = replies_to grammar log earlier ++ reply_to grammar (log_behind grammar log earlier) last
+abbrev pub replies_to : Heeded → Log → List Received → List Answer
+replies_to heeded log [] = []
+replies_to heeded log (last ∷ earlier) = replies_to heeded log earlier ++ reply_to heeded (log_behind heeded log earlier) last
 
 -- the calls by which answers are handed to send, in their order
 abbrev pub AreHanded : List Answer → List LinkCall → Type 0
@@ -88,7 +88,7 @@ pub record HasTaken (is_more : Bool) (before after : KeptState) (old new : Optio
   pub reports : Reports old new (on_link (received_as received ∷ []))
   pub counts_are : counts ≡ with_calls counted (received_as received ∷ [])
   pub after_is : after ≡ with_received before received
-  pub answers_are : answers ≡ waiting ++ reply_to before.grammar before.log received
+  pub answers_are : answers ≡ waiting ++ reply_to before.heeded before.log received
 
 -- this many receives, each of which gave a datagram
 pub record IsGathering (count : ℕ) (before after : KeptState) (old new : Option (List DeskCall)) (counted counts : Counts)
@@ -99,7 +99,7 @@ pub record IsGathering (count : ℕ) (before after : KeptState) (old new : Optio
   pub reports : Reports old new (on_link (receives received))
   pub counts_are : counts ≡ with_calls counted (receives received)
   pub after_is : after ≡ with_all_received before received
-  pub answers_are : answers ≡ replies_to before.grammar before.log received
+  pub answers_are : answers ≡ replies_to before.heeded before.log received
 
 -- the receives of a round
 pub record HasGathered (count : ℕ) (before after : KeptState) (old new : Option (List DeskCall)) (counted counts : Counts)
@@ -110,12 +110,12 @@ pub record HasGathered (count : ℕ) (before after : KeptState) (old new : Optio
   pub reports : Reports old new (on_link (receives received))
   pub counts_are : counts ≡ with_calls counted (receives received)
   pub after_is : after ≡ with_all_received before received
-  pub answers_are : answers ≡ replies_to before.grammar before.log received
+  pub answers_are : answers ≡ replies_to before.heeded before.log received
 
 -- receives of a round that ended because an allocation failed: the last one gave a message for which the log needed memory
-pub record IsCutGathering (most : ℕ) (grammar : Grammar) (log : Log) (old new : Option (List DeskCall)) : Type 0 where
+pub record IsCutGathering (most : ℕ) (heeded : Heeded) (log : Log) (old new : Option (List DeskCall)) : Type 0 where
   pub received : List Received
-  pub wants : LastWants grammar log received
+  pub wants : LastWants heeded log received
   pub within : length received ≤ most
   pub is_round : IsRound received
   pub reports : Reports old new (on_link (receives received))
@@ -134,7 +134,7 @@ pub record HasTurned (count : ℕ) (before after : KeptState) (old new : Option 
 pub record IsCutRound (most : ℕ) (at : Place) (old new : Option (List DeskCall)) : Type 0 where
   pub received : List Received
   pub cut : List DeskCall
-  pub reason : HasReason at.grammar at.log received
+  pub reason : HasReason at.heeded at.log received
   pub within : length received ≤ most
   pub unanswered : IsUnanswered at received cut
   pub reports : Reports old new cut
@@ -146,7 +146,7 @@ Stays before after old new = (after.tip ≡ before.tip) × Reports old new []
 -- A file that is due is replaced, if the new one can be written; no other is. `last` is its length after the last time, and `next` that after this one
 abbrev pub HasCompacted : (least last next : ℕ) → (before after : KeptState) → (old new : Option (List DeskCall)) → Type 0
 HasCompacted least last next before after old new =
-    (after.log ≡ before.log) × (after.grammar ≡ before.grammar) × (after.round ≡ [])
+    (after.log ≡ before.log) × (after.heeded ≡ before.heeded) × (after.round ≡ [])
     × (((IsDue least last before.tip.end → ⊥) × (next ≡ last) × Stays before after old new)
     ⊎ (IsDue least last before.tip.end × (next ≡ after.tip.end)
     × (((made : List ℕ) × IsCompacted made before.tip before.log after.tip old new) ⊎ Stays before after old new)))

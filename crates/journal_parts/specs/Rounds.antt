@@ -1,12 +1,10 @@
 -- The turns of a logger that keeps its log in a journal. They come in rounds: the receives of all of a round's turns, then the calls that keep what these
 -- changed, then the answers. So no answer is sent before all that its round changed is on the disk.
-use Rattle.std.specs.Prelude.{◌≤◌, ℕ, ◌+◌, Result, Ok, Err, List, [], ◌∷◌, ◌++◌, length, map}
+use Rattle.std.specs.Prelude.{◌≤◌, ℕ, ◌+◌, Option, Some, None, List, [], ◌∷◌, ◌++◌, length, map}
 use Rattle.std.specs.List.{AllByRecursion}
 use Rattle.ft_io.specs.declared.link_call.LinkCall.{LinkCall}
-use Rattle.seq_arith.specs.Message.{Message}
-use Rattle.seq_arith.specs.MessageGrammar.{reading_by}
-use Rattle.seq_arith.specs.declared.kinds.BadMsg.{BadMsg}
-use Rattle.seq_arith.specs.declared.kinds.Grammar.{Grammar}
+use Rattle.forget_store.specs.AnyMessage.{AnyMessage, heeded_in}
+use Rattle.forget_store.specs.declared.heeding.Heeded.{Heeded}
 use Rattle.ft_model.specs.Log.{Log}
 use Rattle.disk.specs.declared.calls.DeskCall.{DeskCall}
 use Rattle.disk.specs.CallRecord.{on_link, on_disk}
@@ -35,53 +33,53 @@ IsRound [] = ⊥
 IsRound (last ∷ earlier) = (length (last ∷ earlier) ≤ 256) × AllByRecursion IsDatagram earlier
 
 -- the log after receives, the newest first, from the log before them
-abbrev pub log_behind : Grammar → Log → List Received → Log
-log_behind grammar log [] = log
-log_behind grammar log (last ∷ earlier) = log_then grammar (log_behind grammar log earlier) last
+abbrev pub log_behind : Heeded → Log → List Received → Log
+log_behind heeded log [] = log
+log_behind heeded log (last ∷ earlier) = log_then heeded (log_behind heeded log earlier) last
 
 abbrev pub receives : List Received → List LinkCall
 receives [] = []
 receives (last ∷ earlier) = receives earlier ++ received_as last ∷ []
 
 -- the bytes of a receive, if they are a message that changes the log
-abbrev pub change_in : Log → List ℕ → Result Message BadMsg → List ℕ
-change_in log bytes (Ok message) = kept_of log message bytes
-change_in log bytes (Err bad) = []
+abbrev pub change_in : Log → List ℕ → Option AnyMessage → List ℕ
+change_in log bytes (Some any) = kept_of log any bytes
+change_in log bytes None = []
 
-abbrev pub change_by : Grammar → Log → Received → List ℕ
-change_by grammar log (datagram from bytes) = change_in log bytes (reading_by grammar bytes)
-change_by grammar log silence = []
-change_by grammar log failure = []
+abbrev pub change_by : Heeded → Log → Received → List ℕ
+change_by heeded log (datagram from bytes) = change_in log bytes (heeded_in heeded bytes)
+change_by heeded log silence = []
+change_by heeded log failure = []
 
 -- the messages that changed the log, each after those before it, one after the other as they arrived
-abbrev pub changes_in : Grammar → Log → List Received → List ℕ
-changes_in grammar log [] = []
-changes_in grammar log (last ∷ earlier) = changes_in grammar log earlier ++ change_by grammar (log_behind grammar log earlier) last
+abbrev pub changes_in : Heeded → Log → List Received → List ℕ
+changes_in heeded log [] = []
+changes_in heeded log (last ∷ earlier) = changes_in heeded log earlier ++ change_by heeded (log_behind heeded log earlier) last
 
 -- each answer is the log's at its message's place, and is sent to the message's sender
-abbrev pub answers_in : Grammar → Log → Round → List LinkCall
-answers_in grammar log [] = []
-answers_in grammar log (last ∷ earlier) =
-    answers_in grammar log earlier ++ answering grammar (log_behind grammar log (received_in earlier)) last.is_lost last.received
+abbrev pub answers_in : Heeded → Log → Round → List LinkCall
+answers_in heeded log [] = []
+answers_in heeded log (last ∷ earlier) =
+    answers_in heeded log earlier ++ answering heeded (log_behind heeded log (received_in earlier)) last.is_lost last.received
 
--- a log, the grammar of its messages, and where the next block begins in the file that has it
+-- a log, which messages it heeds, and where the next block begins in the file that has it
 pub record Place : Type 0 where
   pub tip : Tip
   pub log : Log
-  pub grammar : Grammar
+  pub heeded : Heeded
 
 abbrev pub after_receives : Place → List Received → Place
 after_receives at received = record {
-  tip = tip_after at.tip (changes_in at.grammar at.log received);
-  log = log_behind at.grammar at.log received;
-  grammar = at.grammar;
+  tip = tip_after at.tip (changes_in at.heeded at.log received);
+  log = log_behind at.heeded at.log received;
+  heeded = at.heeded;
 }
 
 -- the calls of a round: its receives, then those that commit exactly the messages that changed the log (none if there are none), then its answers
 abbrev pub round_calls : Place → Round → List DeskCall
 round_calls at round =
     on_link (receives (received_in round))
-    ++ (on_disk (committing at.tip (changes_in at.grammar at.log (received_in round))) ++ on_link (answers_in at.grammar at.log round))
+    ++ (on_disk (committing at.tip (changes_in at.heeded at.log (received_in round))) ++ on_link (answers_in at.heeded at.log round))
 
 -- A step of such a logger's life: a round; a new file, made at this time and with these blocks, takes the place of the old one; or such a file couldn't be
 -- written, and the old one stays
@@ -97,7 +95,7 @@ place_after start (Turned last ∷ earlier) = after_receives (place_after start 
 place_after start (Compacted made bodies ∷ earlier) = record {
   tip = tip_of made bodies;
   log = (place_after start earlier).log;
-  grammar = (place_after start earlier).grammar;
+  heeded = (place_after start earlier).heeded;
 }
 place_after start (Stayed ∷ earlier) = place_after start earlier
 

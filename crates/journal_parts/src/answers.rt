@@ -5,9 +5,9 @@ ghost use Rattle.link_parts.specs.Counts.{HasRoom};
 ghost use Rattle.journal_parts.specs.RoundParts.{HandsOver, HasAnswered};
 
 use disk::Desk;
+use forget_store::AnswerOut;
 use ft_io::Addr;
 use link_parts::Counts;
-use logger_store::MsgOut;
 
 /// An answer and its addressee, to be sent once its round is on the disk; or no bytes.
 #[derive(Drop)]
@@ -15,7 +15,7 @@ pub struct Answer {
     /// The addressee.
     pub to: Addr,
     /// The answer, or no bytes.
-    pub out: MsgOut,
+    pub out: AnswerOut,
 }
 
 /// Hands an answer to send, if it has bytes.

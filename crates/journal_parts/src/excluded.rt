@@ -68,7 +68,7 @@ fn answers_before_the_commit<K: Desk>(
     requires counts { HasRoom 512 counts.old }
     requires room { 256 ≤ vec_capacity answers.old }
     ensures { OnOk result ((received : List Received) × (answered : List LinkCall) × Reports (K.reported desk.old) (K.reported desk.new)
-        (on_link (receives received) ++ (on_disk (committing kept.old.tip (changes_in kept.old.grammar kept.old.log received)) ++ on_link answered))) }
+        (on_link (receives received) ++ (on_disk (committing kept.old.tip (changes_in kept.old.heeded kept.old.log received)) ++ on_link answered))) }
 {
     take_round(alloc, desk, kept, counts, answers, most)
 }

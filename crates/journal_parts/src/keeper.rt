@@ -4,7 +4,7 @@ ghost use Rattle.std.specs.Prelude.{◌≡◌, ◌≤◌, ◌⊎◌, ℕ, List, 
 ghost use Rattle.std.specs.Io.KnownBytes.{Appends};
 ghost use Rattle.ft_io.specs.Faults.{Rose};
 ghost use Rattle.journal_parts.specs.Ends.{UnlessFault};
-ghost use Rattle.link_parts.specs.LoggerParts.{grammar_for};
+ghost use Rattle.link_parts.specs.LoggerParts.{heeded_by};
 ghost use Rattle.journal_parts.specs.LoggerLife.{IsKeeper, KeeperStops, IsOpen, OpeningStops};
 ghost use Rattle.journal_parts.specs.RoundParts.{place_of, HasLived, ServingStops, HasServedNoted, ServingNotedStops};
 ghost use Rattle.link_parts.specs.Ranges.{most_turns};
@@ -13,10 +13,10 @@ use crate::role::JournalRole;
 use crate::rounds::serve;
 use crate::status::{Lack, ProcessEnd, note_cut};
 use disk::Desk;
+use forget_store::Heeded;
 use ft_io::{Failed, Sink};
 use kept_log::KeptLog;
 use link_parts::{NodeEnd, write_counts};
-use logger_wire::Grammar;
 use std::alloc::Global;
 
 /// Opens the journal of a role, or makes it. Returns how many bytes were cut off, too.
@@ -25,10 +25,10 @@ fn open_log<K: Desk>(
     desk: &mut K,
     role: &JournalRole,
 ) -> Result<(KeptLog, usize), ProcessEnd>
-    ensures opened { IfOk result (λ r. IsOpen (grammar_for role.now.logger) role.now.begins (K.file_of desk.old role.now.journal) r.1 (place_of r.0)
+    ensures opened { IfOk result (λ r. IsOpen (heeded_by role.now.logger) role.now.begins (K.file_of desk.old role.now.journal) r.1 (place_of r.0)
         (K.reported desk.old) (K.reported desk.new)) }
     ensures idle { IfOk result (λ r. r.0.round ≡ []) }
-    ensures stops { IfErr result (OpeningStops (grammar_for role.now.logger) role.now.begins (K.file_of desk.old role.now.journal) (K.reported desk.old)
+    ensures stops { IfErr result (OpeningStops (heeded_by role.now.logger) role.now.begins (K.file_of desk.old role.now.journal) (K.reported desk.old)
         (K.reported desk.new)) }
     ensures cause { IsErrOf result ProcessEnd.JournalFault → Rose (K.fault_count desk.old) (K.fault_count desk.new) }
     ensures in_use { IsErrOf result ProcessEnd.InUse → Rose (K.beside desk.old).refusals (K.beside desk.new).refusals }
@@ -37,24 +37,24 @@ fn open_log<K: Desk>(
     ensures never_falls { K.fault_count desk.old ≤ K.fault_count desk.new }
     ensures no_bind_fault { (K.beside desk.new).bind_faults ≡ (K.beside desk.old).bind_faults }
 {
-    let grammar = role.logger.profile.grammar();
+    let heeded = role.logger.heeded();
     if role.begins {
-        make_log(alloc, grammar, desk, role.journal.as_str())
+        make_log(alloc, heeded, desk, role.journal.as_str())
     } else {
-        find_log(alloc, grammar, desk, role.journal.as_str())
+        find_log(alloc, heeded, desk, role.journal.as_str())
     }
 }
 
 /// Opens the journal of this name.
 fn find_log<K: Desk>(
     alloc: Global,
-    grammar: Grammar,
+    heeded: Heeded,
     desk: &mut K,
     name: &str,
 ) -> Result<(KeptLog, usize), ProcessEnd>
-    ensures opened { IfOk result (λ r. IsOpen grammar false (K.file_of desk.old name.now) r.1 (place_of r.0) (K.reported desk.old) (K.reported desk.new)) }
+    ensures opened { IfOk result (λ r. IsOpen heeded false (K.file_of desk.old name.now) r.1 (place_of r.0) (K.reported desk.old) (K.reported desk.new)) }
     ensures idle { IfOk result (λ r. r.0.round ≡ []) }
-    ensures stops { IfErr result (OpeningStops grammar false (K.file_of desk.old name.now) (K.reported desk.old) (K.reported desk.new)) }
+    ensures stops { IfErr result (OpeningStops heeded false (K.file_of desk.old name.now) (K.reported desk.old) (K.reported desk.new)) }
     ensures cause { IsErrOf result ProcessEnd.JournalFault → Rose (K.fault_count desk.old) (K.fault_count desk.new) }
     ensures in_use { IsErrOf result ProcessEnd.InUse → Rose (K.beside desk.old).refusals (K.beside desk.new).refusals }
     ensures missing { result ≡ Err (ProcessEnd.NoJournal Lack.Missing) → Rose (K.beside desk.old).refusals (K.beside desk.new).refusals }
@@ -63,19 +63,19 @@ fn find_log<K: Desk>(
     ensures no_bind_fault { (K.beside desk.new).bind_faults ≡ (K.beside desk.old).bind_faults }
 {
     desk.open(name)?;
-    Ok(KeptLog::open(alloc, grammar, desk)?)
+    Ok(KeptLog::open(alloc, heeded, desk)?)
 }
 
 /// Makes a journal of this name, at the time of the desk's clock.
 fn make_log<K: Desk>(
     alloc: Global,
-    grammar: Grammar,
+    heeded: Heeded,
     desk: &mut K,
     name: &str,
 ) -> Result<(KeptLog, usize), ProcessEnd>
-    ensures opened { IfOk result (λ r. (file : Option (List ℕ)) → IsOpen grammar true file r.1 (place_of r.0) (K.reported desk.old) (K.reported desk.new)) }
+    ensures opened { IfOk result (λ r. (file : Option (List ℕ)) → IsOpen heeded true file r.1 (place_of r.0) (K.reported desk.old) (K.reported desk.new)) }
     ensures idle { IfOk result (λ r. r.0.round ≡ []) }
-    ensures stops { IfErr result (λ end. (file : Option (List ℕ)) → OpeningStops grammar true file (K.reported desk.old) (K.reported desk.new) end) }
+    ensures stops { IfErr result (λ end. (file : Option (List ℕ)) → OpeningStops heeded true file (K.reported desk.old) (K.reported desk.new) end) }
     ensures cause { IsErrOf result ProcessEnd.JournalFault → Rose (K.fault_count desk.old) (K.fault_count desk.new) }
     ensures in_use { IsErrOf result ProcessEnd.InUse → Rose (K.beside desk.old).refusals (K.beside desk.new).refusals }
     ensures present { result ≡ Err (ProcessEnd.NoJournal Lack.Present) → Rose (K.beside desk.old).refusals (K.beside desk.new).refusals }
@@ -85,7 +85,7 @@ fn make_log<K: Desk>(
 {
     desk.begin(name)?;
     let made = desk.time();
-    let kept = KeptLog::begin(alloc, grammar, desk, made)?;
+    let kept = KeptLog::begin(alloc, heeded, desk, made)?;
     Ok((kept, 0))
 }
 

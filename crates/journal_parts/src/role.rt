@@ -4,16 +4,16 @@ ghost use Rattle.std.specs.Prelude.{◌≡◌, ◌≤◌, List, map, string_byte
 ghost use Rattle.link_parts.specs.Options.{Use, HasValues};
 ghost use Rattle.link_parts.specs.Options.{value_of};
 ghost use Rattle.link_parts.specs.declared.options.OptionName.TheVariants as option;
-ghost use Rattle.journal_parts.specs.Words.{file_of, begins_by, compact_by, journal_in, journal_of};
+ghost use Rattle.journal_parts.specs.Words.{file_of, compact_by, journal_in, journal_of};
 ghost use Rattle.link_parts.specs.Ranges.{most_turns};
 
 use clap::ArgMatches;
 use ft_io::NoMemory;
-use link_parts::{LoggerRole, OptionName, is_name, logger_role, number_or, read_options};
+use link_parts::{LoggerRole, OptionName, is_name, logger_role, number_or, read_options, yes_at};
 use std::alloc::Global;
 use std::marker::Model;
 
-const JOURNAL_OPTIONS: [OptionName; 7] = [
+const JOURNAL_OPTIONS: [OptionName; 8] = [
     OptionName::Local,
     OptionName::Turns,
     OptionName::Times,
@@ -21,6 +21,7 @@ const JOURNAL_OPTIONS: [OptionName; 7] = [
     OptionName::Begin,
     OptionName::Compact,
     OptionName::Profile,
+    OptionName::Forget,
 ];
 
 /// The bounds of what the words may say of a file's length, in bytes, and what holds where they say nothing.
@@ -67,7 +68,7 @@ impl FileName {
 /// A logger that keeps its log in a journal.
 #[derive(Drop)]
 pub struct JournalRole {
-    /// Its address and turns.
+    /// Its address and turns, and which messages it heeds.
     pub logger: LoggerRole,
     /// Its file.
     pub journal: FileName,
@@ -75,17 +76,6 @@ pub struct JournalRole {
     pub begins: bool,
     /// The longest file that isn't replaced by a shorter one, in bytes.
     pub compact: u64,
-}
-
-/// Whether a logger makes its file, or `None` where its option has another value than `yes`.
-fn begins_at(matches: &ArgMatches<'_>) -> Option<bool>
-    ensures { (uses : List Use) → HasValues uses matches.now → result ≡ begins_by (value_of uses option.Begin) }
-{
-    match matches.get_str(OptionName::Begin.word()) {
-        None => Some(false),
-        Some(word) if word == "yes" => Some(true),
-        Some(_) => None,
-    }
 }
 
 /// The longest file that isn't replaced by a shorter one: 4,096 to 2^40 bytes, and 64 MiB without the option. `None` where it has another value.
@@ -111,7 +101,7 @@ fn journal_role(alloc: Global, matches: &ArgMatches<'_>) -> Result<Option<Journa
     let Some(word) = matches.get_str(OptionName::Journal.word()) else {
         return Ok(None);
     };
-    let Some(begins) = begins_at(matches) else {
+    let Some(begins) = yes_at(matches, OptionName::Begin) else {
         return Ok(None);
     };
     let Some(compact) = compact_at(matches) else {

@@ -8,8 +8,8 @@ ghost use Rattle.ft_io.specs.Reported.{Reports};
 ghost use Rattle.disk.specs.CallRecord.{on_link};
 ghost use Rattle.link_parts.specs.Counts.{HasRoom, with_calls};
 ghost use Rattle.link_parts.specs.Receipt.{Received, datagram, received_as, IsQuiet};
-ghost use Rattle.seq_arith.specs.MessageGrammar.{reading_by};
-ghost use Rattle.logger_store.specs.StoreState.{answer_bytes_by};
+ghost use Rattle.forget_store.specs.AnyMessage.{heeded_in};
+ghost use Rattle.forget_store.specs.Replies.{reply_bytes};
 ghost use Rattle.kept_log.specs.JournaledLog.{is_full};
 ghost use Rattle.link_parts.specs.LoggerTurns.{answer_for, wants_in};
 ghost use Rattle.journal_parts.specs.RoundParts.{place_of, with_bytes, HasTaken, HasGathered, IsCutGathering, HasTurned, IsCutRound, HasCompacted};
@@ -22,11 +22,10 @@ ghost use Rattle.link_parts.specs.Ranges.{most_turns};
 use crate::answers::{Answer, reply_to_all};
 use crate::status::ProcessEnd;
 use disk::Desk;
+use forget_store::{AnswerOut, read_heeded};
 use ft_io::{Addr, Failed, NoMemory, Receipt};
 use kept_log::KeptLog;
 use link_parts::Counts;
-use logger_store::MsgOut;
-use logger_wire::read_msg_by;
 use std::alloc::Global;
 
 /// The length of the buffer for a datagram, in bytes: no message is longer.
@@ -63,17 +62,17 @@ fn receive<K: Desk>(
     }
 }
 
-/// Applies to the log the message that the bytes spell in its grammar, and returns the answer. Returns no bytes if there is no answer or the bytes are no such
-/// message.
-fn answer(alloc: Global, kept: &mut KeptLog, bytes: &[u8]) -> Result<MsgOut, NoMemory>
+/// Applies to the log the message that the bytes spell, and returns the answer. Returns no bytes if there is no answer or the bytes are no message that is
+/// heeded.
+fn answer(alloc: Global, kept: &mut KeptLog, bytes: &[u8]) -> Result<AnswerOut, NoMemory>
     requires { is_full kept.old ≡ false }
     ensures next { OnOk result (kept.new ≡ with_bytes kept.old bytes.now) }
-    ensures answer { IfOk result (λ out. out ≡ answer_bytes_by kept.old.grammar (answer_for kept.old.log (reading_by kept.old.grammar bytes.now))) }
-    ensures memory { OnErr result (wants_in kept.old.log (reading_by kept.old.grammar bytes.now) ≡ true) }
+    ensures answer { IfOk result (λ out. out ≡ reply_bytes kept.old.heeded.grammar (answer_for kept.old.log (heeded_in kept.old.heeded bytes.now))) }
+    ensures memory { OnErr result (wants_in kept.old.log (heeded_in kept.old.heeded bytes.now) ≡ true) }
 {
-    let mut out = MsgOut::new();
-    if let Ok(m) = read_msg_by(kept.grammar(), bytes) {
-        kept.take(alloc, bytes, &m, &mut out)?;
+    let mut out = AnswerOut::new();
+    if let Some(any) = read_heeded(kept.heeded(), bytes) {
+        kept.take(alloc, bytes, &any, &mut out)?;
     }
     Ok(out)
 }
@@ -92,7 +91,7 @@ fn take_next<K: Desk>(
     requires space { vec_len answers.old < vec_capacity answers.old }
     ensures taken { IfOk result (λ more. HasTaken more kept.old kept.new (K.reported desk.old)
         (K.reported desk.new) counts.old counts.new answers.old.items answers.new.items) }
-    ensures cut_off { OnErr result ((r : Received) × (wants_then kept.old.grammar kept.old.log r ≡ true)
+    ensures cut_off { OnErr result ((r : Received) × (wants_then kept.old.heeded kept.old.log r ≡ true)
         × Reports (K.reported desk.old) (K.reported desk.new) (on_link (received_as r ∷ []))) }
     ensures waited { Reports (K.beside desk.old).waits (K.beside desk.new).waits (waits ∷ []) }
     ensures few { vec_len answers.new ≤ vec_len answers.old + 1 }
@@ -127,7 +126,7 @@ fn gather<K: Desk>(
     ensures count { IfOk result (λ count. (1 ≤ count) × (count ≤ most)) }
     ensures gathered { IfOk result (λ count. HasGathered count kept.old kept.new (K.reported desk.old)
         (K.reported desk.new) counts.old counts.new answers.new.items) }
-    ensures cut_off { OnErr result (IsCutGathering most kept.old.grammar kept.old.log (K.reported desk.old) (K.reported desk.new)) }
+    ensures cut_off { OnErr result (IsCutGathering most kept.old.heeded kept.old.log (K.reported desk.old) (K.reported desk.new)) }
     ensures waited { IfOk result (λ count. Reports (K.beside desk.old).waits (K.beside desk.new).waits (waits_in count)) }
     ensures capacity { vec_capacity answers.new ≡ vec_capacity answers.old }
     ensures no_disk_fault { K.fault_count desk.new ≡ K.fault_count desk.old }

@@ -1,12 +1,14 @@
 -- A new file while it is written: its header, one more block, and one more message.
-use Rattle.std.proofs.Common.{◌≡◌, ◌∙◌, inl, inr, ℕ, true, false, refl, sym, ap, subst, Option, None, Some, List, [], ◌∷◌, ◌++◌, length, append_assoc, append-nil}
+use Rattle.std.proofs.Common.{◌≡◌, ◌∙◌, inl, inr, ℕ, true, false, refl, sym, ap, subst, Option, None, Some, List, [], ◌∷◌, ◌++◌, length, map, append_assoc, append-nil}
 use Rattle.std.specs.Option.{option_to_list}
 use Rattle.seq_arith.specs.Message.{Message}
 use Rattle.seq_arith.specs.declared.kinds.Grammar.{Grammar}
-use Rattle.ft_model.specs.Log.{Log}
+use Rattle.ft_model.specs.Log.{Log, empty_log}
 use Rattle.long_laws.specs.Snapshot.{IsSnapshotOf, IsOrdered}
 use Rattle.long_laws.proofs.Snapshots.{snapshot_made}
-use Rattle.long_laws.proofs.Ordered.{folds_ordered}
+use Rattle.forget_store.specs.AnyMessage.AnyMessage.{Usual}
+use Rattle.forget_store.proofs.AnyLogs.{any_logs_are_ordered, each_usual}
+use Rattle.std.proofs.lemmas.List.{map-append}
 use Rattle.log_snapshot.specs.Steps.{IsSaid}
 use Rattle.ft_io.specs.Reported.{Reports}
 use Rattle.ft_io.proofs.Recordings.{reports_on}
@@ -18,7 +20,7 @@ use Rattle.disk.specs.declared.calls.DeskCall.{DeskCall}
 use Rattle.disk.specs.declared.calls.DeskCall.TheVariants.{OnDisk}
 use Rattle.disk.specs.declared.calls.DiskCall.TheVariants.{Synced, Replaced}
 use Rattle.kept_log.specs.Format.{header, front, first_tip, next_tip, tip_of, block, IsRound}
-use Rattle.kept_log.specs.MessageList.{Says, AreKept}
+use Rattle.kept_log.specs.MessageList.{Says, AllSay, AreKept}
 use Rattle.kept_log.specs.Compaction.{HasSameLog, replacing, IsCompacted, IsCutCompaction}
 use Rattle.kept_log.specs.Draft.{DraftState, IsDraft, IsWritten}
 use Rattle.kept_log.specs.declared.tip.Tip.{Tip}
@@ -50,7 +52,10 @@ flushed written old new before after few is next none more = λ made messages d.
   written = subst (HasAside new)
       (ap (λ (l : List ℕ). front made d.bodies ++ l) (is ∙ ap (λ t. block t before.body) d.tip_is) ∙ sym (front_push made d.bodies before.body)) (more (front made d.bodies) d.written);
   tip_is = next ∙ (ap (λ t. next_tip t before.body) d.tip_is ∙ sym (tip_push made d.bodies before.body));
-  kept = record { small = small_push d.bodies before.body d.kept.small few; say = say_push d.bodies d.first before.body d.last d.kept.say d.says };
+  kept = record {
+    small = small_push d.bodies before.body d.kept.small few;
+    say = subst (AllSay (d.bodies ++ before.body ∷ [])) (sym (map-append Usual d.first d.last)) (say_push d.bodies (map Usual d.first) before.body (map Usual d.last) d.kept.say d.says);
+  };
   says = none;
   messages_are = ap (λ (l : List Message). l ++ []) d.messages_are;
 }
@@ -67,7 +72,9 @@ taken grammar aside before after bytes (Some message) tip body reads = λ made m
   written = d.written;
   tip_is = tip ∙ d.tip_is;
   kept = d.kept;
-  says = subst (λ b. Says b (d.last ++ message ∷ [])) (sym body) (says_push before.body bytes d.last message d.says (record { grammar = grammar; reads = reads }));
+  says = subst (λ b. Says b (map Usual (d.last ++ message ∷ []))) (sym body)
+      (subst (Says (before.body ++ bytes)) (sym (map-append Usual d.last (message ∷ [])))
+      (says_push before.body bytes (map Usual d.last) (Usual message) d.says (record { grammar = grammar; reads = reads })));
   messages_are = ap (λ (l : List Message). l ++ message ∷ []) d.messages_are ∙ append_assoc d.first d.last (message ∷ []);
 }
 taken grammar aside before after bytes None tip body none = λ made messages d. record {
@@ -78,7 +85,7 @@ taken grammar aside before after bytes None tip body none = λ made messages d. 
   written = d.written;
   tip_is = tip ∙ d.tip_is;
   kept = d.kept;
-  says = subst (λ b. Says b d.last) (sym (body ∙ (ap (λ (l : List ℕ). before.body ++ l) none ∙ append-nil before.body))) d.says;
+  says = subst (λ b. Says b (map Usual d.last)) (sym (body ∙ (ap (λ (l : List ℕ). before.body ++ l) none ∙ append-nil before.body))) d.says;
   messages_are = append-nil messages ∙ d.messages_are;
 }
 
@@ -92,20 +99,20 @@ pub written_none : (aside : Option (List ℕ)) (draft : DraftState) → IsWritte
 written_none aside draft = λ made earlier d. subst (IsDraft made aside draft) (sym (append-nil earlier)) d
 
 -- the same log, from the new file
-pub same_log : (made : List ℕ) (bodies : List (List ℕ)) (tip : Tip) (log : Log) (messages : List Message) → length made ≡ 8 → IsSnapshotOf log messages → AreKept bodies messages
+pub same_log : (made : List ℕ) (bodies : List (List ℕ)) (tip : Tip) (log : Log) (messages : List Message) → length made ≡ 8 → IsSnapshotOf log messages → AreKept bodies (map Usual messages)
     → HasSameLog tip log made bodies
 same_log made bodies tip log messages eight snapshot kept = λ time old has. record {
   time = eight;
-  messages = messages;
+  messages = map Usual messages;
   kept = kept;
   tip_is = refl;
-  log_is = sym (snapshot_made log messages (subst IsOrdered (sym has.log_is) (folds_ordered has.messages)) snapshot);
+  log_is = sym (snapshot_made log messages (subst IsOrdered (sym has.log_is) (any_logs_are_ordered has.messages)) snapshot) ∙ sym (each_usual empty_log messages);
 }
 
 -- the whole file that was written and synced
 abbrev pub IsSynced : (made : List ℕ) (log : Log) (aside : Option (List ℕ)) (tip : Tip) → Type 0
 IsSynced made log aside tip =
-    (bodies : List (List ℕ)) × (messages : List Message) × IsSnapshotOf log messages × AreKept bodies messages × (tip ≡ tip_of made bodies) × HasAside aside (front made bodies)
+    (bodies : List (List ℕ)) × (messages : List Message) × IsSnapshotOf log messages × AreKept bodies (map Usual messages) × (tip ≡ tip_of made bodies) × HasAside aside (front made bodies)
 
 -- its place is taken
 abbrev pub IsPlaced : (aside : Option (List ℕ)) (old new : Option (List DeskCall)) → Type 0

@@ -17,6 +17,7 @@ use Rattle.kept_log.specs.declared.block.Start.TheVariants as starts
 use Rattle.kept_log.specs.declared.header.Begin.TheVariants as begins
 use Rattle.kept_log.specs.declared.reading.Found.{Found}
 use Rattle.kept_log.specs.declared.reading.Found.TheVariants as finds
+use Rattle.forget_store.specs.AnyMessage.AnyMessage.{Usual}
 use Rattle.kept_log.specs.MessageList.{IsSpelling}
 use Rattle.kept_log.specs.Startup.{IsOtherwise, BeginsOtherwise, IsOfOther, HasGrammar, HasOtherGrammar}
 use Rattle.kept_log.specs.ReadSteps.{HasBegin, StartsWith, FindsBehind, FindsIn}
@@ -30,7 +31,7 @@ spelling_of : (grammar : Grammar) (bytes : List ℕ) → (o : IsOtherwise gramma
 spelling_of grammar bytes o = record { grammar = o.other; reads = o.reads }
 
 first_of : (grammar : Grammar) (bytes : List ℕ) → (o : IsOtherwise grammar bytes) → IsFirst bytes o.first
-first_of grammar bytes o = first_is bytes o.first o.rest o.message o.is (spelling_of grammar bytes o)
+first_of grammar bytes o = first_is bytes o.first o.rest (Usual o.message) o.is (spelling_of grammar bytes o)
 
 -- what is too short for its first message has none
 pub none_short : (grammar : Grammar) (bytes : List ℕ) → (length bytes < 6) ⊎ (length bytes < word_at bytes 4) → IsOtherwise grammar bytes → ⊥

@@ -1,5 +1,5 @@
 -- What was written of an entry, and of entries, so far.
-use Rattle.std.proofs.Common.{◌≡◌, ◌∙◌, ℕ, zero, suc, ◌+◌, ◌<◌, take, add-one, refl, sym, ap, subst, arith, Option, None, Some, List, [], ◌∷◌, ◌++◌, length, length-append, append_assoc, append-nil}
+use Rattle.std.proofs.Common.{◌≡◌, ◌∙◌, ℕ, zero, suc, ◌+◌, ◌<◌, take, add-one, refl, sym, ap, subst, arith, Option, None, Some, List, [], ◌∷◌, ◌++◌, length, map, length-append, append_assoc, append-nil}
 use Rattle.std.specs.Prelude.{slice_get}
 use Rattle.std.specs.Option.{option_to_list}
 use Rattle.std.proofs.lemmas.List.{take_all}
@@ -11,6 +11,7 @@ use Rattle.long_laws.specs.Snapshot.{said, joined, messages_of, AreSaid, IsSnaps
 use Rattle.log_snapshot.specs.Steps.{IsRest}
 use Rattle.log_snapshot.specs.declared.writing_steps.Step.{Step}
 use Rattle.log_snapshot.specs.declared.writing_steps.Step.TheVariants.{Open}
+use Rattle.forget_store.specs.AnyMessage.AnyMessage.{Usual}
 use Rattle.kept_log.specs.Draft.{DraftState, IsDraft, IsWritten}
 use Rattle.kept_log.proofs.Drafts.{written_on, written_none}
 use Rattle.kept_log.specs.Format.{front, tip_of}
@@ -100,11 +101,11 @@ pub record IsNewFile (made : List ℕ) (log : Log) (aside : Option (List ℕ)) (
   pub bodies : List (List ℕ)
   pub messages : List Message
   pub snapshot : IsSnapshotOf log messages
-  pub kept : AreKept bodies messages
+  pub kept : AreKept bodies (map Usual messages)
   pub tip_is : draft.tip ≡ tip_of made bodies
   pub written : HasAside aside (front made bodies)
 
-no_more : (body : List ℕ) (last : List Message) → body ≡ [] → Says body last → last ≡ []
+no_more : (body : List ℕ) (last : List Message) → body ≡ [] → Says body (map Usual last) → last ≡ []
 no_more body [] none says = refl
 no_more body (message ∷ last) none (first, rest, is, reads, says) =
     let w = whole first message reads in
@@ -121,7 +122,7 @@ new_file made log a0 a1 a2 a3 d0 d1 d2 d3 begun hello (messages, are, w) flushed
       bodies = all.bodies;
       messages = said log.boot HelloMsg ∷ messages;
       snapshot = (messages, refl, are);
-      kept = subst (AreKept all.bodies) same all.kept;
+      kept = subst (λ ms. AreKept all.bodies (map Usual ms)) same all.kept;
       tip_is = all.tip_is;
       written = all.written;
     }

@@ -1,7 +1,7 @@
 -- A step takes a block, or reads more.
 use Rattle.std.proofs.Common.{◌≡◌, ◌∙◌, ◌+◌, ◌≤◌, Option, List, ◌++◌, ℕ, length, take, drop, refl, sym, ap, subst, arith, append_assoc}
 use Rattle.std.proofs.lemmas.List.{drop-drop}
-use Rattle.seq_arith.specs.Message.{Message}
+use Rattle.forget_store.specs.AnyMessage.{AnyMessage}
 use Rattle.kept_log.specs.Format.{seal, block, next_tip, IsRound}
 use Rattle.kept_log.specs.JournaledLog.{Waits}
 use Rattle.kept_log.specs.MessageList.{Says}
@@ -65,7 +65,7 @@ module _ (tip : Tip) (bytes : List ℕ) (n : ℕ) (digest : List ℕ) (salt : le
         passed begins.0 begins.3 begins.5,
       )
 
-  pub block_wrong : ((messages : List Message) → Says (take n (drop 44 bytes)) messages → ⊥) → (more : List ℕ) → HasNoBlock tip (bytes ++ more)
+  pub block_wrong : ((messages : List AnyMessage) → Says (take n (drop 44 bytes)) messages → ⊥) → (more : List ℕ) → HasNoBlock tip (bytes ++ more)
   block_wrong bad more =
       let all : bytes ++ more ≡ block tip begins.0 ++ (begins.1 ++ more) = ap (λ (l : List ℕ). l ++ more) begins.2 ∙ append_assoc (block tip begins.0) begins.1 more in
       record {

@@ -1,6 +1,7 @@
 -- A new file of a journal while it is written, before it takes the place of the old one.
-use Rattle.std.specs.Prelude.{◌≡◌, ℕ, Option, List, ◌++◌, length}
+use Rattle.std.specs.Prelude.{◌≡◌, ℕ, Option, List, ◌++◌, length, map}
 use Rattle.seq_arith.specs.Message.{Message}
+use Rattle.forget_store.specs.AnyMessage.AnyMessage.{Usual}
 use Rattle.disk.specs.Aside.{HasAside}
 use Rattle.kept_log.specs.Format.{front, tip_of}
 use Rattle.kept_log.specs.MessageList.{Says, AreKept}
@@ -18,8 +19,8 @@ pub record IsDraft (made : List ℕ) (aside : Option (List ℕ)) (draft : DraftS
   pub last : List Message
   pub written : HasAside aside (front made bodies)
   pub tip_is : draft.tip ≡ tip_of made bodies
-  pub kept : AreKept bodies first
-  pub says : Says draft.body last
+  pub kept : AreKept bodies (map Usual first)
+  pub says : Says draft.body (map Usual last)
   pub messages_are : messages ≡ first ++ last
 
 -- these messages were written after all earlier ones

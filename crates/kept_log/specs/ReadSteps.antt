@@ -8,7 +8,7 @@ use Rattle.kept_log.specs.MessageList.{AreKept}
 use Rattle.kept_log.specs.JournaledLog.{HasLog, Waits}
 use Rattle.kept_log.specs.Startup.{IsFollowed, IsTorn, HasNoBlock, IsOlder, IsUnfinished, HasNoHeader, IsDamaged, HasGrammar, HasOtherGrammar}
 use Rattle.seq_arith.specs.declared.kinds.Grammar.{Grammar}
-use Rattle.seq_arith.specs.Message.{Message}
+use Rattle.forget_store.specs.AnyMessage.{AnyMessage}
 use Rattle.kept_log.specs.declared.tip.Tip.{Tip}
 use Rattle.kept_log.specs.declared.header.Begin.{Begin}
 use Rattle.kept_log.specs.declared.header.Begin.TheVariants as begins
@@ -61,7 +61,7 @@ pub record IsAt (made first : List ℕ) (old new : Option (List ℕ)) (window : 
 -- these bytes are blocks, and from this place of the file on there is no block
 pub record IsBrokenAt (at : ℕ) (made bytes : List ℕ) : Type 0 where
   pub bodies : List (List ℕ)
-  pub messages : List Message
+  pub messages : List AnyMessage
   pub rest : List ℕ
   pub is : bytes ≡ chain (first_tip made) bodies ++ rest
   pub kept : AreKept bodies messages

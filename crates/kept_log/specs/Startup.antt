@@ -5,6 +5,7 @@ use Rattle.seq_arith.specs.Message.{Message}
 use Rattle.seq_arith.specs.MessageGrammar.{number_in, reading_by}
 use Rattle.seq_arith.specs.declared.kinds.Grammar.{Grammar}
 use Rattle.ft_model.specs.Log.{Log}
+use Rattle.forget_store.specs.AnyMessage.{AnyMessage}
 use Rattle.ft_io.specs.Reported.{Reports}
 use Rattle.disk.specs.declared.calls.DiskCall.{DiskCall}
 use Rattle.disk.specs.declared.calls.DeskCall.{DeskCall}
@@ -52,7 +53,7 @@ pub record IsWhole (file made : List ℕ) (bodies : List (List ℕ)) (calls : Li
 -- these bytes begin neither with a block whose body is messages, nor are they what a death leaves
 pub record HasNoBlock (tip : Tip) (bytes : List ℕ) : Type 0 where
   pub no_end : IsTorn tip bytes → ⊥
-  pub no_block : (body rest : List ℕ) (messages : List Message) → IsRound body → bytes ≡ block tip body ++ rest → Says body messages → ⊥
+  pub no_block : (body rest : List ℕ) (messages : List AnyMessage) → IsRound body → bytes ≡ block tip body ++ rest → Says body messages → ⊥
 
 -- a file of the first version
 abbrev pub IsOlder : (file : List ℕ) → Type 0
@@ -104,7 +105,7 @@ pub record HasNoHeader (file : List ℕ) : Type 0 where
 pub record IsBroken (at : ℕ) (file : List ℕ) : Type 0 where
   pub made : List ℕ
   pub bodies : List (List ℕ)
-  pub messages : List Message
+  pub messages : List AnyMessage
   pub rest : List ℕ
   pub time : length made ≡ 8
   pub is : file ≡ front made bodies ++ rest
@@ -129,7 +130,7 @@ pub record IsOpened (left : Option (List ℕ)) (old new : Option (List DeskCall)
 pub record IsCutShort (left : Option (List ℕ)) (old new : Option (List DeskCall)) : Type 0 where
   pub made : List ℕ
   pub bodies : List (List ℕ)
-  pub messages : List Message
+  pub messages : List AnyMessage
   pub calls : List DiskCall
   pub done : List DiskCall
   pub kept : AreKept bodies messages

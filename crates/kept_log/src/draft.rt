@@ -45,7 +45,7 @@ impl Draft {
         self.tip
     }
 
-    #[tactic(auto, using(crate::proofs::Drafts::begun, crate::proofs::Files::quiet_on, ft_io::proofs::Recordings::none_reported))]
+    #[tactic(auto, using(crate::proofs::Files::quiet_on, ft_io::proofs::Recordings::none_reported))]
     /// Begins a new file with the header of a journal that is made at this time.
     pub fn begin<K: Desk>(alloc: Global, desk: &mut K, made: &[u8; TIME]) -> Result<Draft, KeepEnd>
         requires time { length made.now ≡ 8 }

@@ -1,7 +1,7 @@
 //! Wrong results that the contracts of this crate exclude. Each function calls another one of the crate, and promises of its result what a wrong body would
 //! make false. It is proved from the other's contract alone, so it is no longer proved once that contract lets the wrong body pass.
 
-ghost use Rattle.std.specs.Prelude.{◌≡◌, ◌≤◌, ◌<◌, ◌^◌, ℕ, [], ◌∷◌, ◌++◌, List, Some, Ok, true, false, length, drop, IfOk, OnOk};
+ghost use Rattle.std.specs.Prelude.{◌≡◌, ◌≤◌, ◌<◌, ◌^◌, ℕ, [], ◌∷◌, ◌++◌, List, Some, true, false, length, drop, IfOk, OnOk};
 ghost use Rattle.disk.specs.declared.calls.DeskCall.{DeskCall};
 ghost use Rattle.disk.specs.declared.calls.DeskCall.TheVariants.{OnDisk};
 ghost use Rattle.disk.specs.declared.calls.DiskCall.TheVariants.{Synced, Replaced};
@@ -10,9 +10,11 @@ ghost use Rattle.ft_io.specs.Reported.{Reports};
 ghost use Rattle.kept_log.specs.Format.{digest, front, tip_of, BeginsNone};
 ghost use Rattle.kept_log.specs.JournaledLog.{is_full};
 ghost use Rattle.kept_log.specs.Startup.{IsFollowed, IsOfOther};
-ghost use Rattle.logger_store.specs.Changes.{changes};
-ghost use Rattle.logger_wire.specs.Value.{message_of, IsSendableBy};
-ghost use Rattle.seq_arith.specs.MessageGrammar.{number_bytes, reading_by};
+ghost use Rattle.seq_arith.specs.MessageGrammar.{number_bytes};
+ghost use Rattle.long_laws.specs.ForgetGrammar.{IsSpellable};
+ghost use Rattle.forget_wire.specs.Value.{message_of};
+ghost use Rattle.forget_store.specs.AnyMessage.{any_said, heeded_in, is_changed_by, IsAnswerable};
+ghost use Rattle.forget_store.specs.AnyMessage.AnyMessage.{Forgetting};
 
 use crate::header::TIME;
 use crate::journal::KeepEnd;
@@ -22,9 +24,11 @@ use crate::snapshot::write_snapshot;
 use crate::tip::{DIGEST, Tip, seal_of};
 use crate::window::Window;
 use disk::{Desk, Disk};
+use forget_store::{AnswerOut, AnyMsg, Heeded};
+use forget_wire::ForgetMsg;
 use ft_io::{Failed, NoMemory};
-use logger_store::{LogStore, MsgOut};
-use logger_wire::{Grammar, Msg};
+use logger_store::LogStore;
+use logger_wire::Grammar;
 use std::alloc::Global;
 
 /// A block that isn't the next one isn't taken: the contract of `take_block`.
@@ -91,16 +95,33 @@ fn a_short_message_is_not_kept(
     kept: &mut KeptLog,
     alloc: Global,
     bytes: &[u8],
-    m: &Msg<'_>,
-    out: &mut MsgOut,
+    any: &AnyMsg<'_>,
+    out: &mut AnswerOut,
 ) -> Result<(), NoMemory>
-    requires sendable { IsSendableBy kept.old.grammar m.now }
-    requires read { reading_by kept.old.grammar bytes.now ≡ Ok (message_of m.now) }
+    requires answerable { IsAnswerable kept.old.heeded.grammar any.now }
+    requires read { heeded_in kept.old.heeded bytes.now ≡ Some (any_said any.now) }
     requires room { is_full kept.old ≡ false }
-    requires changes { changes kept.old.log (message_of m.now) ≡ true }
+    requires changes { is_changed_by kept.old.log (any_said any.now) ≡ true }
     ensures { OnOk result (kept.new.round ≡ kept.old.round ++ bytes.now) }
 {
-    kept.take(alloc, bytes, m, out)
+    kept.take(alloc, bytes, any, out)
+}
+
+/// .. and so does each message about forgetting that recycles an entry: the clause `round` of `KeptLog::take`.
+fn a_forget_is_not_kept(
+    kept: &mut KeptLog,
+    alloc: Global,
+    bytes: &[u8],
+    m: ForgetMsg,
+    out: &mut AnswerOut,
+) -> Result<(), NoMemory>
+    requires spellable { IsSpellable (message_of m) }
+    requires read { heeded_in kept.old.heeded bytes.now ≡ Some (Forgetting (message_of m)) }
+    requires room { is_full kept.old ≡ false }
+    requires recycles { is_changed_by kept.old.log (Forgetting (message_of m)) ≡ true }
+    ensures { OnOk result (kept.new.round ≡ kept.old.round ++ bytes.now) }
+{
+    kept.take(alloc, bytes, &AnyMsg::Forgetting(m), out)
 }
 
 /// A new file is on the disk before it takes the old one's name: the clause `written` of `write_snapshot`.
@@ -135,11 +156,11 @@ fn answered_before_the_folder_is_synced<K: Desk>(
 /// A journal of another grammar isn't opened: the clause `has_grammar` of `KeptLog::open`.
 fn a_journal_of_another_grammar_is_opened<D: Disk>(
     alloc: Global,
-    grammar: Grammar,
+    heeded: Heeded,
     disk: &mut D,
 ) -> bool
-    requires { (file : List ℕ) × (D.left disk.old ≡ Some file) × IsOfOther grammar file }
+    requires { (file : List ℕ) × (D.left disk.old ≡ Some file) × IsOfOther heeded.grammar file }
     ensures { result ≡ false }
 {
-    KeptLog::open(alloc, grammar, disk).is_ok()
+    KeptLog::open(alloc, heeded, disk).is_ok()
 }

@@ -1,14 +1,13 @@
 //! The log with its journal.
 
-ghost use Rattle.std.specs.Prelude.{[], ◌≡◌, ◌≤◌, List, ℕ, Ok, true, false, length, IfOk, IfErr, OnOk, OnErr, IsOk, IsErrOf};
+ghost use Rattle.std.specs.Prelude.{[], ◌≡◌, ◌≤◌, List, ℕ, Some, true, false, length, IfOk, IfErr, OnOk, OnErr, IsOk, IsErrOf};
 ghost use Rattle.seq_arith.specs.MessageGrammar.{number_bytes};
 ghost use Rattle.kept_log.specs.Format.{making};
 ghost use Rattle.ft_io.specs.Faults.{Rose};
 ghost use Rattle.ft_io.specs.Reported.{Reports};
-ghost use Rattle.seq_arith.specs.MessageGrammar.{reading_by};
-ghost use Rattle.ft_model.specs.Log.{Log, log_after, answer_to};
-ghost use Rattle.logger_wire.specs.Value.{message_of, IsSendableBy};
-ghost use Rattle.logger_store.specs.StoreState.{answer_bytes_by, wants_memory};
+ghost use Rattle.ft_model.specs.Log.{Log};
+ghost use Rattle.forget_store.specs.AnyMessage.{any_said, heeded_in, log_after_any, answer_to_any, wants_for, IsAnswerable};
+ghost use Rattle.forget_store.specs.Replies.{reply_bytes};
 ghost use Rattle.disk.specs.declared.calls.DiskCall.{DiskCall};
 ghost use Rattle.disk.specs.Remains.{IsFrontOf};
 ghost use Rattle.disk.specs.CallRecord.{on_disk};
@@ -23,10 +22,10 @@ use crate::opening::{OpenEnd, make, open_file};
 use crate::snapshot::replace_file;
 use crate::tip::Tip;
 use disk::{Desk, Disk};
+use forget_store::{AnswerOut, AnyMsg, Heeded, is_changed, take_any};
 use ft_io::{Failed, NoMemory};
 use limits::MESSAGE;
-use logger_store::{LogStore, MsgOut};
-use logger_wire::{Grammar, Msg};
+use logger_store::LogStore;
 use std::alloc::Global;
 use std::marker::Model;
 
@@ -35,8 +34,8 @@ use std::marker::Model;
 #[derive(Drop)]
 pub struct KeptLog {
     store: LogStore,
-    /// The grammar of all its messages.
-    grammar: Grammar,
+    /// Which messages it heeds.
+    heeded: Heeded,
     /// Where the next block begins in the journal.
     tip: Tip,
     /// Its room is allocated once.
@@ -49,7 +48,7 @@ impl Model for KeptLog {
 
     ghost Value = { KeptState };
 
-    ghost view = { λ k. record { log = k.store; grammar = k.grammar; tip = k.tip; round = k.round.items } };
+    ghost view = { λ k. record { log = k.store; heeded = k.heeded; tip = k.tip; round = k.round.items } };
 
     ghost invariant = { λ k. (length k.round.items ≤ 381696) × (381696 ≤ vec_capacity k.round) };
 }
@@ -59,14 +58,14 @@ impl KeptLog {
     /// too. A file that isn't a whole journal of this grammar stays as it is.
     pub fn open<D: Disk>(
         alloc: Global,
-        grammar: Grammar,
+        heeded: Heeded,
         disk: &mut D,
     ) -> Result<(KeptLog, usize), OpenEnd>
         ensures opened { IfOk result (λ r. IsOpened (D.left disk.old) (D.reported disk.old) (D.reported disk.new) r.0.tip r.1 r.0.log) }
         ensures none_waits { IfOk result (λ r. r.0.round ≡ []) }
-        ensures grammar { IfOk result (λ r. r.0.grammar ≡ grammar) }
-        ensures has_grammar { OnOk result (HasGrammar grammar (D.left disk.old)) }
-        ensures other { IsErrOf result OpenEnd.OtherGrammar → HasOtherGrammar grammar (D.left disk.old) }
+        ensures heeded { IfOk result (λ r. r.0.heeded ≡ heeded) }
+        ensures has_grammar { OnOk result (HasGrammar heeded.grammar (D.left disk.old)) }
+        ensures other { IsErrOf result OpenEnd.OtherGrammar → HasOtherGrammar heeded.grammar (D.left disk.old) }
         ensures stopped { IfErr result (HasStopped (D.left disk.old) (D.reported disk.old) (D.reported disk.new)) }
         ensures cause { IsErrOf result OpenEnd.Failed → Rose (D.fault_count disk.old) (D.fault_count disk.new) }
         ensures never_falls { D.fault_count disk.old ≤ D.fault_count disk.new }
@@ -74,10 +73,10 @@ impl KeptLog {
     {
         let mut store = LogStore::new(alloc);
         let round = Vec::with_capacity(alloc, MOST_BODY).map_err(|_| OpenEnd::NoMemory)?;
-        let (tip, cut) = open_file(alloc, grammar, disk, &mut store)?;
+        let (tip, cut) = open_file(alloc, heeded.grammar, disk, &mut store)?;
         let kept = KeptLog {
             store,
-            grammar,
+            heeded,
             tip,
             round,
         };
@@ -88,14 +87,14 @@ impl KeptLog {
     #[tactic(auto, unfolding(seq_arith::specs::MessageGrammar::number_bytes))]
     pub fn begin<D: Disk>(
         alloc: Global,
-        grammar: Grammar,
+        heeded: Heeded,
         disk: &mut D,
         made: u64,
     ) -> Result<KeptLog, KeepEnd>
         ensures begun { IfOk result (λ k. HasLog (number_bytes 8 made) [] k.tip k.log) }
         ensures reported { OnOk result (Reports (D.reported disk.old) (D.reported disk.new) (on_disk (making (number_bytes 8 made)))) }
         ensures none_waits { IfOk result (λ k. k.round ≡ []) }
-        ensures grammar { IfOk result (λ k. k.grammar ≡ grammar) }
+        ensures heeded { IfOk result (λ k. k.heeded ≡ heeded) }
         ensures stopped { IfErr result (HasNotBegun (number_bytes 8 made) (D.reported disk.old) (D.reported disk.new)) }
         ensures cause { IsErrOf result KeepEnd.Failed → Rose (D.fault_count disk.old) (D.fault_count disk.new) }
         ensures never_falls { D.fault_count disk.old ≤ D.fault_count disk.new }
@@ -106,7 +105,7 @@ impl KeptLog {
         let tip = make(alloc, disk, &made.to_be_bytes())?;
         Ok(KeptLog {
             store,
-            grammar,
+            heeded,
             tip,
             round,
         })
@@ -119,11 +118,11 @@ impl KeptLog {
         &self.store
     }
 
-    /// The grammar of its messages.
-    pub fn grammar(&self) -> Grammar
-        ensures { result ≡ self.now.grammar }
+    /// Which messages it heeds.
+    pub fn heeded(&self) -> Heeded
+        ensures { result ≡ self.now.heeded }
     {
-        self.grammar
+        self.heeded
     }
 
     /// Where the next block begins: its number, and its place, which is the length of the file.
@@ -140,31 +139,31 @@ impl KeptLog {
         self.round.len() > MOST_BODY - MESSAGE
     }
 
-    /// Applies a message of its grammar to the log, and replaces the content of `out` by the answer, or by nothing if there is none. If the message changes the
+    /// Applies a message that it heeds to the log, and replaces the content of `out` by the answer, or by nothing if there is none. If the message changes the
     /// log, its bytes join the uncommitted round. The answer may be sent only once the round is committed. Only `LogStore::answer_by` allocates here.
     pub fn take(
         &mut self,
         alloc: Global,
         bytes: &[u8],
-        m: &Msg<'_>,
-        out: &mut MsgOut,
+        any: &AnyMsg<'_>,
+        out: &mut AnswerOut,
     ) -> Result<(), NoMemory>
-        requires sendable { IsSendableBy self.old.grammar m.now }
-        requires read { reading_by self.old.grammar bytes.now ≡ Ok (message_of m.now) }
+        requires answerable { IsAnswerable self.old.heeded.grammar any.now }
+        requires read { heeded_in self.old.heeded bytes.now ≡ Some (any_said any.now) }
         requires room { is_full self.old ≡ false }
-        ensures next { OnOk result (self.new.log ≡ log_after self.old.log (message_of m.now)) }
-        ensures answer { OnOk result (out.new ≡ answer_bytes_by self.old.grammar (answer_to self.old.log (message_of m.now))) }
-        ensures round { OnOk result (self.new.round ≡ self.old.round ++ kept_of self.old.log (message_of m.now) bytes.now) }
+        ensures next { OnOk result (self.new.log ≡ log_after_any self.old.log (any_said any.now)) }
+        ensures answer { OnOk result (out.new ≡ reply_bytes self.old.heeded.grammar (answer_to_any self.old.log (any_said any.now))) }
+        ensures round { OnOk result (self.new.round ≡ self.old.round ++ kept_of self.old.log (any_said any.now) bytes.now) }
         ensures tip { self.new.tip ≡ self.old.tip }
-        ensures grammar { self.new.grammar ≡ self.old.grammar }
+        ensures heeded { self.new.heeded ≡ self.old.heeded }
         // The uncommitted round has all changes of the log.
         ensures waits { OnOk result ((before : Log) → Waits before self.old.round self.old.log → Waits before self.new.round self.new.log) }
         ensures refused { OnErr result (self.new ≡ self.old) }
         ensures empty { OnErr result (out.new ≡ []) }
-        ensures memory { wants_memory self.old.log (message_of m.now) ≡ false → IsOk result }
+        ensures memory { wants_for self.old.log (any_said any.now) ≡ false → IsOk result }
     {
-        let changes = self.store.changes_by(self.grammar, m);
-        self.store.answer_by(alloc, self.grammar, m, out)?;
+        let changes = is_changed(&self.store, self.heeded.grammar, any);
+        take_any(&mut self.store, alloc, self.heeded.grammar, any, out)?;
         if changes {
             self.round.extend_from_slice(bytes).unwrap();
         }
@@ -183,7 +182,7 @@ impl KeptLog {
     ) -> Result<bool, Failed>
         requires idle { self.old.round ≡ [] }
         ensures log { self.new.log ≡ self.old.log }
-        ensures grammar { self.new.grammar ≡ self.old.grammar }
+        ensures heeded { self.new.heeded ≡ self.old.heeded }
         ensures round { self.new.round ≡ [] }
         ensures compacted { IfOk result (λ done. done ≡ true
             → IsCompacted (number_bytes 8 made) self.old.tip self.old.log self.new.tip (K.reported desk.old) (K.reported desk.new)) }
@@ -196,7 +195,13 @@ impl KeptLog {
         if self.store.boot() == 0 {
             return Ok(false);
         }
-        match replace_file(alloc, desk, &self.store, self.grammar, &made.to_be_bytes())? {
+        match replace_file(
+            alloc,
+            desk,
+            &self.store,
+            self.heeded.grammar,
+            &made.to_be_bytes(),
+        )? {
             Some(tip) => {
                 self.tip = tip;
                 Ok(true)
@@ -211,7 +216,7 @@ impl KeptLog {
         ensures kept { OnOk result (Reports (D.reported disk.old) (D.reported disk.new) (on_disk (committing self.old.tip self.old.round))) }
         ensures round { OnOk result (self.new.round ≡ []) }
         ensures log { self.new.log ≡ self.old.log }
-        ensures grammar { self.new.grammar ≡ self.old.grammar }
+        ensures heeded { self.new.heeded ≡ self.old.heeded }
         ensures tip { OnOk result (self.new.tip ≡ tip_after self.old.tip self.old.round) }
         // The blocks with the round have the log.
         ensures has_log { OnOk result ((made : List ℕ) (bodies : List (List ℕ)) (before : Log) → HasLog made bodies self.old.tip before

@@ -1,7 +1,7 @@
 //! What the contracts of opening and committing imply. Nothing here runs; each function is a theorem.
 
 ghost use Rattle.std.specs.Prelude.{◌≡◌, ◌⊎◌, ℕ, List, [], ◌++◌, length};
-ghost use Rattle.seq_arith.specs.Message.{Message};
+ghost use Rattle.forget_store.specs.AnyMessage.{AnyMessage};
 ghost use Rattle.disk.specs.declared.calls.DiskCall.{DiskCall};
 ghost use Rattle.disk.specs.Remains.{IsFrontOf, LeftBy};
 ghost use Rattle.kept_log.specs.Format.{HasBlocks, front, tip_of, making, seen_by, IsRound, BringsNone};
@@ -12,14 +12,14 @@ ghost use Rattle.kept_log.specs.Life.{with_rounds, committed};
 
 /// A file has one list of blocks, and they say one list of messages: so it has one log.
 pub fn a_file_has_one_log()
-    ensures { (file made time : List ℕ) (bodies others : List (List ℕ)) (messages more : List Message) (calls called : List DiskCall)
+    ensures { (file made time : List ℕ) (bodies others : List (List ℕ)) (messages more : List AnyMessage) (calls called : List DiskCall)
         → IsWhole file made bodies calls → AreKept bodies messages → IsWhole file time others called → AreKept others more
         → (bodies ≡ others) × (messages ≡ more) }
 {}
 
 /// A file that is opened isn't damaged at any place, nor is it unfinished.
 pub fn a_journal_is_not_damaged()
-    ensures damaged { (file made : List ℕ) (bodies : List (List ℕ)) (messages : List Message) (calls : List DiskCall) (at : ℕ)
+    ensures damaged { (file made : List ℕ) (bodies : List (List ℕ)) (messages : List AnyMessage) (calls : List DiskCall) (at : ℕ)
         → IsWhole file made bodies calls → AreKept bodies messages → IsDamaged at file → ⊥ }
     ensures unfinished { (file made : List ℕ) (bodies : List (List ℕ)) (calls : List DiskCall) → IsWhole file made bodies calls → IsUnfinished file → ⊥ }
 {}

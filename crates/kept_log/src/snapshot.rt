@@ -1,10 +1,11 @@
 //! Writing a snapshot of a log: the messages that make it again, in a new file.
 
-ghost use Rattle.std.specs.Prelude.{[], ◌≡◌, ◌≤◌, ◌∷◌, List, ℕ, None, false, length, IfOk, IfSome, OnOk, OnErr};
+ghost use Rattle.std.specs.Prelude.{[], ◌≡◌, ◌≤◌, ◌∷◌, List, ℕ, None, false, length, map, IfOk, IfSome, OnOk, OnErr};
 ghost use Rattle.ft_io.specs.Faults.{Rose};
 ghost use Rattle.ft_io.specs.Reported.{Reports};
 ghost use Rattle.seq_arith.specs.Message.{Message};
 ghost use Rattle.seq_arith.specs.Message.Body.{HelloMsg};
+ghost use Rattle.forget_store.specs.AnyMessage.AnyMessage.{Usual};
 ghost use Rattle.long_laws.specs.Snapshot.{said, joined, messages_of, AreSaid, IsSnapshotOf};
 ghost use Rattle.disk.specs.Aside.{HasAside};
 ghost use Rattle.disk.specs.Remains.{IsFrontOf};
@@ -110,7 +111,7 @@ pub fn write_snapshot<K: Desk>(
 ) -> Result<Tip, KeepEnd>
     requires boot { 1 ≤ store.now.boot }
     requires time { length made.now ≡ 8 }
-    ensures written { IfOk result (λ tip. (bodies : List (List ℕ)) × (messages : List Message) × IsSnapshotOf store.now messages × AreKept bodies messages
+    ensures written { IfOk result (λ tip. (bodies : List (List ℕ)) × (messages : List Message) × IsSnapshotOf store.now messages × AreKept bodies (map Usual messages)
         × (tip ≡ tip_of made.now bodies) × HasAside (K.aside_synced desk.new) (front made.now bodies)) }
     ensures reported { Reports (K.reported desk.old) (K.reported desk.new) [] }
     ensures never_falls { K.fault_count desk.old ≤ K.fault_count desk.new }

@@ -8,7 +8,8 @@ use Rattle.clap.specs.Matches.{found_of, first_value}
 use Rattle.clap.specs.declared.parser.matches.ArgMatches.{ArgMatches}
 use Rattle.link_parts.specs.declared.options.OptionName.{OptionName}
 use Rattle.link_parts.specs.declared.options.OptionName.TheVariants.{Local, Logger, SecondLogger, Server, Service, Boot, Isn, Turns, Times, Script}
-use Rattle.link_parts.specs.declared.options.OptionName.TheVariants.{Program, Base, First, Second, Journal, Begin, Compact, Part, Other, To, Profile}
+use Rattle.link_parts.specs.declared.options.OptionName.TheVariants.{Program, Base, First, Second, Journal, Begin, Compact, Part, Other, To, Profile, Forget}
+use Rattle.link_parts.specs.declared.options.OptionName.TheVariants.{Silence}
 
 abbrev pub Text : Type 0
 Text = List ℕ
@@ -40,6 +41,8 @@ name_of Part = codes "part"
 name_of Other = codes "other"
 name_of To = codes "to"
 name_of Profile = codes "profile"
+name_of Forget = codes "forget"
+name_of Silence = codes "silence"
 
 -- an option that its role requires
 abbrev pub is_required : OptionName → Bool
@@ -49,6 +52,8 @@ is_required Times = false
 is_required Begin = false
 is_required Compact = false
 is_required Profile = false
+is_required Forget = false
+is_required Silence = false
 is_required _ = true
 
 -- `--`, or a word other than `-` that begins with exactly one hyphen

@@ -111,12 +111,19 @@ server_in uses = option_and_then (λ service. server_with uses (Some service)) (
 abbrev pub own_server_in : List Use → Option ServerRole
 own_server_in uses = server_with uses None
 
-abbrev pub logger_from : Option Addr → Option ℕ → Option Profile → Option LoggerRole
-logger_from (Some local) (Some turns) (Some profile) = Some (record { local = local; turns = turns; profile = profile })
-logger_from _ _ _ = None
+-- an option that has no other value than `yes` may be left out
+abbrev pub yes_in : Option Text → Option Bool
+yes_in None = Some false
+yes_in (Some word) = if bytes_eq word (codes "yes") then Some true else None
 
+abbrev pub logger_from : Option Addr → Option ℕ → Option Profile → Option Bool → Option LoggerRole
+logger_from (Some local) (Some turns) (Some profile) (Some forgets) =
+    Some (record { local = local; turns = turns; profile = profile; forgets = forgets })
+logger_from _ _ _ _ = None
+
+-- its log forgets if `--forget yes` says so
 abbrev pub logger_in : List Use → Option LoggerRole
-logger_in uses = logger_from (addr_at uses option.Local) (all_turns_in uses) (profile_at uses)
+logger_in uses = logger_from (addr_at uses option.Local) (all_turns_in uses) (profile_at uses) (yes_in (value_of uses option.Forget))
 
 abbrev pub client_from : Option Addr → Option Addr → Option ℕ → Option ℕ → Option (Option Script) → Option Profile → Option ClientRole
 client_from (Some local) (Some server) (Some isn) (Some turns) (Some script) (Some profile) =
@@ -151,8 +158,8 @@ client_options = option.Local ∷ option.Server ∷ option.Isn ∷ option.Turns 
 abbrev pub pair_options : List OptionName
 pair_options = option.Program ∷ option.Base ∷ option.First ∷ option.Second ∷ option.Turns ∷ []
 
--- in a process that isn't `node`, a server and a logger may take their turns several times, and each role may have a profile. A server of a service of one's
--- own names none
+-- in a process that isn't `node`, a server and a logger may take their turns several times, each role may have a profile, and a logger may forget. A server of
+-- a service of one's own names none
 abbrev pub lasting_server_options : List OptionName
 lasting_server_options =
     option.Local ∷ option.Logger ∷ option.SecondLogger ∷ option.Service ∷ option.Boot ∷ option.Isn ∷ option.Turns ∷ option.Times ∷ option.Profile ∷ []
@@ -162,7 +169,7 @@ own_server_options =
     option.Local ∷ option.Logger ∷ option.SecondLogger ∷ option.Boot ∷ option.Isn ∷ option.Turns ∷ option.Times ∷ option.Profile ∷ []
 
 abbrev pub lasting_logger_options : List OptionName
-lasting_logger_options = option.Local ∷ option.Turns ∷ option.Times ∷ option.Profile ∷ []
+lasting_logger_options = option.Local ∷ option.Turns ∷ option.Times ∷ option.Profile ∷ option.Forget ∷ []
 
 abbrev pub lasting_client_options : List OptionName
 lasting_client_options = option.Local ∷ option.Server ∷ option.Isn ∷ option.Turns ∷ option.Script ∷ option.Profile ∷ []

@@ -21,10 +21,17 @@ use crate::pair::{PairStep, steps};
 use crate::role::{LoggerRole, PairRole, all_turns_at};
 use crate::status::NodeEnd;
 use clap::ArgMatches;
+use forget_store::{AnswerOut, Heeded};
 use ft_io::{Link, NoMemory, Sink};
-use logger_store::{LogStore, MsgOut};
+use logger_store::LogStore;
 use logger_wire::Grammar;
 use std::alloc::Global;
+
+/// What a logger without words heeds.
+const PLAIN: Heeded = Heeded {
+    grammar: Grammar::Plain,
+    forgets: false,
+};
 
 /// A logger ends with a link fault only where its bind has failed, and then it has made no call: the clauses `bind_cause` and `stops` of `run_logger`.
 fn always_faults_at_the_bind<L: Link, O: Sink>(
@@ -46,11 +53,24 @@ fn no_message_wants_memory(
     alloc: Global,
     store: &mut LogStore,
     bytes: &[u8],
-) -> Result<MsgOut, NoMemory>
+) -> Result<AnswerOut, NoMemory>
     requires { (bad : BadMsg) × (reading bytes.now ≡ Err bad) }
     ensures { IsOk result }
 {
-    answer(alloc, Grammar::Plain, store, bytes)
+    answer(alloc, PLAIN, store, bytes)
+}
+
+/// A logger whose words don't say so heeds no message about forgetting: the clause `next` of `answer`.
+fn forgets_without_the_word(
+    alloc: Global,
+    store: &mut LogStore,
+    bytes: &[u8],
+) -> Result<AnswerOut, NoMemory>
+    requires { (bad : BadMsg) × (reading bytes.now ≡ Err bad) }
+    ensures unchanged { OnOk result (store.new ≡ store.old) }
+    ensures unanswered { IfOk result (λ out. out ≡ []) }
+{
+    answer(alloc, PLAIN, store, bytes)
 }
 
 /// To a plain logger a wide message is none, whatever it says: the clauses `next` and `answer` of `answer`.
@@ -58,13 +78,13 @@ fn no_message_wants_memory(
 fn a_plain_logger_takes_a_wide_message(
     alloc: Global,
     store: &mut LogStore,
-) -> Result<MsgOut, NoMemory>
+) -> Result<AnswerOut, NoMemory>
     ensures unchanged { OnOk result (store.new ≡ store.old) }
     ensures unanswered { IfOk result (λ out. out ≡ []) }
 {
     answer(
         alloc,
-        Grammar::Plain,
+        PLAIN,
         store,
         &[70, 84, 2, 1, 0, 16, 183, 153, 0, 0, 0, 0, 0, 0, 0, 1],
     )
@@ -80,7 +100,7 @@ fn a_logger_ignores_the_profile<L: Link, O: Sink>(
     requires turns { role.now.turns ≤ most_turns }
     requires chosen { role.now.profile ≡ profiles.Wan }
     ensures { OnOk result ((turns : List LoggerTurn)
-        × Reports (L.reported link.old) (L.reported link.new) (Bound role.now.local ∷ calls_of grammars.Wide turns)) }
+        × Reports (L.reported link.old) (L.reported link.new) (Bound role.now.local ∷ calls_of (record { grammar = grammars.Wide; forgets = role.now.forgets }) turns)) }
 {
     run_logger(alloc, role, link, out)
 }

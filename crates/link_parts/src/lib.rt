@@ -15,7 +15,8 @@ pub use receiving::{DATAGRAM_ROOM, receive};
 pub use reporting::report_end;
 pub use role::{
     ClientRole, LoggerRole, Loggers, NodeRole, PairRole, ServerRole, addr_at, logger_role,
-    number_or, read_lasting_role, read_own_role, read_role,
+    number_at, number_or, own_server_role, read_lasting_role, read_own_role, read_role,
+    server_role, yes_at,
 };
 pub use status::{NodeEnd, Status};
 

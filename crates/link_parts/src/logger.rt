@@ -1,15 +1,15 @@
 //! The logger: a log that answers over a link. Each turn is one receive and the answer to what came, which is handed to send before the next receive. Its words
-//! say once of which grammar the messages are: those of the other one are no messages.
+//! say once which messages it heeds: others are no messages.
 
 ghost use Rattle.std.specs.Prelude.{List, ◌≡◌, ◌≤◌, [], ◌∷◌, true, OnOk, OnErr, IfOk, IfErr, IsErrOf};
 ghost use Rattle.std.specs.Io.KnownBytes.{Appends};
 ghost use Rattle.ft_io.specs.Faults.{Rose};
-ghost use Rattle.seq_arith.specs.MessageGrammar.{reading_by};
 ghost use Rattle.ft_io.specs.Reported.{Reports};
 ghost use Rattle.ft_io.specs.declared.link_call.LinkCall.{LinkCall};
 ghost use Rattle.ft_io.specs.declared.link_call.LinkCall.TheVariants.{Bound};
 ghost use Rattle.std.specs.declared.option.Option.{Option};
-ghost use Rattle.logger_store.specs.StoreState.{answer_bytes_by};
+ghost use Rattle.forget_store.specs.AnyMessage.{heeded_in};
+ghost use Rattle.forget_store.specs.Replies.{reply_bytes};
 ghost use Rattle.link_parts.specs.Counts.{HasRoom};
 ghost use Rattle.link_parts.specs.Ends.{UnlessFault};
 ghost use Rattle.link_parts.specs.LoggerTurns.{log_with, answer_for, wants_in};
@@ -20,32 +20,32 @@ use crate::counts::{Counts, write_counts};
 use crate::receiving::{DATAGRAM_ROOM, receive};
 use crate::role::LoggerRole;
 use crate::status::NodeEnd;
+use forget_store::{AnswerOut, Heeded, read_heeded, take_any};
 use ft_io::{Addr, Failed, Link, NoMemory, Sink};
-use logger_store::{LogStore, MsgOut};
-use logger_wire::{Grammar, read_msg_by};
+use logger_store::LogStore;
 use std::alloc::Global;
 
-/// Applies to the log the message that the bytes spell in this grammar, and returns the answer. Returns no bytes if there is no answer or the bytes are no
-/// message of it.
+/// Applies to the log the message that the bytes spell, and returns the answer. Returns no bytes if there is no answer or the bytes are no message that is
+/// heeded.
 pub(crate) fn answer(
     alloc: Global,
-    grammar: Grammar,
+    heeded: Heeded,
     store: &mut LogStore,
     bytes: &[u8],
-) -> Result<MsgOut, NoMemory>
-    ensures next { OnOk result (store.new ≡ log_with store.old (reading_by grammar bytes.now)) }
-    ensures answer { IfOk result (λ out. out ≡ answer_bytes_by grammar (answer_for store.old (reading_by grammar bytes.now))) }
-    ensures memory { OnErr result (wants_in store.old (reading_by grammar bytes.now) ≡ true) }
+) -> Result<AnswerOut, NoMemory>
+    ensures next { OnOk result (store.new ≡ log_with store.old (heeded_in heeded bytes.now)) }
+    ensures answer { IfOk result (λ out. out ≡ reply_bytes heeded.grammar (answer_for store.old (heeded_in heeded bytes.now))) }
+    ensures memory { OnErr result (wants_in store.old (heeded_in heeded bytes.now) ≡ true) }
 {
-    let mut out = MsgOut::new();
-    if let Ok(m) = read_msg_by(grammar, bytes) {
-        store.answer_by(alloc, grammar, &m, &mut out)?;
+    let mut out = AnswerOut::new();
+    if let Some(any) = read_heeded(heeded, bytes) {
+        take_any(store, alloc, heeded.grammar, &any, &mut out)?;
     }
     Ok(out)
 }
 
 /// Hands an answer to send, if it has bytes.
-fn reply<L: Link>(link: &mut L, to: Addr, answer: &MsgOut, counts: &mut Counts)
+fn reply<L: Link>(link: &mut L, to: Addr, answer: &AnswerOut, counts: &mut Counts)
     requires { HasRoom 1 counts.old }
     ensures replies { Replies to answer.now (L.reported link.old) (L.reported link.new) counts.old counts.new }
     ensures no_bind_fault { L.bind_fault_count link.new ≡ L.bind_fault_count link.old }
@@ -61,21 +61,21 @@ fn reply<L: Link>(link: &mut L, to: Addr, answer: &MsgOut, counts: &mut Counts)
 /// Takes one turn: receives once, and sends the answer to what came.
 fn take_turn<L: Link>(
     alloc: Global,
-    grammar: Grammar,
+    heeded: Heeded,
     link: &mut L,
     store: &mut LogStore,
     counts: &mut Counts,
 ) -> Result<(), NoMemory>
     requires { HasRoom 2 counts.old }
-    ensures turned { OnOk result (HasTurned grammar store.old store.new (L.reported link.old) (L.reported link.new) counts.old counts.new) }
-    ensures cut_off { OnErr result ((calls : List LinkCall) × IsStarved grammar store.old calls × Reports (L.reported link.old) (L.reported link.new) calls) }
+    ensures turned { OnOk result (HasTurned heeded store.old store.new (L.reported link.old) (L.reported link.new) counts.old counts.new) }
+    ensures cut_off { OnErr result ((calls : List LinkCall) × IsStarved heeded store.old calls × Reports (L.reported link.old) (L.reported link.new) calls) }
     ensures no_bind_fault { L.bind_fault_count link.new ≡ L.bind_fault_count link.old }
 {
     let mut buffer = [0; DATAGRAM_ROOM];
     let Some((len, from)) = receive(link, &mut buffer, counts) else {
         return Ok(());
     };
-    let answer = answer(alloc, grammar, store, &buffer[..len])?;
+    let answer = answer(alloc, heeded, store, &buffer[..len])?;
     reply(link, from, &answer, counts);
     Ok(())
 }
@@ -83,19 +83,19 @@ fn take_turn<L: Link>(
 /// Takes this many turns, beginning with an empty log, and returns the counts of their calls.
 fn serve<L: Link>(
     alloc: Global,
-    grammar: Grammar,
+    heeded: Heeded,
     link: &mut L,
     turns: u64,
 ) -> Result<Counts, NoMemory>
     requires { turns ≤ most_turns }
-    ensures served { IfOk result (λ counts. HasCounted grammar turns (L.reported link.old) (L.reported link.new) counts) }
-    ensures cut_off { OnErr result (IsCutServing grammar turns (L.reported link.old) (L.reported link.new)) }
+    ensures served { IfOk result (λ counts. HasCounted heeded turns (L.reported link.old) (L.reported link.new) counts) }
+    ensures cut_off { OnErr result (IsCutServing heeded turns (L.reported link.old) (L.reported link.new)) }
     ensures no_bind_fault { L.bind_fault_count link.new ≡ L.bind_fault_count link.old }
 {
     let mut store = LogStore::new(alloc);
     let mut counts = Counts::new();
     for _turn in 0..turns {
-        take_turn(alloc, grammar, link, &mut store, &mut counts)?;
+        take_turn(alloc, heeded, link, &mut store, &mut counts)?;
     }
     Ok(counts)
 }
@@ -117,7 +117,7 @@ fn serve_and_report<L: Link, O: Sink>(
     ensures no_bind_fault { L.bind_fault_count link.new ≡ L.bind_fault_count link.old }
     ensures no_write_fault { UnlessFault result (O.fault_count out.new ≡ O.fault_count out.old) }
 {
-    match serve(alloc, role.profile.grammar(), link, role.turns) {
+    match serve(alloc, role.heeded(), link, role.turns) {
         Err(NoMemory) => Err(NodeEnd::NoMemory),
         Ok(counts) => write_counts(alloc, &counts, out),
     }

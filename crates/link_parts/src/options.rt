@@ -48,6 +48,10 @@ pub enum OptionName {
     To,
     /// What suits the path to a server's clients. Its logger and its clients have the same. No role of `node` has this option.
     Profile,
+    /// How long a server keeps a connection that is done; and whether a logger forgets. No role of `node` has this option.
+    Forget,
+    /// After how long a silence a server asks a client for a sign of life. No role of `node` has this option.
+    Silence,
 }
 
 impl OptionName {
@@ -77,6 +81,8 @@ impl OptionName {
             OptionName::Other => "other",
             OptionName::To => "to",
             OptionName::Profile => "profile",
+            OptionName::Forget => "forget",
+            OptionName::Silence => "silence",
         }
     }
 
@@ -92,6 +98,8 @@ impl OptionName {
                 | OptionName::Begin
                 | OptionName::Compact
                 | OptionName::Profile
+                | OptionName::Forget
+                | OptionName::Silence
         )
     }
 

@@ -2,13 +2,14 @@
 
 ghost use Rattle.std.specs.Prelude.{◌≡◌, ◌≤◌, List, map, string_bytes, option_map, IfOk, IfSome};
 ghost use Rattle.link_parts.specs.declared.role.NodeRole.TheVariants as roles;
+ghost use Rattle.link_parts.specs.LoggerParts.{heeded_by};
 ghost use Rattle.link_parts.specs.Options.{Use, HasValues, value_of};
 ghost use Rattle.link_parts.specs.declared.options.OptionName.TheVariants as option;
 ghost use Rattle.link_parts.specs.Ranges.{most_turns, ServerInRange, IsShort, ClientInRange, InRange};
 ghost use Rattle.link_parts.specs.Roles.{addr_at as addr_lem, number_at as number_lem, number_or as number_or_lem, service_at as service_lem};
 ghost use Rattle.link_parts.specs.Roles.{script_at as script_lem};
 ghost use Rattle.link_parts.specs.Roles.{program_at as program_lem};
-ghost use Rattle.link_parts.specs.Roles.{loggers_in, times_in, all_turns_in, profile_spelled, profile_at as profile_lem};
+ghost use Rattle.link_parts.specs.Roles.{loggers_in, times_in, all_turns_in, profile_spelled, profile_at as profile_lem, yes_in};
 ghost use Rattle.link_parts.specs.Roles.{server_with as server_lem, server_in, own_server_in, logger_in, client_in, pair_in};
 ghost use Rattle.link_parts.specs.Roles.{server_of, own_server_of, logger_of, client_of, pair_of, role_of, lasting_role_of, own_role_of};
 ghost use Rattle.link_parts.specs.ServiceNumber.{kind_in};
@@ -16,6 +17,7 @@ ghost use Rattle.link_parts.specs.ServiceNumber.{kind_in};
 use crate::options::{OptionName, read_options};
 use crate::program::Program;
 use clap::ArgMatches;
+use forget_store::Heeded;
 use ft_io::{Addr, NoMemory};
 use ft_model::{Script, ServiceKind};
 use schedule_text::{read_addr, read_number, read_script, read_service};
@@ -57,11 +59,12 @@ const OWN_SERVER_OPTIONS: [OptionName; 8] = [
 
 const LOGGER_OPTIONS: [OptionName; 2] = [OptionName::Local, OptionName::Turns];
 
-const LASTING_LOGGER_OPTIONS: [OptionName; 4] = [
+const LASTING_LOGGER_OPTIONS: [OptionName; 5] = [
     OptionName::Local,
     OptionName::Turns,
     OptionName::Times,
     OptionName::Profile,
+    OptionName::Forget,
 ];
 
 const CLIENT_OPTIONS: [OptionName; 5] = [
@@ -134,6 +137,20 @@ pub struct LoggerRole {
     pub turns: u64,
     /// Its server's profile: messages of another one's grammar are no messages.
     pub profile: Profile,
+    /// Whether it heeds messages about forgetting.
+    pub forgets: bool,
+}
+
+impl LoggerRole {
+    /// Returns which messages it heeds.
+    pub fn heeded(&self) -> Heeded
+        ensures { result ≡ heeded_by self.now }
+    {
+        Heeded {
+            grammar: self.profile.grammar(),
+            forgets: self.forgets,
+        }
+    }
 }
 
 /// A client that sends a script.
@@ -196,7 +213,8 @@ pub fn addr_at(matches: &ArgMatches<'_>, option: OptionName) -> Option<Addr>
     read_addr(matches.get_str(option.word())?.as_bytes())
 }
 
-fn number_at(matches: &ArgMatches<'_>, option: OptionName, least: u64, most: u64) -> Option<u64>
+/// Returns the number that an option gives, or `None` where the option is missing or its value spells no number from `least` to `most`.
+pub fn number_at(matches: &ArgMatches<'_>, option: OptionName, least: u64, most: u64) -> Option<u64>
     ensures value { (uses : List Use) → HasValues uses matches.now → result ≡ number_lem least most uses option }
     ensures range { IfSome result (λ n. (least ≤ n) × (n ≤ most)) }
 {
@@ -315,6 +333,17 @@ fn profile_at(matches: &ArgMatches<'_>) -> Option<Profile>
     }
 }
 
+/// Whether an option says `yes`. Without it, it says no; `None` where it has another value.
+pub fn yes_at(matches: &ArgMatches<'_>, option: OptionName) -> Option<bool>
+    ensures { (uses : List Use) → HasValues uses matches.now → result ≡ yes_in (value_of uses option) }
+{
+    match matches.get_str(option.word()) {
+        None => Some(false),
+        Some(word) if word == "yes" => Some(true),
+        Some(_) => None,
+    }
+}
+
 fn server_with(matches: &ArgMatches<'_>, service: Option<ServiceKind>) -> Option<ServerRole>
     ensures range { IfSome result (λ role. ServerInRange role) }
     ensures value { (uses : List Use) → HasValues uses matches.now → result ≡ server_lem uses service }
@@ -330,12 +359,21 @@ fn server_with(matches: &ArgMatches<'_>, service: Option<ServiceKind>) -> Option
     })
 }
 
-fn server_role(matches: &ArgMatches<'_>) -> Option<ServerRole>
+/// Returns the role of a server with these values of its options, or `None` where a value is missing or isn't allowed.
+pub fn server_role(matches: &ArgMatches<'_>) -> Option<ServerRole>
     ensures range { IfSome result (λ role. ServerInRange role) }
     ensures value { (uses : List Use) → HasValues uses matches.now → result ≡ server_in uses }
 {
     let service = service_at(matches, OptionName::Service)?;
     server_with(matches, Some(service))
+}
+
+/// Returns the role of a server with a service of its own: without `--service`.
+pub fn own_server_role(matches: &ArgMatches<'_>) -> Option<ServerRole>
+    ensures range { IfSome result (λ role. ServerInRange role) }
+    ensures value { (uses : List Use) → HasValues uses matches.now → result ≡ own_server_in uses }
+{
+    server_with(matches, None)
 }
 
 /// Returns the role of a logger with these values of its options, or `None` where a value is missing or isn't allowed.
@@ -347,6 +385,7 @@ pub fn logger_role(matches: &ArgMatches<'_>) -> Option<LoggerRole>
         local: addr_at(matches, OptionName::Local)?,
         turns: all_turns_at(matches)?,
         profile: profile_at(matches)?,
+        forgets: yes_at(matches, OptionName::Forget)?,
     })
 }
 
@@ -417,7 +456,7 @@ fn read_own_server(alloc: Global, words: &[String]) -> Result<Option<NodeRole>, 
     let Some(matches) = read_options(alloc, &OWN_SERVER_OPTIONS, words)? else {
         return Ok(None);
     };
-    Ok(server_with(&matches, None).map(NodeRole::Server))
+    Ok(own_server_role(&matches).map(NodeRole::Server))
 }
 
 #[tactic(auto, unfolding(crate::specs::Roles::logger_of))]
@@ -486,7 +525,8 @@ pub fn read_role(alloc: Global, words: &[String]) -> Result<Option<NodeRole>, No
     }
 }
 
-/// Reads a role as [`read_role`] does. The words of a server and of a logger may have `--times` too, and those of each role `--profile`.
+/// Reads a role as [`read_role`] does. The words of a server and of a logger may have `--times` too, those of each role `--profile`, and those of a logger
+/// `--forget`.
 #[tactic(auto, unfolding(crate::specs::Roles::lasting_role_of))]
 pub fn read_lasting_role(alloc: Global, words: &[String]) -> Result<Option<NodeRole>, NoMemory>
     ensures role { IfOk result (λ role. role ≡ lasting_role_of (map string_bytes words.now)) }
@@ -505,7 +545,7 @@ pub fn read_lasting_role(alloc: Global, words: &[String]) -> Result<Option<NodeR
 }
 
 /// Reads the role of a program with a service of its own: a server, without `--service`, or a logger. Both may have `--times` and
-/// `--profile`.
+/// `--profile`, and a logger `--forget`.
 #[tactic(auto, unfolding(crate::specs::Roles::own_role_of))]
 pub fn read_own_role(alloc: Global, words: &[String]) -> Result<Option<NodeRole>, NoMemory>
     ensures role { IfOk result (λ role. role ≡ own_role_of (map string_bytes words.now)) }

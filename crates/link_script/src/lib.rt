@@ -214,6 +214,7 @@ fn name_of<'a>(role: &Role) -> &'a str {
         Role::Node(NodeRole::Logger(_)) => "logger",
         Role::Node(NodeRole::Client(_)) => "client",
         Role::Node(NodeRole::Pair(_)) => "pair",
+        Role::Lasting(_) => "lasting",
         Role::Journal(_) => "journal",
         Role::Twin(TwinRole::Logger(role)) => match role.part {
             Part::Head => "head",
@@ -229,6 +230,7 @@ fn profile_of(role: &Role) -> Profile {
         Role::Node(NodeRole::Server(role)) => role.profile,
         Role::Node(NodeRole::Logger(role)) => role.profile,
         Role::Node(NodeRole::Client(role)) => role.profile,
+        Role::Lasting(role) => role.server.profile,
         Role::Journal(role) => role.logger.profile,
         Role::Twin(TwinRole::Logger(role)) => role.logger.profile,
         Role::Node(NodeRole::Pair(_)) | Role::Twin(TwinRole::Alone(_)) => Profile::Plain,

@@ -97,13 +97,13 @@ at_most_one : (second : Option Addr) (s : Sent) → length (sent_second second s
 at_most_one None s = omega arith
 at_most_one (Some second) s = omega arith
 
-length_sending : (loggers : Loggers) (sent : List Sent) → length (sending loggers sent) ≤ 2 * length sent
+pub length_sending : (loggers : Loggers) (sent : List Sent) → length (sending loggers sent) ≤ 2 * length sent
 length_sending loggers [] = omega arith
 length_sending loggers (s ∷ more) =
     let sum : length (sent_as loggers s ++ sending loggers more) ≡ length (sent_as loggers s) + length (sending loggers more) = length-append (sent_as loggers s) (sending loggers more) in
     omega (arith, sum, at_most_one (second_for loggers s.wire.to) s, length_sending loggers more)
 
-length_sent : (loggers : Loggers) (wires : List Wire) (old new : Option (List LinkCall)) (c counts : Counts) (h : HasSent loggers wires old new c counts) → length h.sent ≡ length wires
+pub length_sent : (loggers : Loggers) (wires : List Wire) (old new : Option (List LinkCall)) (c counts : Counts) (h : HasSent loggers wires old new c counts) → length h.sent ≡ length wires
 length_sent loggers wires old new c counts h = sym (length-map h.sent (λ (x : Sent). x.wire)) ∙ ap length h.wires_are
 
 -- there is room for a packet's counts

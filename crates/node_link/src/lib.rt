@@ -11,6 +11,7 @@ pub use link_parts::{
     PairRole, Program, ServerRole, Status, addr_at, is_name, logger_role, read_options, read_role,
     receive, report_end, write_counts,
 };
+pub use server::{is_from_logger, send_all};
 pub use top::{node, run_role};
 
 mod excluded;

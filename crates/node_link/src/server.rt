@@ -82,7 +82,7 @@ pub(crate) fn send_one<L: Link>(
 }
 
 /// Hands packets to send, in order.
-fn send_all<L: Link>(link: &mut L, loggers: Loggers, packets: &[OutPacket], counts: &mut Counts)
+pub fn send_all<L: Link>(link: &mut L, loggers: Loggers, packets: &[OutPacket], counts: &mut Counts)
     requires { HasRoom (2 * length packets.now) counts.old }
     ensures sent { HasSent loggers packets.now (L.reported link.old) (L.reported link.new) counts.old counts.new }
     ensures short { length packets.now < 2 ^ 64 }
@@ -99,7 +99,8 @@ fn is_from(at: Addr, from: Addr) -> bool
     from.ip == at.ip && from.port == at.port
 }
 
-fn is_from_logger(loggers: Loggers, from: Addr) -> bool
+/// Whether a datagram has come from a logger's address.
+pub fn is_from_logger(loggers: Loggers, from: Addr) -> bool
     ensures { result ≡ is_from_logger_lem loggers from }
 {
     match loggers.second {

@@ -5,7 +5,7 @@ use Rattle.link_parts.specs.declared.role.NodeRole.TheVariants as node
 use Rattle.link_parts.specs.Ends.{is_fault_status}
 use Rattle.node_link.specs.Outcome.{IsStill, HasScript}
 use Rattle.node_process.specs.declared.role.Role.{Role}
-use Rattle.node_process.specs.declared.role.Role.TheVariants.{Node, Journal, Twin}
+use Rattle.node_process.specs.declared.role.Role.TheVariants.{Node, Lasting, Journal, Twin}
 
 -- how often each call has failed: reads, binds of the link, writes to standard output and to standard error, starts of children and waits for them; and of the
 -- desk the calls on the file, the binds, and how often a file was refused
@@ -56,6 +56,7 @@ NothingFails role left before after = IsStill before.binds after.binds × IsStil
 -- damaged, and an allocation may fail
 abbrev pub MayEnd : Role → (code : ℕ) → Type 0
 MayEnd (Node (node.Server role)) code = (code ≡ 0) ⊎ ((code ≡ 6) ⊎ (code ≡ 3))
+MayEnd (Lasting role) code = (code ≡ 0) ⊎ ((code ≡ 6) ⊎ (code ≡ 3))
 MayEnd (Node (node.Client role)) code = (code ≡ 0) ⊎ ((code ≡ 7) ⊎ ((code ≡ 8) ⊎ (code ≡ 3)))
 MayEnd (Journal role) code = (code ≡ 0) ⊎ ((code ≡ 12) ⊎ (code ≡ 3))
 MayEnd role code = (code ≡ 0) ⊎ (code ≡ 3)

@@ -7,11 +7,12 @@ use Rattle.link_parts.specs.Options.{Text}
 use Rattle.node_link.specs.Outcome as node
 use Rattle.journal_parts.specs.Outcome.{KeepsJournal, IsReported}
 use Rattle.chain_parts.specs.PairOutcome as twin
+use Rattle.lasting_link.specs.LastingLife.{LivesToLast}
 use Rattle.journal_parts.specs.declared.status.ProcessEnd.{ProcessEnd}
 use Rattle.journal_parts.specs.declared.status.ProcessEnd.TheVariants as ends
 use Rattle.node_process.specs.Asked.{uses_desk}
 use Rattle.node_process.specs.declared.role.Role.{Role}
-use Rattle.node_process.specs.declared.role.Role.TheVariants.{Node, Journal, Twin}
+use Rattle.node_process.specs.declared.role.Role.TheVariants.{Node, Lasting, Journal, Twin}
 
 -- What is known of what a process is given: of its link, input, children and standard output; the calls on its desk, and the content of each file; and
 -- what standard error has taken
@@ -34,6 +35,9 @@ module _ {State : Type 0} (services : ℕ → Machine State) where
       (before.files role.journal) end before.desk after.desk before.given.out after.given.out before.err after.err
   RunsAs (Node role) (Ok done) before after = node.LivesAs services role (Ok done) before.given after.given
   RunsAs (Node role) (Err (ends.Node end)) before after = node.LivesAs services role (Err end) before.given after.given
+  RunsAs (Lasting role) (Ok done) before after = LivesToLast services role (Ok done) before.given.calls after.given.calls before.given.out after.given.out
+  RunsAs (Lasting role) (Err (ends.Node end)) before after =
+      LivesToLast services role (Err end) before.given.calls after.given.calls before.given.out after.given.out
   RunsAs (Twin role) (Ok done) before after = twin.LivesAs role (Ok done) before.given.calls after.given.calls before.given.out after.given.out
   RunsAs (Twin role) (Err (ends.Node end)) before after = twin.LivesAs role (Err end) before.given.calls after.given.calls before.given.out after.given.out
   RunsAs _ _ before after = ⊥

@@ -16,6 +16,7 @@ use chain_parts::{TwinRole, run_notifier, run_part};
 use disk::Desk;
 use ft_io::{Link, Sink, Source, Spawner};
 use journal_parts::{ProcessEnd, report_end, run_keeper};
+use lasting_link::run_lasting;
 use link_parts::{NodeEnd, Status};
 use node_link::run_role;
 use server_trait::Saved;
@@ -87,6 +88,7 @@ fn run_as<S: Saved, L: Link, I: Source, O: Sink, E: Sink, P: Spawner, K: Desk>(
     } = process;
     match role {
         Role::Node(role) => Ok(run_role::<S, L, I, O, P>(alloc, role, link, input, out, children)?),
+        Role::Lasting(role) => Ok(run_lasting::<S, L, O>(alloc, role, link, out)?),
         Role::Journal(role) => run_keeper(alloc, role, desk, out, err),
         Role::Twin(TwinRole::Logger(role)) => Ok(run_part(alloc, role, link, out)?),
         Role::Twin(TwinRole::Alone(role)) => Ok(run_notifier(role, link, out)?),
@@ -261,8 +263,8 @@ fn run_and_report<S: Saved, L: Link, I: Source, O: Sink, E: Sink, P: Spawner, K:
 }
 
 /// Runs a process with these words: as a server, a logger or a client of FT-TCP, or as a pair, which starts these as processes, all as
-/// [`node`](node_link::node) does; as a logger that keeps its log in the file of `--journal`; as one of two loggers that act as one, by `--part` and `--other`;
-/// or as `alone`, which informs one of them that the other has stopped. A server's service is `S`. If a role stops early, the reason is written to standard
+/// [`node`](node_link::node) does; as a server that lasts, by `--forget`; as a logger that keeps its log in the file of `--journal`; as one of two loggers that
+/// act as one, by `--part` and `--other`; or as `alone`, which informs one of them that the other has stopped. A server's service is `S`. If a role stops early, the reason is written to standard
 /// error, unless a write failed.
 ///
 /// The status is 0 if all was done, 2 if the words aren't allowed or the input is longer than 2^24 bytes, 3 if an allocation failed, 4 if the bind failed, 5 if

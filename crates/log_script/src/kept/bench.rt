@@ -6,11 +6,11 @@ use crate::kept::text::{
 };
 use crate::readers::two_numbers;
 use disk::{Death, MemDesk, MemDisk};
+use forget_store::{AnswerOut, Heeded, read_heeded};
 use ft_io::{Failed, NoMemory};
 use ft_system::MemLink;
 use kept_log::{KeepEnd, KeptLog};
-use logger_store::MsgOut;
-use logger_wire::{Grammar, read_msg_by};
+use logger_wire::Grammar;
 use std::alloc::Global;
 use test_data::{Said, bytes_of_hex};
 
@@ -84,8 +84,16 @@ fn write_outcome(
     said: &mut Said,
 ) -> Result<(), NoMemory> {
     let mut desk = desk_of(alloc, bytes, fails)?;
-    let opened = KeptLog::open(alloc, grammar, &mut desk);
+    let opened = KeptLog::open(alloc, heeded_in(grammar), &mut desk);
     write_opening(&opened, &desk, said)
+}
+
+/// Which messages a log of this grammar heeds: those about forgetting too.
+fn heeded_in(grammar: Grammar) -> Heeded {
+    Heeded {
+        grammar,
+        forgets: true,
+    }
 }
 
 /// What became of a datagram.
@@ -103,15 +111,15 @@ fn deliver(
     alloc: Global,
     log: &mut KeptLog,
     datagram: &[u8],
-    out: &mut MsgOut,
+    out: &mut AnswerOut,
 ) -> Result<Given, NoMemory> {
-    let Ok(message) = read_msg_by(log.grammar(), datagram) else {
+    let Some(any) = read_heeded(log.heeded(), datagram) else {
         return Ok(Given::Refused);
     };
     if log.is_full() {
         return Ok(Given::Full);
     }
-    log.take(alloc, datagram, &message, out)?;
+    log.take(alloc, datagram, &any, out)?;
     Ok(Given::Taken)
 }
 
@@ -224,7 +232,7 @@ impl Bench {
     fn open(&mut self, alloc: Global, said: &mut Said) -> Result<(), NoMemory> {
         said.add(b"open ");
         let mut desk = desk_of(alloc, &self.file, self.fails)?;
-        let opened = KeptLog::open(alloc, self.grammar, &mut desk);
+        let opened = KeptLog::open(alloc, heeded_in(self.grammar), &mut desk);
         let reported = write_opening(&opened, &desk, said);
         self.shown = call_count(&desk);
         self.desk = desk;
@@ -239,7 +247,7 @@ impl Bench {
         };
         said.add(b"begin ");
         let mut desk = desk_of(alloc, &[], self.fails)?;
-        let begun = KeptLog::begin(alloc, self.grammar, &mut desk, made);
+        let begun = KeptLog::begin(alloc, heeded_in(self.grammar), &mut desk, made);
         let reported = write_beginning(&begun, &desk, said);
         self.shown = call_count(&desk);
         self.desk = desk;
@@ -284,7 +292,7 @@ impl Bench {
                 return Ok(());
             }
         };
-        let mut out = MsgOut::new();
+        let mut out = AnswerOut::new();
         match deliver(alloc, log, datagram.as_slice(), &mut out)? {
             Given::Refused => said.add(b"no message"),
             Given::Full => said.add(b"full"),
@@ -308,7 +316,7 @@ impl Bench {
             said.add(b"no log");
             return Ok(());
         };
-        let mut out = MsgOut::new();
+        let mut out = AnswerOut::new();
         for piece in 0..count {
             let datagram = long_data(log.log().boot(), first.wrapping_add(piece));
             if let Given::Full = deliver(alloc, log, &datagram, &mut out)? {

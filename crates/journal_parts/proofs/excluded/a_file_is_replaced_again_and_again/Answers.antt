@@ -10,8 +10,8 @@ use Rattle.journal_parts.proofs.excluded.a_file_is_replaced_again_and_again.Goal
 -- a file that was due is measured by its length from then on
 measured : (least last next : ℕ) (before after : KeptState) (old new : Option (List DeskCall)) → IsDue least last before.tip.end
     → HasCompacted least last next before after old new → next ≡ after.tip.end
-measured least last next before after old new due (log, grammar, idle, inl (never, next_is, stays)) = absurd (never due)
-measured least last next before after old new due (log, grammar, idle, inr (is_due, next_is, rest)) = next_is
+measured least last next before after old new due (log, heeded, idle, inl (never, next_is, stays)) = absurd (never due)
+measured least last next before after old new due (log, heeded, idle, inr (is_due, next_is, rest)) = next_is
 
 pub returns-clause-short : goal.returns-clause-short
 returns-clause-short g c =

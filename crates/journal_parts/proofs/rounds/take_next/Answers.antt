@@ -11,4 +11,4 @@ returns-in_err-out-clause-cut_off g c =
     let len = c.in-Some.len-is in
     let to = c.in-Some.to-is in
     let is : r.0 ≡ datagram c.in-Some.to (take c.in-Some.len c.receive.new.buffer) = cc in
-    at_err c.from_residual.result (r.0, ap (wants_then c.args.kept.now.grammar c.args.kept.now.log) is ∙ c.in_err-out.ensures.memory, r.1)
+    at_err c.from_residual.result (r.0, ap (wants_then c.args.kept.now.heeded c.args.kept.now.log) is ∙ c.in_err-out.ensures.memory, r.1)

@@ -21,5 +21,5 @@ pub returns-clause-turned : goal.returns-clause-turned
 returns-clause-turned g c =
     turned c.in_ok-count.count c.args.kept.now c.gather.new.kept c.commit.new.self (g.K.Disk.reported c.args.desk.now) (g.K.Disk.reported c.gather.new.desk) (g.K.Disk.reported c.commit.new.disk)
     (g.K.Disk.reported c.reply_to_all.new.desk) c.args.counts.now c.gather.new.counts c.reply_to_all.new.counts c.gather.new.answers.items c.requires.idle c.in_ok-count.ensures.gathered
-    c.in_ok-commit.ensures.kept c.in_ok-commit.ensures.round c.in_ok-commit.ensures.log c.in_ok-commit.ensures.grammar c.in_ok-commit.ensures.tip
+    c.in_ok-commit.ensures.kept c.in_ok-commit.ensures.round c.in_ok-commit.ensures.log c.in_ok-commit.ensures.heeded c.in_ok-commit.ensures.tip
     (subst (λ l. HasAnswered l (g.K.Disk.reported c.commit.new.disk) (g.K.Disk.reported c.reply_to_all.new.desk) c.gather.new.counts c.reply_to_all.new.counts) c.deref.ensures.value c.reply_to_all.ensures.answered)

@@ -1,5 +1,5 @@
 use Rattle.std.proofs.Common.{◌≡◌, ◌∙◌, ◌+◌, ◌-◌, ℕ, List, length, take, drop, refl, sym, ap, subst, arith, rules}
-use Rattle.seq_arith.specs.Message.{Message}
+use Rattle.forget_store.specs.AnyMessage.{AnyMessage}
 use Rattle.kept_log.specs.JournaledLog.{Waits}
 use Rattle.kept_log.specs.MessageList.{Says}
 use Rattle.kept_log.specs.ReadSteps.{StartsWith}
@@ -21,9 +21,9 @@ returns-then-not-branch c =
     let begins : StartsWith c.args.tip.now c.args.window.now (Block n c.in-Block.digest) =
     subst (λ (b : List ℕ). StartsWith c.args.tip.now b (Block n c.in-Block.digest)) c.bytes.ensures (subst (StartsWith c.args.tip.now c.bytes.result.now) c.in-Block.is c.in_ok-start_of.ensures) in
     let width : n + 44 - 44 ≡ n = omega arith in
-    let bad : (messages : List Message) → Says (take (n + 44 - 44) (drop 44 c.bytes-in-Block.result.now)) messages → ⊥ = c.in_ok-take_body-in-Block.ensures.wrong c.if-not-branch.true in
-    let here : (messages : List Message) → Says (take n (drop 44 c.args.window.now)) messages → ⊥ =
-    subst (λ (b : List ℕ). (messages : List Message) → Says b messages → ⊥)
+    let bad : (messages : List AnyMessage) → Says (take (n + 44 - 44) (drop 44 c.bytes-in-Block.result.now)) messages → ⊥ = c.in_ok-take_body-in-Block.ensures.wrong c.if-not-branch.true in
+    let here : (messages : List AnyMessage) → Says (take n (drop 44 c.args.window.now)) messages → ⊥ =
+    subst (λ (b : List ℕ). (messages : List AnyMessage) → Says b messages → ⊥)
     (ap (λ (b : List ℕ). take (n + 44 - 44) (drop 44 b)) c.bytes-in-Block.ensures ∙ ap (λ k. take k (drop 44 c.args.window.now)) width) bad in
     (block_wrong c.args.tip.now c.args.window.now n c.in-Block.digest salt begins here, refl)
 

@@ -12,7 +12,7 @@ returns g c =
     on_ok_weaker c.run_logger.result
     (λ is. (
       is.turns,
-      subst (λ p. Reports (g.L.Link.reported c.args.link.now) (g.L.Link.reported c.run_logger.new.link) (Bound c.args.role.now.local ∷ calls_of (grammar_of (profile_of p)) is.turns))
+      subst (λ p. Reports (g.L.Link.reported c.args.link.now) (g.L.Link.reported c.run_logger.new.link) (Bound c.args.role.now.local ∷ calls_of (record { grammar = grammar_of (profile_of p); forgets = c.args.role.now.forgets }) is.turns))
           c.requires.chosen is.reports,
     ))
     c.run_logger.ensures.done

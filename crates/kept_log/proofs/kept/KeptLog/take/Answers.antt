@@ -2,9 +2,9 @@ use Rattle.std.proofs.Common.{◌≡◌, ◌∙◌, ◌≤◌, ◌++◌, Bool, t
 use Rattle.std.proofs.lemmas.Bool.{ltb-false}
 use Rattle.std.proofs.lemmas.List.{length-append}
 use Rattle.std.specs.Result.{is_ok}
-use Rattle.logger_wire.specs.Value.{message_of}
+use Rattle.forget_store.specs.AnyMessage.{any_said}
 use Rattle.kept_log.specs.JournaledLog.{Waits}
-use Rattle.kept_log.proofs.Messages.{whole}
+use Rattle.kept_log.proofs.Messages.{any_whole, spelling_heeded}
 use Rattle.kept_log.proofs.Logs.{waits_more}
 use Rattle.kept_log.proofs.kept.KeptLog.take.Goals as goal
 
@@ -13,14 +13,14 @@ grown b xs ys zs ok is = is ∙ ap (λ c. if c then xs else ys) ok
 
 pub unwrap-requires : goal.unwrap-requires
 unwrap-requires c =
-    let w = whole c.args.bytes.now (message_of c.args.m.now) (record { grammar = c.args.self.now.grammar; reads = c.requires.read }) in
+    let w = any_whole c.args.bytes.now (any_said c.args.any.now) (spelling_heeded c.args.self.now.heeded c.args.bytes.now (any_said c.args.any.now) c.requires.read) in
     let same : length c.self.inside.round.items ≡ length c.args.self.now.round = ap (λ k. length k.round) c.self.view_is in
     let room : length c.args.self.now.round ≤ 380205 = ltb-false 380205 (length c.args.self.now.round) c.requires.room in
     c.extend_from_slice.ensures.succeeds (omega (arith, w.few, same, room, c.self.invariant.1))
 
 pub invariant_of-self-then-changes : goal.invariant_of-self-then-changes
 invariant_of-self-then-changes c =
-    let w = whole c.args.bytes.now (message_of c.args.m.now) (record { grammar = c.args.self.now.grammar; reads = c.requires.read }) in
+    let w = any_whole c.args.bytes.now (any_said c.args.any.now) (spelling_heeded c.args.self.now.heeded c.args.bytes.now (any_said c.args.any.now) c.requires.read) in
     let same : length c.self.inside.round.items ≡ length c.args.self.now.round = ap (λ k. length k.round) c.self.view_is in
     let room : length c.args.self.now.round ≤ 380205 = ltb-false 380205 (length c.args.self.now.round) c.requires.room in
     let ok : IsOk c.extend_from_slice.result = c.extend_from_slice.ensures.succeeds (omega (arith, w.few, same, room, c.self.invariant.1)) in
@@ -29,11 +29,12 @@ invariant_of-self-then-changes c =
 
 pub returns-then-changes-clause-waits : goal.returns-then-changes-clause-waits
 returns-then-changes-clause-waits c = λ before waits.
-    let w = whole c.args.bytes.now (message_of c.args.m.now) (record { grammar = c.args.self.now.grammar; reads = c.requires.read }) in
+    let w = any_whole c.args.bytes.now (any_said c.args.any.now) (spelling_heeded c.args.self.now.heeded c.args.bytes.now (any_said c.args.any.now) c.requires.read) in
     let same : length c.self.inside.round.items ≡ length c.args.self.now.round = ap (λ k. length k.round) c.self.view_is in
     let room : length c.args.self.now.round ≤ 380205 = ltb-false 380205 (length c.args.self.now.round) c.requires.room in
     let ok : IsOk c.extend_from_slice.result = c.extend_from_slice.ensures.succeeds (omega (arith, w.few, same, room, c.self.invariant.1)) in
     let items = grown (is_ok c.extend_from_slice.result) (c.self.inside.round.items ++ c.args.bytes.now) c.self.inside.round.items _ ok c.extend_from_slice.ensures.items in
     let now : Waits before c.self.inside.round.items c.self.inside.store = subst (λ k. Waits before k.round k.log) (sym c.self.view_is) waits in
-    subst (λ r. Waits before r c.answer_by.new.self) (sym items)
-    (waits_more before c.self.inside.store c.answer_by.new.self c.self.inside.round.items c.args.bytes.now (message_of c.args.m.now) now (record { grammar = c.args.self.now.grammar; reads = c.requires.read }) c.in_ok-answer_by.ensures.next)
+    subst (λ r. Waits before r c.take_any.new.log) (sym items)
+    (waits_more before c.self.inside.store c.take_any.new.log c.self.inside.round.items c.args.bytes.now (any_said c.args.any.now) now
+    (spelling_heeded c.args.self.now.heeded c.args.bytes.now (any_said c.args.any.now) c.requires.read) c.in_ok-take_any.ensures.next)

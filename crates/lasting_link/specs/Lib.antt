@@ -1,0 +1,3 @@
+pub mod LastingWords
+pub mod LastingLife
+pub mod LastingParts
