@@ -1,6 +1,5 @@
 -- A turn of a server that lasts is a moment of the world with its quarantine.
 use Rattle.std.proofs.Common.{◌≡◌, ◌∙◌, ℕ, ◌&&◌, Bool, true, false, refl, sym, ap, subst, MatchBool, MatchOption, append-nil, Option, Some, None, List, [], ◌∷◌, ◌++◌}
-use Rattle.std.specs.List.{AllByRecursion}
 use Rattle.ft_io.specs.declared.Key.{Key}
 use Rattle.ft_io.specs.Key.{key_eq}
 use Rattle.ft_io.proofs.Choices.{some_if}
@@ -18,7 +17,7 @@ use Rattle.ft_model.proofs.Lists.{found_passes, same_key, none_is_some, some_is}
 use Rattle.long_laws.specs.LongResets.{says_full}
 use Rattle.long_laws.specs.LongTrace.LongStep.{Joint_event}
 use Rattle.long_laws.specs.Quarantine.{Quarantined, quarantined_at, is_dropped, ended_early}
-use Rattle.long_laws.specs.QuarantineWorld.{QuarantineWorld, Usually, DropsSilently, event_input, arriving, quarantine_then, forgets_then, drops, is_full_input, new_places_then, IsFresh}
+use Rattle.long_laws.specs.QuarantineWorld.{QuarantineWorld, Usually, DropsSilently, event_input, arriving, quarantine_then, forgets_then, drops, is_full_input, AllAreFresh}
 use Rattle.long_laws.specs.QuarantineWorld.QuarantineStep.{Usual, Ends_early}
 use Rattle.lasting_laws.specs.AsMoments.{IsServerOf, world_then, OpensFresh, IsOneMoment}
 use Rattle.lasting_laws.specs.Closing.{ended_by, is_newer}
@@ -107,7 +106,7 @@ module _ {State : Type 0} (service : Machine State) (wait : ℕ) (n : LastingNod
           notes = ap (λ l. w.notes ++ l)
               (sym (ap (λ x. forgets_then wait (Some n.node) (Some input) x.quarantine) (sym t.after_is) ∙ none)
               ∙ (λ i. forgets_then wait (sym own.up i) (sym comes i) (after_turn n input t.later).quarantine));
-          fresh = subst (λ x. AllByRecursion (IsFresh x) w.notes) (λ i. new_places_then (sym own.up i) (sym comes i)) fresh;
+          fresh = subst (λ o. AllAreFresh o (event_input w.now (Deliver number)) w.notes) (sym own.up) (subst (λ x. AllAreFresh (Some n.node) x w.notes) (sym comes) fresh);
         }
 
         here : Usually service wait w (Joint_event (Deliver number)) sent.packets (world_then after sent w)

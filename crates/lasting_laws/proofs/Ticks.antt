@@ -28,7 +28,7 @@ use Rattle.long_laws.specs.Forgetting.{ForgetMessage}
 use Rattle.long_laws.specs.LongTrace.{places_at, last_rst, keep_alive}
 use Rattle.long_laws.specs.LongTrace.LongStep.{Joint_event, Lets_go, Keeps_alive}
 use Rattle.long_laws.specs.Quarantine.{forgets}
-use Rattle.long_laws.specs.QuarantineWorld.{QuarantineWorld, QuarantineStep, MayQuarantine, Usually, quarantine_then, forgets_then, drops, new_places, new_places_then, IsFresh}
+use Rattle.long_laws.specs.QuarantineWorld.{QuarantineWorld, QuarantineStep, MayQuarantine, Usually, quarantine_then, forgets_then, drops, new_places, IsFresh, AllAreFresh}
 use Rattle.long_laws.specs.QuarantineWorld.QuarantineStep.{Usual}
 use Rattle.lasting_laws.specs.AsMoments.{IsServerOf, world_then, GoesBy, AreMoments}
 use Rattle.lasting_laws.specs.ByKey.{KeyWent}
@@ -93,9 +93,6 @@ module _ {State : Type 0} (service : Machine State) where
     abbrev with_server : Node → List Packet → QuarantineWorld
     with_server m packets = record first_world { now = record first_world.now { node = Some m; packets = packets } }
 
-    all_fresh : (notes : List ForgetMessage) → AllByRecursion (IsFresh []) notes
-    all_fresh notes = all_of (IsFresh []) notes (λ x. tt)
-
     skipped : (m last : Node) (packets first rest sent : List Packet) → first ≡ [] → sent ≡ first ++ rest → AreMoments service wait (with_server m packets) rest (with_server last (packets ++ rest))
         → AreMoments service wait (with_server m packets) sent (with_server last (packets ++ sent))
     skipped m last packets first rest sent e sent_is x =
@@ -107,7 +104,7 @@ module _ {State : Type 0} (service : Machine State) where
     one_more m next last packets first rest sent step may sent_is (moments, goes, are) =
         subst (λ s. AreMoments service wait (with_server m packets) s (with_server last (packets ++ s))) (sym sent_is) (
           record { step = step; sent = first; world = with_server next (packets ++ first) } ∷ moments,
-          (may, subst (GoesBy service wait (with_server next (packets ++ first)) moments) (ap (with_server last) (append_assoc packets first rest)) goes),
+          (may, refl, refl, subst (GoesBy service wait (with_server next (packets ++ first)) moments) (ap (with_server last) (append_assoc packets first rest)) goes),
           ap (λ l. first ++ l) are,
         )
 
@@ -130,7 +127,7 @@ module _ {State : Type 0} (service : Machine State) where
         );
         quarantine = refl;
         notes = sym (append-nil first_world.notes);
-        fresh = all_fresh first_world.notes;
+        fresh = tt;
       },
     )
 
@@ -153,7 +150,7 @@ module _ {State : Type 0} (service : Machine State) where
         );
         quarantine = refl;
         notes = sym (append-nil first_world.notes);
-        fresh = all_fresh first_world.notes;
+        fresh = tt;
       },
     )
 
@@ -203,11 +200,11 @@ module _ {State : Type 0} (service : Machine State) (patience : Patience) (n : L
   abbrev ticked_world : Node → List Packet → QuarantineWorld
   ticked_world later first = world_then (after_turn n Tick_comes later) (ticked later first) w
 
-  no_opening : (stage : Stage) → AllByRecursion (IsFresh (new_places n.node Tick_comes stage)) w.notes
-  no_opening Asking = all_of (IsFresh []) w.notes (λ x. tt)
-  no_opening (Fetching count fetched) = all_of (IsFresh []) w.notes (λ x. tt)
-  no_opening (Serving opened places) = all_of (IsFresh []) w.notes (λ x. tt)
-  no_opening (Fenced newer) = all_of (IsFresh []) w.notes (λ x. tt)
+  no_opening : (stage : Stage) → AllByRecursion (IsFresh n.node.boot (new_places n.node Tick_comes stage)) w.notes
+  no_opening Asking = all_of (IsFresh n.node.boot []) w.notes (λ x own. tt)
+  no_opening (Fetching count fetched) = all_of (IsFresh n.node.boot []) w.notes (λ x own. tt)
+  no_opening (Serving opened places) = all_of (IsFresh n.node.boot []) w.notes (λ x own. tt)
+  no_opening (Fenced newer) = all_of (IsFresh n.node.boot []) w.notes (λ x own. tt)
 
   usually : (later : Node) (first : List Packet) → LawfulTurn service n.node Tick_comes first later → Usually service patience.wait w (Joint_event Tick) first (ticked_world later first)
   usually later first t = record {
@@ -217,7 +214,7 @@ module _ {State : Type 0} (service : Machine State) (patience : Patience) (n : L
     );
     quarantine = λ i. quarantine_then (sym own.up i) (Some Tick_comes) (Some later) (sym own.quarantine i);
     notes = λ i. w.notes ++ forgets_then patience.wait (sym own.up i) (Some Tick_comes) (after_turn n Tick_comes later).quarantine;
-    fresh = subst (λ o. AllByRecursion (IsFresh (new_places_then o (Some Tick_comes))) w.notes) (sym own.up) (no_opening n.node.stage);
+    fresh = subst (λ o. AllAreFresh o (Some Tick_comes) w.notes) (sym own.up) (no_opening n.node.stage);
   }
 
   ticks : (later : Node) (first : List Packet) → LawfulTurn service n.node Tick_comes first later
@@ -283,7 +280,7 @@ module _ {State : Type 0} (service : Machine State) (patience : Patience) (n : L
       → AreMoments service patience.wait w (first ++ rest) (last_world later first last (w.now.packets ++ (first ++ rest)))
   whole later last first rest turn (moments, goes, are) = (
     record { step = Usual (Joint_event Tick); sent = first; world = ticked_world later first } ∷ moments,
-    (ticks later first turn, subst (GoesBy service patience.wait (ticked_world later first) moments) (ap (last_world later first last) (append_assoc w.now.packets first rest)) goes),
+    (ticks later first turn, refl, refl, subst (GoesBy service patience.wait (ticked_world later first) moments) (ap (last_world later first last) (append_assoc w.now.packets first rest)) goes),
     ap (λ l. first ++ l) are,
   )
 

@@ -20,19 +20,20 @@ world_then after sent w = record w {
   quarantine = after.quarantine;
 }
 
--- the world's premise: the numbers of an opening are named by no message about forgetting under way
+-- the world's premise: the numbers of an opening are named by no message about forgetting of the server's boot under way
 abbrev pub OpensFresh : LastingNode → Input → QuarantineWorld → Type 0
-OpensFresh n input w = AllByRecursion (IsFresh (new_places n.node input n.node.stage)) w.notes
+OpensFresh n input w = AllByRecursion (IsFresh n.node.boot (new_places n.node input n.node.stage)) w.notes
 
 -- it is one moment
 abbrev pub IsOneMoment : {State : Type 0} → Machine State → (wait : ℕ) → QuarantineWorld → List Packet → QuarantineWorld → Type 0
 IsOneMoment service wait before sent after = (step : QuarantineStep) × MayQuarantine service wait before step sent after
 
--- .. or several, oldest first, that lead from one world to another
+-- .. or several, oldest first, that lead from one world to another, and leave log and clients as they are
 abbrev pub GoesBy : {State : Type 0} → Machine State → (wait : ℕ) → QuarantineWorld → List QuarantineMoment → QuarantineWorld → Type 0
 GoesBy service wait before [] after = after ≡ before
 GoesBy service wait before (moment ∷ later) after =
-    MayQuarantine service wait before moment.step moment.sent moment.world × GoesBy service wait moment.world later after
+    MayQuarantine service wait before moment.step moment.sent moment.world
+    × (moment.world.now.log ≡ before.now.log) × (moment.world.now.clients ≡ before.now.clients) × GoesBy service wait moment.world later after
 
 -- what they send is, in order, this
 abbrev pub AreMoments : {State : Type 0} → Machine State → (wait : ℕ) → QuarantineWorld → List Packet → QuarantineWorld → Type 0

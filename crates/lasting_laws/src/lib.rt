@@ -92,7 +92,8 @@ pub fn each_key_has_its_own_turn<S: Service>()
 
 /// The turn of a server that lasts on what comes by a delivery is one moment of a world with a quarantine: it drops what is for a connection that is leaving,
 /// or ends a quarantine early, or drops an opening silently, or takes the turn of a server without quarantine. A tick is several moments: the tick of such a
-/// server, and then one for each client that is asked or let go of. So what is proved of the traces of such worlds holds of it.
+/// server, and then one for each client that is asked or let go of, and none of them changes the log or the clients. So what is proved of the traces of such
+/// worlds holds of it.
 pub fn lasting_turns_are_quarantine_steps<S: Service>()
     ensures delivery { (kind : ℕ) (patience : Patience) (n after : LastingNode) (w : QuarantineWorld) (number : ℕ) (input : Input) (sent : LastingSent)
         → IsServerOf n w → event_input w.now (Deliver number) ≡ Some input → OpensFresh n input w

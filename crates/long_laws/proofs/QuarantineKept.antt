@@ -102,19 +102,19 @@ carry_body : (w v : World) (before after : Node) (news : List Place) → Carries
 carry_body w v before after news c (ForgetMsg n) fresh h = ⊎_elim (λ r. inl (carry_rest w v before after news c n r)) (λ x. inr (c.over n fresh x)) h
 carry_body w v before after news c (ForgottenMsg n) fresh h = c.over n fresh h
 
-pub carry_note : (w v : World) (before after : Node) (news : List Place) → Carries w v before after news → (m : ForgetMessage) → IsFresh news m → NoteHolds w before m → NoteHolds v after m
-carry_note w v before after news c m fresh h = λ e. carry_body w v before after news c m.body fresh (h (e ∙ c.boot))
+pub carry_note : (w v : World) (before after : Node) (news : List Place) → Carries w v before after news → (m : ForgetMessage) → IsFresh before.boot news m → NoteHolds w before m → NoteHolds v after m
+carry_note w v before after news c m fresh h = λ e. carry_body w v before after news c m.body (fresh (e ∙ c.boot)) (h (e ∙ c.boot))
 
 pub rests_carried : (w v : World) (before after : Node) (news : List Place) → Carries w v before after news → (qs : List Quarantined) → AllByRecursion (Rests w before) qs → AllByRecursion (Rests v after) qs
 rests_carried w v before after news c qs a = all_weaker (Rests w before) (Rests v after) qs (λ q r. carry_rest w v before after news c q.named r) a
 
-pub notes_carried : (w v : World) (before after : Node) (news : List Place) → Carries w v before after news → (notes : List ForgetMessage) → AllByRecursion (IsFresh news) notes
+pub notes_carried : (w v : World) (before after : Node) (news : List Place) → Carries w v before after news → (notes : List ForgetMessage) → AllByRecursion (IsFresh before.boot news) notes
     → AllByRecursion (NoteHolds w before) notes → AllByRecursion (NoteHolds v after) notes
-notes_carried w v before after news c notes fresh a = all_both (IsFresh news) (NoteHolds w before) (NoteHolds v after) notes (carry_note w v before after news c) fresh a
+notes_carried w v before after news c notes fresh a = all_both (IsFresh before.boot news) (NoteHolds w before) (NoteHolds v after) notes (carry_note w v before after news c) fresh a
 
 -- where no place is new
-pub all_fresh : (notes : List ForgetMessage) → AllByRecursion (IsFresh []) notes
-all_fresh notes = all_of (IsFresh []) notes (λ m. tt)
+pub all_fresh : (boot : ℕ) (notes : List ForgetMessage) → AllByRecursion (IsFresh boot []) notes
+all_fresh boot notes = all_of (IsFresh boot []) notes (λ m own. tt)
 
 -- The server does nothing
 
@@ -169,7 +169,7 @@ elsewhere_kept before sent after notes quarantine e k = record {
   of_servers = of_servers_still before after sent notes (omega (arith, e.boot)) e.packets k.of_servers;
   hello_said = λ node up. subst (IsIn (reported_by node.boot HelloMsg)) (sym e.packets) (in_front (reported_by node.boot HelloMsg) before.packets sent (k.hello_said node (sym e.node ∙ up)));
   rests = λ node up. rests_carried before after node node [] (elsewhere_carries before sent after e node) quarantine (k.rests node (sym e.node ∙ up));
-  holds = λ node up. notes_carried before after node node [] (elsewhere_carries before sent after e node) notes (all_fresh notes) (k.holds node (sym e.node ∙ up));
+  holds = λ node up. notes_carried before after node node [] (elsewhere_carries before sent after e node) notes (all_fresh node.boot notes) (k.holds node (sym e.node ∙ up));
 }
 
 -- The server takes a turn
@@ -218,7 +218,7 @@ older_rests w node Noise_comes q r = r
 module _ {State : Type 0} (service : Machine State) (w : World) (o : Stands service w) (notes : List ForgetMessage) (quarantine : List Quarantined) (k : Keeps w notes quarantine)
     (input : Input) (node later : Node) (sent : List Packet) (up : w.node ≡ Some node) (turn : LawfulTurn service node input sent later)
     (out : List Packet) (less : (P : Packet → Type 0) → AllByRecursion P sent → AllByRecursion P out)
-    (fresh : AllByRecursion (IsFresh (new_places node input node.stage)) notes) where
+    (fresh : AllByRecursion (IsFresh node.boot (new_places node input node.stage)) notes) where
   -- of what the turn sends, this goes out
   abbrev next : World
   next = record w { node = Some later; packets = w.packets ++ out }

@@ -193,7 +193,7 @@ recycled_kept key w notes quarantine k = record {
   of_servers = all_weaker (IsOfServer w) (IsOfServer (recycled key w)) notes (λ m h. (h.0, in_others (concerns key) (reported_by m.boot HelloMsg) w.packets refl h.1)) k.of_servers;
   hello_said = λ n e. in_others (concerns key) (reported_by n.boot HelloMsg) w.packets refl (k.hello_said n e);
   rests = λ n e. rests_carried w (recycled key w) n n [] (recycled_carries key w n) quarantine (k.rests n e);
-  holds = λ n e. notes_carried w (recycled key w) n n [] (recycled_carries key w n) notes (all_fresh notes) (k.holds n e);
+  holds = λ n e. notes_carried w (recycled key w) n n [] (recycled_carries key w n) notes (all_fresh n.boot notes) (k.holds n e);
 }
 
 same_carries : (w : World) (node : Node) → Carries w w node node []

@@ -24,7 +24,7 @@ use Rattle.long_laws.specs.Forgetting.{ForgetMessage, forget}
 use Rattle.long_laws.specs.LongTrace.{LongWorld, LongStep, last_rst, MayForget}
 use Rattle.long_laws.specs.LongTrace.LongStep.{Joint_event, Recycles, Forgets, Arrives, Lets_go, Keeps_alive}
 use Rattle.long_laws.specs.Quarantine.{Quarantined, quarantined_at, quarantine_after, forgets, early, ended_early, taken_away}
-use Rattle.long_laws.specs.QuarantineWorld.{QuarantineWorld, QuarantineStep, QuarantineMoment, MayQuarantine, without_at, QuarantineJoint, Usually, seen, event_input, step_input, quarantine_then, forgets_then, drops, is_by_message, IsFresh, new_places, new_places_then, after_forget_came, after_forgotten_came, after_moments, IsLongStep, AreLongSteps, IsRefusal, DropsSilently, is_full_input, AreMaskedMoments, IsRecycling}
+use Rattle.long_laws.specs.QuarantineWorld.{QuarantineWorld, QuarantineStep, QuarantineMoment, MayQuarantine, without_at, QuarantineJoint, Usually, seen, event_input, step_input, quarantine_then, forgets_then, drops, is_by_message, IsFresh, AllAreFresh, new_places, after_forget_came, after_forgotten_came, after_moments, IsLongStep, AreLongSteps, IsRefusal, DropsSilently, is_full_input, AreMaskedMoments, IsRecycling}
 use Rattle.long_laws.specs.QuarantineWorld.QuarantineStep.{Usual, To_log, To_node, Is_lost, Ends_early}
 use Rattle.long_laws.proofs.Long.{AllSaw, Passed, passed}
 use Rattle.long_laws.proofs.QuarantineEvents.{Elsewhere, Went, went, SaysNothing}
@@ -40,13 +40,13 @@ kept_as w v notes more qs rs a b c k =
     subst (λ x. Keeps x more rs) (sym a) (subst (λ x. Keeps w x rs) (sym b) (subst (λ x. Keeps w notes x) (sym c) k))
 
 -- Full and a RST open nothing
-no_message_opens : (notes : List ForgetMessage) (node : Node) (message : Message) (stage : Stage) → AllByRecursion (IsFresh (new_places node (Message_comes message) stage)) notes
-no_message_opens notes node message (Serving opened places) = all_fresh notes
-no_message_opens notes node message Asking = all_fresh notes
-no_message_opens notes node message (Fetching count fetched) = all_fresh notes
-no_message_opens notes node message (Fenced newer) = all_fresh notes
+no_message_opens : (notes : List ForgetMessage) (node : Node) (message : Message) (stage : Stage) → AllByRecursion (IsFresh node.boot (new_places node (Message_comes message) stage)) notes
+no_message_opens notes node message (Serving opened places) = all_fresh node.boot notes
+no_message_opens notes node message Asking = all_fresh node.boot notes
+no_message_opens notes node message (Fetching count fetched) = all_fresh node.boot notes
+no_message_opens notes node message (Fenced newer) = all_fresh node.boot notes
 
-full_fresh : (notes : List ForgetMessage) (node : Node) (input : Input) → is_full_input (Some input) ≡ true → AllByRecursion (IsFresh (new_places node input node.stage)) notes
+full_fresh : (notes : List ForgetMessage) (node : Node) (input : Input) → is_full_input (Some input) ≡ true → AllByRecursion (IsFresh node.boot (new_places node input node.stage)) notes
 full_fresh notes node (Message_comes message) f = no_message_opens notes node message node.stage
 full_fresh notes node (Packet_comes segment) f = absurd (true≢false (sym f))
 full_fresh notes node Noise_comes f = absurd (true≢false (sym f))
@@ -56,16 +56,16 @@ never_new : (a c : Bool) → (a && false && c) ≡ false
 never_new true c = refl
 never_new false c = refl
 
-rst_opens_none : (notes : List ForgetMessage) (node : Node) (p : Point) (stage : Stage) → AllByRecursion (IsFresh (new_places node (Packet_comes (last_rst node.server p)) stage)) notes
+rst_opens_none : (notes : List ForgetMessage) (node : Node) (p : Point) (stage : Stage) → AllByRecursion (IsFresh node.boot (new_places node (Packet_comes (last_rst node.server p)) stage)) notes
 rst_opens_none notes node p (Serving opened places) =
-    subst (λ l. AllByRecursion (IsFresh l) notes)
+    subst (λ l. AllByRecursion (IsFresh node.boot l) notes)
     (sym (if_false (is_strange node (last_rst node.server p) places && false && nat_lt (pending_count places) 64) (Opens (numbers_for node.profile node.isn opened (last_rst node.server p)) (timestamping_for node.profile (last_rst node.server p)) ∷ []) []
-    (never_new (is_strange node (last_rst node.server p) places) (nat_lt (pending_count places) 64)))) (all_fresh notes)
-rst_opens_none notes node p Asking = all_fresh notes
-rst_opens_none notes node p (Fetching count fetched) = all_fresh notes
-rst_opens_none notes node p (Fenced newer) = all_fresh notes
+    (never_new (is_strange node (last_rst node.server p) places) (nat_lt (pending_count places) 64)))) (all_fresh node.boot notes)
+rst_opens_none notes node p Asking = all_fresh node.boot notes
+rst_opens_none notes node p (Fetching count fetched) = all_fresh node.boot notes
+rst_opens_none notes node p (Fenced newer) = all_fresh node.boot notes
 
-rst_fresh : (notes : List ForgetMessage) (node : Node) (p : Point) → AllByRecursion (IsFresh (new_places node (Packet_comes (last_rst node.server p)) node.stage)) notes
+rst_fresh : (notes : List ForgetMessage) (node : Node) (p : Point) → AllByRecursion (IsFresh node.boot (new_places node (Packet_comes (last_rst node.server p)) node.stage)) notes
 rst_fresh notes node p = rst_opens_none notes node p node.stage
 
 -- a message is lost
@@ -151,9 +151,8 @@ module _ {State : Type 0} (service : Machine State) (wait : ℕ) (before after :
       let reported : after.notes ≡ before.notes ++ forgets wait node.boot input qs =
       u.notes ∙ (ap (λ n. before.notes ++ forgets_then wait n (event_input before.now event) after.quarantine) up
       ∙ (ap (λ x. before.notes ++ forgets_then wait (Some node) x after.quarantine) i ∙ ap (λ r. before.notes ++ forgets wait node.boot input r) same)) in
-      let fresh : AllByRecursion (IsFresh (new_places node input node.stage)) before.notes =
-      subst (λ i. AllByRecursion (IsFresh (new_places_then (Some node) i)) before.notes) i
-      (subst (λ n. AllByRecursion (IsFresh (new_places_then n (event_input before.now event))) before.notes) up u.fresh) in
+      let fresh : AllByRecursion (IsFresh node.boot (new_places node input node.stage)) before.notes =
+      subst (λ i. AllAreFresh (Some node) i before.notes) i (subst (λ n. AllAreFresh n (event_input before.now event) before.notes) up u.fresh) in
       kept_as (record before.now { node = Some later; packets = before.now.packets ++ sent }) after.now (before.notes ++ forgets wait node.boot input qs) after.notes qs after.quarantine is reported same
       (turned_kept service before.now o before.notes before.quarantine k input node later sent up turn sent (λ P a. a) fresh wait brought (later_stands.distinct later now))
   by_event event u (was_elsewhere i e) = elsewhere service wait before after (Joint_event event) sent o k u i e

@@ -91,8 +91,8 @@ is_by_message (Recycles key) = true
 is_by_message (Forgets key) = true
 is_by_message _ = false
 
--- Premise: an opening takes numbers that no message about forgetting under way names. So such a message does nothing to a later connection of its key. The
--- server's own numbers come again after 65,536 openings
+-- Premise: an opening takes numbers that no message about forgetting of the server's own boot under way names. So such a message does nothing to a later
+-- connection of its key; one of an older boot does nothing anyway. The server's own numbers come again after 65,536 openings
 abbrev pub has_numbers : Named → Numbers → Bool
 has_numbers n numbers = key_eq numbers.key n.key && (numbers.cisn == n.cisn && numbers.sisn == n.sisn)
 
@@ -105,12 +105,12 @@ abbrev pub new_places : Node → Input → Stage → List Place
 new_places node input (Serving opened places) = newcomers node input opened places
 new_places node input _ = []
 
-abbrev pub new_places_then : Option Node → Option Input → List Place
-new_places_then (Some node) (Some input) = new_places node input node.stage
-new_places_then _ _ = []
+abbrev pub IsFresh : (boot : ℕ) → List Place → ForgetMessage → Type 0
+IsFresh boot places message = message.boot ≡ boot → AllByRecursion (NotOpening (named_of message.body)) places
 
-abbrev pub IsFresh : List Place → ForgetMessage → Type 0
-IsFresh places message = AllByRecursion (NotOpening (named_of message.body)) places
+abbrev pub AllAreFresh : Option Node → Option Input → List ForgetMessage → Type 0
+AllAreFresh (Some node) (Some input) notes = AllByRecursion (IsFresh node.boot (new_places node input node.stage)) notes
+AllAreFresh _ _ notes = Unit {0}
 
 -- a step that a server without quarantine may take too
 pub record Usually {State : Type 0} (service : Machine State) (wait : ℕ) (before : QuarantineWorld) (step : LongStep) (sent : List Packet)
@@ -118,7 +118,7 @@ pub record Usually {State : Type 0} (service : Machine State) (wait : ℕ) (befo
   pub passes : MayPass service (seen before) step sent (seen after)
   pub quarantine : after.quarantine ≡ quarantine_then before.now.node (step_input before.now step) after.now.node before.quarantine
   pub notes : after.notes ≡ before.notes ++ forgets_then wait before.now.node (step_input before.now step) after.quarantine
-  pub fresh : AllByRecursion (IsFresh (new_places_then before.now.node (step_input before.now step))) before.notes
+  pub fresh : AllAreFresh before.now.node (step_input before.now step) before.notes
 
 -- Full drops the opening that it names, and no RST goes out: the log will have room again, and the client repeats its SYN
 pub record DropsSilently {State : Type 0} (service : Machine State) (before : QuarantineWorld) (step : LongStep) (sent : List Packet)

@@ -27,7 +27,7 @@ use server_trait::Service;
 /// A server keeps what is done in quarantine for `wait` ticks, and then has the log recycle it by messages, which may be lost, come again and overtake one
 /// another. Each moment of such a trace is a step of a long trace, or nothing happens in it, or it is a step without its RSTs: a full log drops an opening
 /// silently. The premises are in the definition of the trace: what is under way of a connection is lost when its entry is recycled, and no opening takes the
-/// numbers that a message about forgetting under way names.
+/// numbers that a message about forgetting of the server's own boot under way names.
 pub fn quarantined_traces_are_long_traces<S: Service>()
     ensures { (kind wait : ℕ) (start : World) (trace : List QuarantineMoment) → QuarantineJoint (machine (S.started kind) S.after S.greeting) wait start trace
         → AreLongSteps (machine (S.started kind) S.after S.greeting) start trace }
