@@ -1,4 +1,4 @@
-//! Laws of the traces of schedules whose server lasts: such a schedule has one trace and one outcome. Nothing here runs.
+//! Laws of the traces of schedules whose server lasts: such a schedule has at most one legal trace and at most one outcome. Nothing here runs.
 #![tactic(auto)]
 
 ghost use Rattle.std.specs.Prelude.{◌≡◌, List};
