@@ -132,7 +132,7 @@ class Worked(unittest.TestCase):
 
 class Lines(unittest.TestCase):
     def test_refused(self):
-        """The line stands behind the server's or its profile's, alone; with it a client's address may come again, but not the server's."""
+        """The line stands behind the server's or its profile's, alone; with it a client's address may come again with another number, but not the server's."""
         server, client = "service echo\nserver 192.0.2.100:7\n", "client 1 192.0.2.1:40000 1000 -\n"
         for text, why in (
             (f"{server}lasting 0 0\n", "line 3: number"),
@@ -147,6 +147,7 @@ class Lines(unittest.TestCase):
             (f"{server}boot 1 5000\nlasting 1 0\n", "line 4: place"),
             (f"{server}{client}{client.replace('client 1', 'client 2')}", "line 4: address"),
             (f"{server}lasting 1 0\nclient 1 192.0.2.100:7 1000 -\n", "line 4: address"),
+            (f"{server}lasting 1 0\n{client}{client.replace('client 1', 'client 2')}", "line 5: address"),
         ):
             with self.subTest(text=text), self.assertRaises(Refused) as refused:
                 read_schedule(text)

@@ -108,7 +108,7 @@ class Reader:
         elif head == "client":
             number_of(words[0], 1, CLIENTS)
             isn = number_of(words[2], *LONG)
-            others = [] if self.lasting else [client[0] for client in self.clients]
+            others = [client[0] for client in self.clients if not self.lasting or client[1] == isn]
             address = address_of(words[1], [self.server, *others])
             self.clients.append((address, isn, script_of(words[3])))
         else:

@@ -128,12 +128,14 @@ half (high ∷ []) = omega arith
 half (high ∷ low ∷ more) = omega (arith, half more)
 
 -- What the four tests of a client line gave.
-pub tested : (rn ri : Result ℕ LineWhy) (ra : Result Addr LineWhy) (rs : Result Script LineWhy) (make : ℕ → Addr → Script → ClientLine) (c : ClientLine) → (rn >>= λ n. ri >>= λ i. ra >>= λ a. rs >>= λ s. Ok (make i a s)) ≡ Ok c → (i : ℕ) × (a : Addr) × (s : Script) × (ri ≡ Ok i) × (ra ≡ Ok a) × (rs ≡ Ok s) × (make i a s ≡ c)
-tested (Ok n) (Ok i) (Ok a) (Ok s) make c e = (i, a, s, refl, refl, refl, (cc))
-tested (Err d) ri ra rs make c e = absurd (cc)
-tested (Ok n) (Err d) ra rs make c e = absurd (cc)
-tested (Ok n) (Ok i) (Err d) rs make c e = absurd (cc)
-tested (Ok n) (Ok i) (Ok a) (Err d) make c e = absurd (cc)
+pub tested : (rn ri : Result ℕ LineWhy) (ra : ℕ → Result Addr LineWhy) (rs : Result Script LineWhy) (make : ℕ → Addr → Script → ClientLine) (c : ClientLine)
+    → (rn >>= λ n. ri >>= λ i. ra i >>= λ a. rs >>= λ s. Ok (make i a s)) ≡ Ok c → (i : ℕ) × (a : Addr) × (s : Script) × (ri ≡ Ok i) × (ra i ≡ Ok a) × (rs ≡ Ok s) × (make i a s ≡ c)
+tested rn ri ra rs make c e =
+    let n = bind_ok rn (λ n. ri >>= λ i. ra i >>= λ a. rs >>= λ s. Ok (make i a s)) c e in
+    let i = bind_ok ri (λ i. ra i >>= λ a. rs >>= λ s. Ok (make i a s)) c n.2 in
+    let a = bind_ok (ra i.0) (λ a. rs >>= λ s. Ok (make i.0 a s)) c i.2 in
+    let s = bind_ok rs (λ s. Ok (make i.0 a.0 s)) c a.2 in
+    (i.0, a.0, s.0, i.1, a.1, s.1, (cc s.2))
 
 not_both : (a b : Bool) → (a && b) ≡ false → b ≡ true → a ≡ false
 not_both true b e f = absurd (cc)
@@ -170,28 +172,30 @@ pub script_bound : (word : List ℕ) (s : Script) → script_of word ≡ Some s 
 unfolding script_of
 script_bound word s e = script_cases _ _ _ (drop 4 word) (number_of 1 (2 ^ 24) (drop 5 word)) s (λ n is. number_bound 1 (2 ^ 24) (drop 5 word) n is) e
 
-free : (draft : Draft) (word : List ℕ) (a : Addr) → free_address draft word ≡ Ok a → is_taken draft a ≡ false
+free : (draft : Draft) (isn : ℕ) (word : List ℕ) (a : Addr) → free_address draft isn word ≡ Ok a → is_taken draft a isn ≡ false
 unfolding free_address
-free draft word a e =
-    let f = bind_ok (ok_or (addr_of word) why.Address) (λ addr. cond (is_taken draft addr) (Err why.Address) (Ok addr)) a e in
-    let u = unless (is_taken draft f.0) why.Address (Ok f.0) a f.2 in
+free draft isn word a e =
+    let f = bind_ok (ok_or (addr_of word) why.Address) (λ addr. cond (is_taken draft addr isn) (Err why.Address) (Ok addr)) a e in
+    let u = unless (is_taken draft f.0 isn) why.Address (Ok f.0) a f.2 in
     let is : f.0 ≡ a = cc u.1 in
     rw (← is) u.0
 
--- a client that passed has an address of its own, a script within its limit, and a number modulo 2^32
-pub client_kept : (draft : Draft) (words : List (List ℕ)) (c : ClientLine) → client_line draft words ≡ Ok c → (is_taken draft (record { ip = c.key.ip; port = c.key.port }) ≡ false) × (length (bytes_of c.script) ≤ 2 ^ 24) × (c.isn < 2 ^ 32)
+-- a client that passed has an address (at a server that lasts: an address and a number) of its own, a script within its limit, and a number modulo 2^32
+pub client_kept : (draft : Draft) (words : List (List ℕ)) (c : ClientLine) → client_line draft words ≡ Ok c
+    → (is_taken draft (record { ip = c.key.ip; port = c.key.port }) c.isn ≡ false) × (length (bytes_of c.script) ≤ 2 ^ 24) × (c.isn < 2 ^ 32)
 unfolding client_line
 client_kept draft (n ∷ address ∷ isn ∷ script ∷ []) c h =
-    let t = tested (client_number n) (long_number isn) (free_address draft address) (ok_or (script_of script) why.Script) (λ i addr s. record { key = record { ip = addr.ip; port = addr.port }; isn = i; script = s }) c h in
+    let t = tested (client_number n) (long_number isn) (λ i. free_address draft i address) (ok_or (script_of script) why.Script) (λ i addr s. record { key = record { ip = addr.ip; port = addr.port }; isn = i; script = s }) c h in
     let number = number_bound 0 (2 ^ 32 - 1) isn t.0 (ok_or_ok (number_of 0 (2 ^ 32 - 1) isn) why.Number t.0 t.3) in
-    rw (← t.6) (free draft address t.1 t.4, script_bound script t.2 (ok_or_ok (script_of script) why.Script t.2 t.5), omega (arith, number))
+    rw (← t.6) (free draft t.0 address t.1 t.4, script_bound script t.2 (ok_or_ok (script_of script) why.Script t.2 t.5), omega (arith, number))
 client_kept draft [] c h = absurd (cc)
 client_kept draft (n ∷ []) c h = absurd (cc)
 client_kept draft (n ∷ address ∷ []) c h = absurd (cc)
 client_kept draft (n ∷ address ∷ isn ∷ []) c h = absurd (cc)
 client_kept draft (n ∷ address ∷ isn ∷ script ∷ word ∷ more) c h = absurd (cc)
 
-apart_push : (s : Schedule) (before more : List ClientLine) (c : ClientLine) → AreApart s before more → is_taken (Begun (record s { clients = before ++ more })) (record { ip = c.key.ip; port = c.key.port }) ≡ false → AreApart s before (more ++ c ∷ [])
+apart_push : (s : Schedule) (before more : List ClientLine) (c : ClientLine) → AreApart s before more
+    → is_taken (Begun (record s { clients = before ++ more })) (record { ip = c.key.ip; port = c.key.port }) c.isn ≡ false → AreApart s before (more ++ c ∷ [])
 apart_push s before [] c h f = (rw append-nil at f, tt)
 apart_push s before (x ∷ xs) c h f = (h.0, apart_push s (before ++ x ∷ []) xs c h.1 (rw append_assoc f))
 
@@ -199,7 +203,8 @@ pub all_push : {A : Type 0} (P : A → Type 0) (xs : List A) (x : A) → AllByRe
 all_push P [] x h p = (p, tt)
 all_push P (y ∷ ys) x h p = (h.0, all_push P ys x h.1 p)
 
-with_client : (s : Schedule) (c : ClientLine) → IsAccepted s → length s.clients < 16 → is_taken (Begun s) (record { ip = c.key.ip; port = c.key.port }) ≡ false → length (bytes_of c.script) ≤ 2 ^ 24 → IsAccepted (record s { clients = s.clients ++ c ∷ [] })
+with_client : (s : Schedule) (c : ClientLine) → IsAccepted s → length s.clients < 16
+    → is_taken (Begun s) (record { ip = c.key.ip; port = c.key.port }) c.isn ≡ false → length (bytes_of c.script) ≤ 2 ^ 24 → IsAccepted (record s { clients = s.clients ++ c ∷ [] })
 with_client s c h room apart script = record {
   clients = omega (arith, length-append {A = ClientLine});
   addresses = apart_push s [] s.clients c h.addresses apart;

@@ -116,19 +116,19 @@ unfolding script_of
 script_fits word s e = script_cases _ _ _ (drop 4 word) (number_of 1 (2 ^ 24) (drop 5 word)) s (λ n e. number_bound 1 (2 ^ 24) (drop 5 word) n e) e
 
 -- the lines of clients and of the server
-free_fits : (draft : Draft) (word : List ℕ) (a : Addr) → free_address draft word ≡ Ok a → FitsAddr a
+free_fits : (draft : Draft) (isn : ℕ) (word : List ℕ) (a : Addr) → free_address draft isn word ≡ Ok a → FitsAddr a
 unfolding free_address
-free_fits draft word a e =
-    let f = bind_ok (ok_or (addr_of word) why.Address) (λ addr. cond (is_taken draft addr) (Err why.Address) (Ok addr)) a e in
-    let u = unless (is_taken draft f.0) why.Address (Ok f.0) a f.2 in
+free_fits draft isn word a e =
+    let f = bind_ok (ok_or (addr_of word) why.Address) (λ addr. cond (is_taken draft addr isn) (Err why.Address) (Ok addr)) a e in
+    let u = unless (is_taken draft f.0 isn) why.Address (Ok f.0) a f.2 in
     let same : f.0 ≡ a = cc u.1 in
     subst FitsAddr same (addr_bound word f.0 (ok_or_ok (addr_of word) why.Address f.0 f.1))
 
 pub client_fits : (draft : Draft) (words : List (List ℕ)) (c : ClientLine) → client_line draft words ≡ Ok c → FitsClient c
 unfolding client_line FitsAddr
 client_fits draft (n ∷ address ∷ isn ∷ script ∷ []) c h =
-    let t = tested (client_number n) (long_number isn) (free_address draft address) (ok_or (script_of script) why.Script) (λ i addr s. record { key = record { ip = addr.ip; port = addr.port }; isn = i; script = s }) c h in
-    let at : FitsAddr t.1 = free_fits draft address t.1 t.4 in
+    let t = tested (client_number n) (long_number isn) (λ i. free_address draft i address) (ok_or (script_of script) why.Script) (λ i addr s. record { key = record { ip = addr.ip; port = addr.port }; isn = i; script = s }) c h in
+    let at : FitsAddr t.1 = free_fits draft t.0 address t.1 t.4 in
     let number : t.0 ≤ 2 ^ 32 - 1 = number_fits 0 (2 ^ 32 - 1) isn t.0 t.3 in
     subst FitsClient t.6 ((at.0, at.1), omega (arith, number), script_fits script t.2 (ok_or_ok (script_of script) why.Script t.2 t.5))
 client_fits draft [] c h = absurd (cc)

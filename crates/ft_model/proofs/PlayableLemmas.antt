@@ -1,8 +1,8 @@
 -- Each accepted line keeps the addresses apart and the initial numbers modulo 2^32, so what the lines spell can be played.
-use Rattle.std.proofs.Common.{◌≡◌, ℕ, ◌<◌, ◌≤◌, ◌^◌, List, [], ◌∷◌, ◌++◌, length, refl, sym, ap, ap₂, ◌∙◌, arith, Bool, true, false}
-use Rattle.std.specs.Prelude.{◌==◌, ◌&&◌, not, is_none, None, Ok}
+use Rattle.std.proofs.Common.{◌≡◌, ℕ, ◌<◌, ◌≤◌, ◌^◌, List, [], ◌∷◌, ◌++◌, length, refl, sym, ap, ap₂, ◌∙◌, arith, Bool, true, false, true≢false}
+use Rattle.std.specs.Prelude.{◌==◌, nat_eq, ◌&&◌, ◌||◌, not, is_none, None, Ok}
 use Rattle.std.specs.List.{AllByRecursion, list_any}
-use Rattle.std.proofs.lemmas.Bool.{and_from, or_from}
+use Rattle.std.proofs.lemmas.Bool.{and_from, or_from, eq-eqb}
 use Rattle.std.proofs.lemmas.Grind.{common_steps}
 use Rattle.std.proofs.lemmas.List.Elements.{recursion_from_All, All-from_recursion}
 use Rattle.ft_io.specs.declared.Addr.{Addr}
@@ -10,7 +10,7 @@ use Rattle.ft_io.specs.declared.Key.{Key}
 use Rattle.ft_io.specs.Key.{key_eq}
 use Rattle.ft_model.specs.Grammar.{read_text, with_line, no_objection, is_taken, is_too_much}
 use Rattle.ft_model.specs.Legal.{start_of}
-use Rattle.ft_model.specs.Playable.{IsPlayable}
+use Rattle.ft_model.specs.Playable.{HaveDifferentNumbers, IsPlayable}
 use Rattle.ft_model.specs.Schedule.{bytes_of, clients_of}
 use Rattle.ft_model.specs.World.{is_apart, are_apart, IsNewClient, IsStart}
 use Rattle.ft_model.specs.declared.line.Draft.{Draft}
@@ -62,25 +62,70 @@ apart_push server (x ∷ xs) c e own none =
     (apart_push server xs c (right_true (is_apart server x.key (clients_of server xs)) _ e) own (right_false (has c.key x) _ none))
 
 -- an address that nobody has yet keeps all apart
-free_apart : (s : Schedule) (c : ClientLine) → s.lasting ≡ None → are_apart s.server (clients_of s.server s.clients) ≡ true → is_taken (Begun s) (record { ip = c.key.ip; port = c.key.port }) ≡ false
+free_apart : (s : Schedule) (c : ClientLine) → s.lasting ≡ None → are_apart s.server (clients_of s.server s.clients) ≡ true
+    → is_taken (Begun s) (record { ip = c.key.ip; port = c.key.port }) c.isn ≡ false
     → are_apart s.server (clients_of s.server (s.clients ++ c ∷ [])) ≡ true
 unfolding is_taken
 free_apart s c fleeting e free =
-    apart_push s.server s.clients c e (left_false _ _ free) (ap (λ o. is_none o && list_any (has c.key) s.clients) (sym fleeting)
+    apart_push s.server s.clients c e (left_false _ _ free) (ap (λ o. list_any (λ client. (is_none o || client.isn == c.isn) && client.key.ip == c.key.ip && client.key.port == c.key.port) s.clients) (sym fleeting)
     ∙ right_false (s.server.ip == c.key.ip && s.server.port == c.key.port) _ free)
 
 -- .. and is beside the server
-free_beside : (s : Schedule) (c : ClientLine) → is_taken (Begun s) (record { ip = c.key.ip; port = c.key.port }) ≡ false → is_apart s.server c.key [] ≡ true
+free_beside : (s : Schedule) (c : ClientLine) → is_taken (Begun s) (record { ip = c.key.ip; port = c.key.port }) c.isn ≡ false → is_apart s.server c.key [] ≡ true
 unfolding is_taken
 free_beside s c free =
     let own : (c.key.ip == s.server.ip && c.key.port == s.server.port) ≡ false =
     ap₂ (λ a b. a && b) (equal_either_way c.key.ip s.server.ip) (equal_either_way c.key.port s.server.port) ∙ left_false (s.server.ip == c.key.ip && s.server.port == c.key.port) _ free in
     ap (λ b. not b && true) own
 
+-- a client more, with another address or another number than those before it
+different_push : (clients : List ClientLine) (c : ClientLine) → HaveDifferentNumbers clients
+    → AllByRecursion (λ x. key_eq c.key x.key ≡ true → c.isn ≡ x.isn → ⊥) clients → HaveDifferentNumbers (clients ++ c ∷ [])
+different_push [] c h a = (tt, tt)
+different_push (x ∷ xs) c h a = (all_push (λ other. key_eq other.key x.key ≡ true → other.isn ≡ x.isn → ⊥) xs c h.0 a.0, different_push xs c h.1 a.1)
+
+none_is_same : (o : Bool) (c : ClientLine) (clients : List ClientLine)
+    → list_any (λ x. (o || x.isn == c.isn) && x.key.ip == c.key.ip && x.key.port == c.key.port) clients ≡ false → AllByRecursion (λ x. key_eq c.key x.key ≡ true → c.isn ≡ x.isn → ⊥) clients
+none_is_same o c [] e = tt
+none_is_same o c (x ∷ xs) e = (
+  (λ k n. clash (x.key.ip == c.key.ip) (x.key.port == c.key.port) (same_either_way x.key c.key ∙ k) (nat_eq x.isn c.isn) (eq-eqb x.isn c.isn (sym n)) o (left_false _ _ e)),
+  none_is_same o c xs (right_false ((o || x.isn == c.isn) && x.key.ip == c.key.ip && x.key.port == c.key.port) _ e),
+)
+  where
+    clash : (i p : Bool) → (i && p) ≡ true → (n : Bool) → n ≡ true → (o : Bool) → ((o || n) && i && p) ≡ false → ⊥
+    clash true true k true m true e = absurd (cc)
+    clash true true k true m false e = absurd (cc)
+    clash true true k false m o e = absurd (cc)
+    clash true false k n m o e = absurd (cc)
+    clash false p k n m o e = absurd (cc)
+
+free_different : (s : Schedule) (c : ClientLine) → is_taken (Begun s) (record { ip = c.key.ip; port = c.key.port }) c.isn ≡ false
+    → AllByRecursion (λ x. key_eq c.key x.key ≡ true → c.isn ≡ x.isn → ⊥) s.clients
+unfolding is_taken
+free_different s c free = none_is_same (is_none s.lasting) c s.clients (right_false (s.server.ip == c.key.ip && s.server.port == c.key.port) _ free)
+
+-- clients of different addresses
+others_differ : (server : Addr) (key : Key) (isn : ℕ) (clients : List ClientLine) → list_any (λ x. key_eq x.key key) (clients_of server clients) ≡ false
+    → AllByRecursion (λ other. key_eq other.key key ≡ true → other.isn ≡ isn → ⊥) clients
+others_differ server key isn [] e = tt
+others_differ server key isn (x ∷ xs) e = ((λ k n. true≢false (sym k ∙ left_false (key_eq x.key key) (list_any (λ y. key_eq y.key key) (clients_of server xs)) e)), others_differ server key isn xs (right_false (key_eq x.key key) _ e))
+
+pub apart_are_different : (server : Addr) (clients : List ClientLine) → are_apart server (clients_of server clients) ≡ true → HaveDifferentNumbers clients
+apart_are_different server [] e = tt
+apart_are_different server (x ∷ xs) e = (
+  others_differ server x.key x.isn xs (not_true _ (right_true (not (x.key.ip == server.ip && x.key.port == server.port)) _ (left_true _ _ e))),
+  apart_are_different server xs (right_true (is_apart server x.key (clients_of server xs)) _ e),
+)
+  where
+    not_true : (b : Bool) → not b ≡ true → b ≡ false
+    not_true true e = absurd (cc)
+    not_true false e = refl
+
 -- the initial numbers are modulo 2^32, and the addresses differ
 record IsApart (s : Schedule) : Type 0 where
   numbers : AllByRecursion (λ line. line.isn < 2 ^ 32) s.clients
   beside : AllByRecursion (λ line. is_apart s.server line.key [] ≡ true) s.clients
+  different : HaveDifferentNumbers s.clients
   apart : s.lasting ≡ None → are_apart s.server (clients_of s.server s.clients) ≡ true
 
 abbrev Keeps : Draft → Type 0
@@ -98,7 +143,7 @@ line_keeps Empty text (line.Lasting waits) h few p = tt
 line_keeps Empty text (line.Client c) h few p = tt
 line_keeps Empty text (line.Event e) h few p = tt
 line_keeps (Named kind) text (line.Service name) h few p = tt
-line_keeps (Named kind) text (line.Server addr) h few p = record { numbers = tt; beside = tt; apart = λ none. refl }
+line_keeps (Named kind) text (line.Server addr) h few p = record { numbers = tt; beside = tt; different = tt; apart = λ none. refl }
 line_keeps (Named kind) text (line.Profile profile) h few p = tt
 line_keeps (Named kind) text line.Twin h few p = tt
 line_keeps (Named kind) text (line.Marks every) h few p = tt
@@ -107,18 +152,19 @@ line_keeps (Named kind) text (line.Client c) h few p = tt
 line_keeps (Named kind) text (line.Event e) h few p = tt
 line_keeps (Begun s) text (line.Service kind) h few p = h
 line_keeps (Begun s) text (line.Server addr) h few p = h
-line_keeps (Begun s) text (line.Profile profile) h few p = record { numbers = h.numbers; beside = h.beside; apart = h.apart }
-line_keeps (Begun s) text line.Twin h few p = record { numbers = h.numbers; beside = h.beside; apart = h.apart }
-line_keeps (Begun s) text (line.Marks every) h few p = record { numbers = h.numbers; beside = h.beside; apart = h.apart }
-line_keeps (Begun s) text (line.Lasting waits) h few p = record { numbers = h.numbers; beside = h.beside; apart = λ none. absurd (cc) }
+line_keeps (Begun s) text (line.Profile profile) h few p = record { numbers = h.numbers; beside = h.beside; different = h.different; apart = h.apart }
+line_keeps (Begun s) text line.Twin h few p = record { numbers = h.numbers; beside = h.beside; different = h.different; apart = h.apart }
+line_keeps (Begun s) text (line.Marks every) h few p = record { numbers = h.numbers; beside = h.beside; different = h.different; apart = h.apart }
+line_keeps (Begun s) text (line.Lasting waits) h few p = record { numbers = h.numbers; beside = h.beside; different = h.different; apart = λ none. absurd (cc) }
 line_keeps (Begun s) text (line.Client c) h few p =
     let kept = client_kept (Begun s) p.words c (says_client (Begun s) p.k p.words c p.says).1 in
     record {
       numbers = all_push (λ line. line.isn < 2 ^ 32) s.clients c h.numbers kept.2;
       beside = all_push (λ line. is_apart s.server line.key [] ≡ true) s.clients c h.beside (free_beside s c kept.0);
+      different = different_push s.clients c h.different (free_different s c kept.0);
       apart = λ none. free_apart s c none (h.apart none) kept.0;
     }
-line_keeps (Begun s) text (line.Event e) h few p = record { numbers = h.numbers; beside = h.beside; apart = h.apart }
+line_keeps (Begun s) text (line.Event e) h few p = record { numbers = h.numbers; beside = h.beside; different = h.different; apart = h.apart }
 
 pub playable : (text : List ℕ) (s : Schedule) → read_text text ≡ Ok s → IsPlayable s
 playable text s e =
@@ -130,6 +176,7 @@ playable text s e =
       numbers = kept.numbers;
       sizes = fits.clients;
       beside = kept.beside;
+      different = kept.different;
       apart = kept.apart;
       events = fits.events;
     }

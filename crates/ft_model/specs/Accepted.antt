@@ -1,6 +1,6 @@
 -- What holds of every schedule that a text spells.
 use Rattle.limits.specs.Limits.{longest_stream}
-use Rattle.std.specs.Prelude.{◌≡◌, ℕ, false, Some, None, ◌^◌, ◌<◌, ◌≤◌, List, [], ◌∷◌, ◌++◌, length}
+use Rattle.std.specs.Prelude.{◌≡◌, ℕ, false, Some, None, ◌<◌, ◌≤◌, List, [], ◌∷◌, ◌++◌, length}
 use Rattle.std.specs.List.{AllByRecursion}
 use Rattle.ft_model.specs.Grammar.{is_taken}
 use Rattle.ft_model.specs.Schedule.{bytes_of}
@@ -9,11 +9,12 @@ use Rattle.ft_model.specs.declared.schedule.ClientLine.{ClientLine}
 use Rattle.ft_model.specs.declared.schedule.Lasting.{Lasting}
 use Rattle.ft_model.specs.declared.schedule.Schedule.{Schedule}
 
--- each client's address differs from the server's and, unless the server is one that lasts, from those of the clients before it
+-- Each client's address differs from the server's and from those of the clients before it. At a server that lasts, clients of one address have different
+-- initial sequence numbers
 abbrev pub AreApart : Schedule → List ClientLine → List ClientLine → Type 0
 AreApart schedule before [] = Unit {0}
 AreApart schedule before (client ∷ more) =
-    (is_taken (Begun (record schedule { clients = before })) (record { ip = client.key.ip; port = client.key.port }) ≡ false)
+    (is_taken (Begun (record schedule { clients = before })) (record { ip = client.key.ip; port = client.key.port }) client.isn ≡ false)
     × AreApart schedule (before ++ client ∷ []) more
 
 pub record IsAccepted (schedule : Schedule) : Type 0 where

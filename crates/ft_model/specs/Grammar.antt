@@ -170,25 +170,25 @@ lasting_line (wait ∷ silence ∷ []) = do
   Ok (record { wait = w; silence = s })
 lasting_line _ = Err why.Count
 
--- Whether the server or an earlier client has the address. At a server that lasts a client may have an earlier one's
-unfoldable pub is_taken : Draft → Addr → Bool
-is_taken (Begun schedule) addr =
+-- Whether the server or an earlier client has the address. At a server that lasts a client may have an earlier one's, with another initial sequence number
+unfoldable pub is_taken : Draft → Addr → (isn : ℕ) → Bool
+is_taken (Begun schedule) addr isn =
     schedule.server.ip == addr.ip && schedule.server.port == addr.port
-    || is_none schedule.lasting && list_any (λ client. client.key.ip == addr.ip && client.key.port == addr.port) schedule.clients
-is_taken draft addr = false
+    || list_any (λ client. (is_none schedule.lasting || client.isn == isn) && client.key.ip == addr.ip && client.key.port == addr.port) schedule.clients
+is_taken draft addr isn = false
 
 -- an address that isn't taken yet
-unfoldable pub free_address : Draft → List ℕ → Result Addr LineWhy
-free_address draft word = do
+unfoldable pub free_address : Draft → (isn : ℕ) → List ℕ → Result Addr LineWhy
+free_address draft isn word = do
   addr ← ok_or (addr_of word) why.Address
-  if is_taken draft addr then Err why.Address else Ok addr
+  if is_taken draft addr isn then Err why.Address else Ok addr
 
 -- both numbers are tested before the address, and the script last
 unfoldable pub client_line : Draft → List (List ℕ) → Result ClientLine LineWhy
 client_line draft (client ∷ address ∷ isn ∷ script ∷ []) = do
   c ← client_number client
   i ← long_number isn
-  addr ← free_address draft address
+  addr ← free_address draft i address
   s ← ok_or (script_of script) why.Script
   Ok (record { key = record { ip = addr.ip; port = addr.port }; isn = i; script = s })
 client_line draft _ = Err why.Count

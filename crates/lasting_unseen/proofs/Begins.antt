@@ -10,7 +10,7 @@ use Rattle.tcp_rules.specs.Profiles.{profile_of}
 use Rattle.ft_model.specs.Client.{Client, is_new}
 use Rattle.ft_model.specs.Client.ClientKind.{Scripted}
 use Rattle.ft_model.specs.Log.{empty_log}
-use Rattle.ft_model.specs.Playable.{IsPlayable}
+use Rattle.ft_model.specs.Playable.{HaveDifferentNumbers, IsPlayable}
 use Rattle.ft_model.specs.Readable.{FitsClient}
 use Rattle.ft_model.specs.Schedule.{bytes_of, client_of, clients_of}
 use Rattle.ft_model.specs.World.{World, IsStart, IsNewClient, is_apart}
@@ -21,7 +21,6 @@ use Rattle.ft_model.proofs.Lists.{all_weaker, all_map, key_is}
 use Rattle.ft_model.proofs.PlayableLemmas.{starts}
 use Rattle.lasting_laws.specs.LastingLegal.{lasting_start}
 use Rattle.lasting_laws.specs.LastingWorld.{Guest, has_come, is_there}
-use Rattle.lasting_unseen.specs.Mirror.{AreToldApart}
 use Rattle.lasting_unseen.proofs.Fresh.{Differ}
 use Rattle.lasting_unseen.proofs.GuestsNames.{identity}
 use Rattle.lasting_unseen.proofs.Guests.{Guested, IsHere, IsYetToCome, IsPast, IsGuest, Waits, InTurn}
@@ -57,6 +56,7 @@ line_unmoved schedule line p short number size beside =
       numbers = (number, tt);
       sizes = (size, tt);
       beside = (beside, tt);
+      different = (tt, tt);
       apart = λ none. and_from (is_apart schedule.server line.key []) true beside refl;
       events = tt;
     } in
@@ -114,9 +114,9 @@ differ_from server line [] a = tt
 differ_from server line (other ∷ lines) a =
     (λ e. a.0 (subst (λ k. key_eq other.key k ≡ true) (ap (λ i. i.0) e) (key_is other.key)) (ap (λ i. i.1) e), differ_from server line lines a.1)
 
-all_differ : (server : Addr) (lines : List ClientLine) → AreToldApart lines → Differ (map identity (map guest_of (clients_of server lines)))
+all_differ : (server : Addr) (lines : List ClientLine) → HaveDifferentNumbers lines → Differ (map identity (map guest_of (clients_of server lines)))
 all_differ server [] a = tt
 all_differ server (line ∷ lines) a = (differ_from server line lines a.0, all_differ server lines a.1)
 
-pub start_differs : (waits : Lasting) (schedule : Schedule) → AreToldApart schedule.clients → Differ (map identity (lasting_start waits schedule).guests)
+pub start_differs : (waits : Lasting) (schedule : Schedule) → HaveDifferentNumbers schedule.clients → Differ (map identity (lasting_start waits schedule).guests)
 start_differs waits schedule a = all_differ schedule.server schedule.clients a

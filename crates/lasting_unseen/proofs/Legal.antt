@@ -22,7 +22,7 @@ use Rattle.lasting_laws.specs.LastingTurn.{LastingNode}
 use Rattle.lasting_laws.specs.LastingLegal.{IsLastingLegalFor, lasting_start}
 use Rattle.lasting_laws.specs.LastingUnseen.{AreUnseen}
 use Rattle.lasting_laws.specs.LastingWorld.{LastingMoment, lasting_after}
-use Rattle.lasting_unseen.specs.Mirror.{AllOpenFreshly, AreToldApart, HasNoFlip, MayStillCome}
+use Rattle.lasting_unseen.specs.Mirror.{AllOpenFreshly, HasNoFlip, MayStillCome}
 use Rattle.lasting_unseen.proofs.Begins.{start_differs}
 use Rattle.lasting_unseen.proofs.Traces.{Mirrors, mirrors, all_unseen, events_fit, all_open_freshly, is_near, is_let_go_near, is_sound, is_unfenced}
 
@@ -34,22 +34,16 @@ module _ {State : Type 0} (service : ℕ → Machine State) (waits : Lasting) (s
       events_fit (service (kind_of schedule.service)) small writes waits schedule playable trace
       (subst (AllByRecursion (λ e. FitsEvent e × HasNoFlip e)) (sym legal.events_are) (all_both FitsEvent HasNoFlip (λ e. FitsEvent e × HasNoFlip e) events (λ e a b. (a, b)) fits unflipped))
 
-  pub unseen_fresh : AllOpenFreshly (lasting_start waits schedule) trace → AreUnseen (service (kind_of schedule.service)) (lasting_start waits schedule) trace
-  unseen_fresh fresh = all_unseen (service (kind_of schedule.service)) small writes waits schedule playable trace legal.joint both fresh
+  all_fresh : AllOpenFreshly (lasting_start waits schedule) trace
+  all_fresh = all_open_freshly (service (kind_of schedule.service)) small writes waits schedule playable (start_differs waits schedule playable.different) trace legal.joint both
 
-  pub fresh_apart : AreToldApart schedule.clients → AllOpenFreshly (lasting_start waits schedule) trace
-  fresh_apart apart = all_open_freshly (service (kind_of schedule.service)) small writes waits schedule playable (start_differs waits schedule apart) trace legal.joint both
-
-  pub unseen_apart : AreToldApart schedule.clients → AreUnseen (service (kind_of schedule.service)) (lasting_start waits schedule) trace
-  unseen_apart apart = unseen_fresh (fresh_apart apart)
-
-  pub mirrored_by : AllOpenFreshly (lasting_start waits schedule) trace → Mirrors (service (kind_of schedule.service)) small writes waits schedule playable trace
-  mirrored_by fresh = mirrors (service (kind_of schedule.service)) small writes waits schedule playable trace legal.joint both fresh
+  pub unseen : AreUnseen (service (kind_of schedule.service)) (lasting_start waits schedule) trace
+  unseen = all_unseen (service (kind_of schedule.service)) small writes waits schedule playable trace legal.joint both all_fresh
 
   -- the premises of turns
-  module _ (apart : AreToldApart schedule.clients) (n : LastingNode) (up : (lasting_after (lasting_start waits schedule) trace).node ≡ Some n) where
+  module _ (n : LastingNode) (up : (lasting_after (lasting_start waits schedule) trace).node ≡ Some n) where
     abbrev it : Mirrors (service (kind_of schedule.service)) small writes waits schedule playable trace
-    it = mirrored_by (fresh_apart apart)
+    it = mirrors (service (kind_of schedule.service)) small writes waits schedule playable trace legal.joint both all_fresh
 
     pub near : (input : Input) → MayStillCome (lasting_after (lasting_start waits schedule) trace) input → IsNearInput n.node.server input n.node.stage
     near input c = is_near (service (kind_of schedule.service)) small writes waits schedule playable trace it n up input c

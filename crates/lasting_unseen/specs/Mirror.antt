@@ -1,7 +1,6 @@
 -- The world of a schedule whose server lasts, as a world with a quarantine: what is lost isn't there, and messages about forgetting stand apart from packets.
 use Rattle.std.specs.Prelude.{◌≡◌, ℕ, true, false, Option, Some, None, option_map, List, [], ◌∷◌, ◌++◌, if◌then◌else◌}
 use Rattle.std.specs.List.{AllByRecursion}
-use Rattle.ft_io.specs.Key.{key_eq}
 use Rattle.seq_arith.specs.Packet.{Segment}
 use Rattle.ft_model.specs.Client.{Client}
 use Rattle.ft_model.specs.Network.Packet.{To_server, From_logger}
@@ -9,7 +8,6 @@ use Rattle.ft_model.specs.Node.{Input}
 use Rattle.ft_model.specs.Node.Input.{Packet_comes, Message_comes, Noise_comes, Tick_comes}
 use Rattle.ft_model.specs.declared.event.Event.{Event}
 use Rattle.ft_model.specs.declared.event.Event.TheVariants.{Deliver, Flip}
-use Rattle.ft_model.specs.declared.schedule.ClientLine.{ClientLine}
 use Rattle.long_laws.specs.Forgetting.{ForgetMessage}
 use Rattle.long_laws.specs.LongTrace.{Gone}
 use Rattle.long_laws.specs.Quarantine.{Quarantined}
@@ -72,8 +70,3 @@ MayStillCome w (Packet_comes segment) = (number : ℕ) × (sent_at w.sent number
 MayStillCome w (Message_comes message) = (number : ℕ) × (sent_at w.sent number ≡ Some (record { parcel = Usual (From_logger message); lost = false }))
 MayStillCome w Noise_comes = Unit {0}
 MayStillCome w Tick_comes = Unit {0}
-
--- clients of one address have different initial sequence numbers, so that a segment or a message of one isn't taken for another's (RFC 9293, 3.4.1)
-abbrev pub AreToldApart : List ClientLine → Type 0
-AreToldApart [] = Unit {0}
-AreToldApart (line ∷ lines) = AllByRecursion (λ other. key_eq other.key line.key ≡ true → other.isn ≡ line.isn → ⊥) lines × AreToldApart lines

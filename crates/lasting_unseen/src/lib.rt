@@ -23,59 +23,47 @@ ghost use Rattle.lasting_laws.specs.LastingLegal.{IsLastingLegalFor, lasting_sta
 ghost use Rattle.lasting_laws.specs.LastingTurn.{LastingNode};
 ghost use Rattle.lasting_laws.specs.LastingUnseen.{AreUnseen};
 ghost use Rattle.lasting_laws.specs.LastingWorld.{LastingMoment, lasting_after};
-ghost use Rattle.lasting_unseen.specs.Mirror.{AllOpenFreshly, AreToldApart, HasNoFlip, MayStillCome};
+ghost use Rattle.lasting_unseen.specs.Mirror.{HasNoFlip, MayStillCome};
 
 use server_trait::Service;
 
 /// Every legal trace of a schedule whose server lasts is unseen: after each event the four facts of the headline hold of the clients that are there, and each
 /// that is gone had accepted a prefix of the uncrashed server's output over the reads that its entry had. The premises: the schedule can be played and flips no
-/// bit, and clients of one address have different initial sequence numbers.
+/// bit.
 pub fn legal_lasting_traces_are_unseen<S: Service>()
     ensures { (waits : Lasting) (schedule : Schedule) (events : List Event) (trace : List LastingMoment)
-        → IsPlayable schedule → AllByRecursion FitsEvent events → AllByRecursion HasNoFlip events → AreToldApart schedule.clients
+        → IsPlayable schedule → AllByRecursion FitsEvent events → AllByRecursion HasNoFlip events
         → IsLastingLegalFor (machines S.started S.after S.greeting) waits schedule events trace
         → AreUnseen (machines S.started S.after S.greeting (kind_of schedule.service)) (lasting_start waits schedule) trace }
-{}
-
-/// The same of a trace in which every opening is fresh: it takes numbers that no message about forgetting of the server's own boot under way names. Where
-/// clients of one address have different numbers, each opening is.
-pub fn fresh_lasting_traces_are_unseen<S: Service>()
-    ensures unseen { (waits : Lasting) (schedule : Schedule) (events : List Event) (trace : List LastingMoment)
-        → IsPlayable schedule → AllByRecursion FitsEvent events → AllByRecursion HasNoFlip events
-        → IsLastingLegalFor (machines S.started S.after S.greeting) waits schedule events trace → AllOpenFreshly (lasting_start waits schedule) trace
-        → AreUnseen (machines S.started S.after S.greeting (kind_of schedule.service)) (lasting_start waits schedule) trace }
-    ensures fresh { (waits : Lasting) (schedule : Schedule) (events : List Event) (trace : List LastingMoment)
-        → IsPlayable schedule → AllByRecursion FitsEvent events → AllByRecursion HasNoFlip events → AreToldApart schedule.clients
-        → IsLastingLegalFor (machines S.started S.after S.greeting) waits schedule events trace → AllOpenFreshly (lasting_start waits schedule) trace }
 {}
 
 /// The premises of the turns of a server that lasts hold in each such trace, for whatever may come next. A packet is near, and so is the RST by which the
 /// server lets go of a client. What is fetched is sound, and so is the entry of which it is a front. Nothing fences the server.
 pub fn lasting_premises_hold<S: Service>()
     ensures near { (waits : Lasting) (schedule : Schedule) (events : List Event) (trace : List LastingMoment) (n : LastingNode) (input : Input)
-        → IsPlayable schedule → AllByRecursion FitsEvent events → AllByRecursion HasNoFlip events → AreToldApart schedule.clients
+        → IsPlayable schedule → AllByRecursion FitsEvent events → AllByRecursion HasNoFlip events
         → IsLastingLegalFor (machines S.started S.after S.greeting) waits schedule events trace
         → (lasting_after (lasting_start waits schedule) trace).node ≡ Some n
         → MayStillCome (lasting_after (lasting_start waits schedule) trace) input → IsNearInput n.node.server input n.node.stage }
     ensures let_go { (waits : Lasting) (schedule : Schedule) (events : List Event) (trace : List LastingMoment) (n : LastingNode) (key : Key) (p : Point)
-        → IsPlayable schedule → AllByRecursion FitsEvent events → AllByRecursion HasNoFlip events → AreToldApart schedule.clients
+        → IsPlayable schedule → AllByRecursion FitsEvent events → AllByRecursion HasNoFlip events
         → IsLastingLegalFor (machines S.started S.after S.greeting) waits schedule events trace
         → (lasting_after (lasting_start waits schedule) trace).node ≡ Some n
         → place_at key (places_at n.node.stage) ≡ Some (Lives p) → IsNearInput n.node.server (Packet_comes (last_rst n.node.server p)) n.node.stage }
     ensures sound { (waits : Lasting) (schedule : Schedule) (events : List Event) (trace : List LastingMoment) (n : LastingNode) (input : Input)
-        → IsPlayable schedule → AllByRecursion FitsEvent events → AllByRecursion HasNoFlip events → AreToldApart schedule.clients
+        → IsPlayable schedule → AllByRecursion FitsEvent events → AllByRecursion HasNoFlip events
         → IsLastingLegalFor (machines S.started S.after S.greeting) waits schedule events trace
         → (lasting_after (lasting_start waits schedule) trace).node ≡ Some n
         → MayStillCome (lasting_after (lasting_start waits schedule) trace) input
         → IsSoundInput (machines S.started S.after S.greeting (kind_of schedule.service)) n.node input n.node.stage }
     ensures fronts { (waits : Lasting) (schedule : Schedule) (events : List Event) (trace : List LastingMoment) (n : LastingNode) (input : Input)
-        → IsPlayable schedule → AllByRecursion FitsEvent events → AllByRecursion HasNoFlip events → AreToldApart schedule.clients
+        → IsPlayable schedule → AllByRecursion FitsEvent events → AllByRecursion HasNoFlip events
         → IsLastingLegalFor (machines S.started S.after S.greeting) waits schedule events trace
         → (lasting_after (lasting_start waits schedule) trace).node ≡ Some n
         → MayStillCome (lasting_after (lasting_start waits schedule) trace) input
         → HasSoundFronts (machines S.started S.after S.greeting (kind_of schedule.service)) n.node input n.node.stage }
     ensures unfenced { (waits : Lasting) (schedule : Schedule) (events : List Event) (trace : List LastingMoment) (n : LastingNode) (input : Input)
-        → IsPlayable schedule → AllByRecursion FitsEvent events → AllByRecursion HasNoFlip events → AreToldApart schedule.clients
+        → IsPlayable schedule → AllByRecursion FitsEvent events → AllByRecursion HasNoFlip events
         → IsLastingLegalFor (machines S.started S.after S.greeting) waits schedule events trace
         → (lasting_after (lasting_start waits schedule) trace).node ≡ Some n
         → MayStillCome (lasting_after (lasting_start waits schedule) trace) input → fence n.node input ≡ None }

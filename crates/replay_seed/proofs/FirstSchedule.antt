@@ -10,6 +10,7 @@ use Rattle.ft_model.specs.Schedule.{bytes_of, clients_of, letters}
 use Rattle.ft_model.specs.World.{is_apart, are_apart}
 use Rattle.ft_model.specs.declared.schedule.ClientLine.{ClientLine}
 use Rattle.ft_model.proofs.Lists.{all_append, all_weaker}
+use Rattle.ft_model.proofs.PlayableLemmas.{apart_are_different}
 use Rattle.pseudorandom.specs.Generator.{stepped}
 use Rattle.replay_seed.specs.Draws.{draw}
 use Rattle.ft_model.proofs.Letters.{length_letters}
@@ -79,6 +80,7 @@ can_be_played seed n h =
       numbers = all_weaker LineFits _ (client_lines seed n) (λ line f. f.number) fit;
       sizes = all_weaker LineFits _ (client_lines seed n) (λ line f. f.sizes) fit;
       beside = all_weaker LineFits _ (client_lines seed n) (λ line f. f.beside) fit;
+      different = apart_are_different server_address (client_lines seed n) (apart seed n h);
       apart = λ none. apart seed n h;
       events = tt;
     }

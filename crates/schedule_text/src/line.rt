@@ -1,6 +1,6 @@
 //! One line of a schedule: its tests in their order, which is that of `LineWhy`, and its meaning.
 
-ghost use Rattle.std.specs.Prelude.{◌≡◌, ◌==◌, ◌&&◌, ◌||◌, ◌<◌, nat_le};
+ghost use Rattle.std.specs.Prelude.{◌≡◌, ◌==◌, ◌&&◌, ◌||◌, ◌<◌, nat_le, not};
 ghost use Rattle.std.specs.List.{list_any};
 ghost use Rattle.ft_model.specs.Words.{words_of};
 ghost use Rattle.ft_model.specs.Grammar.{service_line, server_line, is_taken, free_address, client_line, bare_line, profile_line, marks_line, lasting_line};
@@ -43,38 +43,42 @@ fn read_server_line(words: &[u8]) -> Result<Addr, LineWhy>
     read_addr(address).ok_or(LineWhy::Address)
 }
 
-/// Returns whether a client has this address.
-fn has_address(clients: &[ClientLine], addr: Addr) -> bool
-    ensures { result ≡ list_any (λ client. client.key.ip == addr.ip && client.key.port == addr.port) clients.now }
+/// Returns whether a client has this address; at a server that lasts, with this initial sequence number.
+fn has_client(clients: &[ClientLine], lasts: bool, addr: Addr, isn: u32) -> bool
+    ensures { result ≡ list_any (λ client. (not lasts || client.isn == isn) && client.key.ip == addr.ip && client.key.port == addr.port) clients.now }
 {
-    clients.iter().any(|client| client.key.ip == addr.ip && client.key.port == addr.port)
+    clients.iter().any(|client| (!lasts || client.isn == isn)
+        && client.key.ip == addr.ip
+        && client.key.port == addr.port)
 }
 
-/// Returns whether the server has this address, or a client. At a server that lasts a client may have another's.
+/// Returns whether the server has this address, or a client. At a server that lasts a client may have another's, with another initial sequence number.
 #[tactic(auto, unfolding(ft_model::specs::Grammar::is_taken))]
-fn takes_address(draft: &Draft, addr: Addr) -> bool
-    ensures { result ≡ is_taken draft.now addr }
+fn takes_address(draft: &Draft, addr: Addr, isn: u32) -> bool
+    ensures { result ≡ is_taken draft.now addr isn }
 {
     match draft {
         Draft::Begun(schedule) => {
             if schedule.server.ip == addr.ip && schedule.server.port == addr.port {
                 return true;
             }
-            if schedule.lasting.is_some() {
-                return false;
-            }
-            has_address(schedule.clients.as_slice(), addr)
+            has_client(
+                schedule.clients.as_slice(),
+                schedule.lasting.is_some(),
+                addr,
+                isn,
+            )
         }
         _ => false,
     }
 }
 
 #[tactic(auto, unfolding(ft_model::specs::Grammar::free_address))]
-fn read_free_address(draft: &Draft, word: &[u8]) -> Result<Addr, LineWhy>
-    ensures { result ≡ free_address draft.now word.now }
+fn read_free_address(draft: &Draft, isn: u32, word: &[u8]) -> Result<Addr, LineWhy>
+    ensures { result ≡ free_address draft.now isn word.now }
 {
     let addr = read_addr(word).ok_or(LineWhy::Address)?;
-    if takes_address(draft, addr) {
+    if takes_address(draft, addr, isn) {
         return Err(LineWhy::Address);
     }
     Ok(addr)
@@ -91,7 +95,7 @@ fn read_client_line(alloc: Global, draft: &Draft, words: &[u8]) -> Result<Client
     end_of(rest)?;
     let _ = read_client_number(client)?;
     let isn = read_long_number(isn)?;
-    let addr = read_free_address(draft, address)?;
+    let addr = read_free_address(draft, isn, address)?;
     let script = read_script(alloc, script)?.ok_or(LineWhy::Script)?;
     let key = Key {
         ip: addr.ip,

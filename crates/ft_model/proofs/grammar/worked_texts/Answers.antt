@@ -55,5 +55,6 @@ returns c = record {
   late_lasting = refl;
   same_address = refl;
   server_address = refl;
+  same_number = refl;
   third_logger = refl;
 }
