@@ -186,7 +186,7 @@ pub fn worked_texts()
         ≡ Err (BadLine 4 why.Address) }
     ensures server_address { read_text (codes "service echo\nserver 192.0.2.100:7\nlasting 1 0\nclient 1 192.0.2.100:7 1000 -\n")
         ≡ Err (BadLine 4 why.Address) }
-    ensures same_number { read_text (codes "service echo\nserver 192.0.2.100:7\nlasting 2 0\nclient 1 192.0.2.1:40000 1000 -\nclient 2 192.0.2.1:40000 1000 -\n")
+    ensures same_number { read_text (codes "service echo\nserver 192.0.2.100:7\nlasting 2 0\nclient 1 192.0.2.1:40000 1000 -\nclient 2 192.0.2.1:40000 1000 -")
         ≡ Err (BadLine 5 why.Address) }
     ensures third_logger { read_text (codes "service echo\nserver 192.0.2.100:7\nstop 3\n") ≡ Err (BadLine 3 why.Number) }
 {}
@@ -197,8 +197,9 @@ pub fn accepted_schedules_keep_the_limits()
     ensures { (text : List ℕ) (schedule : Schedule) → read_text text ≡ Ok schedule → IsAccepted schedule }
 {}
 
-/// A schedule that a text spells can be played: its clients' addresses differ from the server's and, unless the server lasts, from one another, those of one address
-/// have different initial sequence numbers, all numbers are modulo 2^32, their scripts have at most 2^24 bytes, and the numbers of its events fit their types.
+/// A schedule that a text spells can be played: its clients' addresses differ from the server's and, unless the server lasts, from one another, those of one
+/// address have different initial sequence numbers, all numbers are modulo 2^32, their scripts have at most 2^24 bytes, and the numbers of its events fit their
+/// types.
 pub fn accepted_schedules_can_be_played()
     ensures { (text : List ℕ) (schedule : Schedule) → read_text text ≡ Ok schedule → IsPlayable schedule }
 {}

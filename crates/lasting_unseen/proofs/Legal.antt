@@ -14,36 +14,40 @@ use Rattle.ft_model.specs.Schedule.{kind_of}
 use Rattle.ft_model.specs.declared.event.Event.{Event}
 use Rattle.ft_model.specs.declared.schedule.Lasting.{Lasting}
 use Rattle.ft_model.specs.declared.schedule.Schedule.{Schedule}
-use Rattle.ft_model.proofs.Lists.{all_both}
 use Rattle.ft_model.proofs.Running.{HasSmallOutputs}
 use Rattle.trace_laws.specs.Premises.{HasSoundFronts}
 use Rattle.long_laws.specs.LongTrace.{places_at, last_rst}
 use Rattle.lasting_laws.specs.LastingTurn.{LastingNode}
 use Rattle.lasting_laws.specs.LastingLegal.{IsLastingLegalFor, lasting_start}
 use Rattle.lasting_laws.specs.LastingUnseen.{AreUnseen}
-use Rattle.lasting_laws.specs.LastingWorld.{LastingMoment, lasting_after}
-use Rattle.lasting_unseen.specs.Mirror.{AllOpenFreshly, HasNoFlip, MayStillCome}
+use Rattle.lasting_laws.specs.LastingWorld.{LastingMoment, grammar_in, lasting_after}
+use Rattle.lasting_unseen.specs.Mirror.{AllOpenFreshly, MayStillCome}
 use Rattle.lasting_unseen.proofs.Begins.{start_differs}
 use Rattle.lasting_unseen.proofs.Traces.{Mirrors, mirrors, all_unseen, events_fit, all_open_freshly, is_near, is_let_go_near, is_sound, is_unfenced}
+use Rattle.lasting_unseen.proofs.Writes.{WritesEach, AllWritten, writes_each, writes_all}
 
 module _ {State : Type 0} (service : ℕ → Machine State) (waits : Lasting) (schedule : Schedule) (events : List Event) (trace : List LastingMoment)
     (small : HasSmallOutputs (service (kind_of schedule.service))) (writes : WritesBytes (service (kind_of schedule.service))) (playable : IsPlayable schedule)
-    (fits : AllByRecursion FitsEvent events) (unflipped : AllByRecursion HasNoFlip events) (legal : IsLastingLegalFor service waits schedule events trace) where
-  both : AllByRecursion (λ m. FitsEvent m.event × HasNoFlip m.event) trace
-  both =
-      events_fit (service (kind_of schedule.service)) small writes waits schedule playable trace
-      (subst (AllByRecursion (λ e. FitsEvent e × HasNoFlip e)) (sym legal.events_are) (all_both FitsEvent HasNoFlip (λ e. FitsEvent e × HasNoFlip e) events (λ e a b. (a, b)) fits unflipped))
+    (fits : AllByRecursion FitsEvent events) (legal : IsLastingLegalFor service waits schedule events trace) where
+  all_fit : AllByRecursion (λ m. FitsEvent m.event) trace
+  all_fit = events_fit (service (kind_of schedule.service)) small writes waits schedule playable trace (subst (AllByRecursion FitsEvent) (sym legal.events_are) fits)
 
   all_fresh : AllOpenFreshly (lasting_start waits schedule) trace
-  all_fresh = all_open_freshly (service (kind_of schedule.service)) small writes waits schedule playable (start_differs waits schedule playable.different) trace legal.joint both
+  all_fresh = all_open_freshly (service (kind_of schedule.service)) small writes waits schedule playable (start_differs waits schedule playable.different) trace legal.joint all_fit
 
   pub unseen : AreUnseen (service (kind_of schedule.service)) (lasting_start waits schedule) trace
-  unseen = all_unseen (service (kind_of schedule.service)) small writes waits schedule playable trace legal.joint both all_fresh
+  unseen = all_unseen (service (kind_of schedule.service)) small writes waits schedule playable trace legal.joint all_fit all_fresh
+
+  pub each_written : WritesEach (grammar_in (lasting_start waits schedule)) trace
+  each_written = writes_each (service (kind_of schedule.service)) small writes waits schedule playable trace legal.joint all_fit all_fresh
+
+  pub all_written : AllWritten (grammar_in (lasting_start waits schedule)) (lasting_after (lasting_start waits schedule) trace).sent
+  all_written = writes_all (service (kind_of schedule.service)) small writes waits schedule playable (grammar_in (lasting_start waits schedule)) trace legal.joint each_written
 
   -- the premises of turns
   module _ (n : LastingNode) (up : (lasting_after (lasting_start waits schedule) trace).node ≡ Some n) where
     abbrev it : Mirrors (service (kind_of schedule.service)) small writes waits schedule playable trace
-    it = mirrors (service (kind_of schedule.service)) small writes waits schedule playable trace legal.joint both all_fresh
+    it = mirrors (service (kind_of schedule.service)) small writes waits schedule playable trace legal.joint all_fit all_fresh
 
     pub near : (input : Input) → MayStillCome (lasting_after (lasting_start waits schedule) trace) input → IsNearInput n.node.server input n.node.stage
     near input c = is_near (service (kind_of schedule.service)) small writes waits schedule playable trace it n up input c

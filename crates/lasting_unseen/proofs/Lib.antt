@@ -11,6 +11,10 @@ pub mod GuestsMoved
 pub mod GuestsGone
 pub mod GuestsNames
 pub mod Names
+pub mod Spelled
+pub mod Noise
+pub mod InOrder
+pub mod Flips
 pub mod Fresh
 pub mod Begins
 pub mod Leads
@@ -20,4 +24,6 @@ pub mod Forgets
 pub mod Vacant
 pub mod Moves
 pub mod Traces
+pub mod Sends
+pub mod Writes
 pub mod Legal

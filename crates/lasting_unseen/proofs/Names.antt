@@ -93,7 +93,7 @@ module _ {State : Type 0} (service : Machine State) where
   brings before event sent after input node (has_booted boot isn none down larger s is) e f = none_is_some input (sym none ∙ e)
   brings before event sent after input node (is_down why s is) e f = ⊎_elim (λ d. none_is_some node (sym d ∙ f)) (λ none. none_is_some input (sym none ∙ e)) why
 
-  step_brings : (before after : LongWorld) (step : LongStep) (sent : List Packet) → MayPass service before step sent after → (input : Input) (node : Node) → step_input before.now step ≡ Some input
+  pub step_brings : (before after : LongWorld) (step : LongStep) (sent : List Packet) → MayPass service before step sent after → (input : Input) (node : Node) → step_input before.now step ≡ Some input
       → before.now.node ≡ Some node → IsBrought before.now input
   step_brings before after (Joint_event event) sent p input node e f = brings before.now event sent after.now input node (went service before.now event sent after.now p.0) e f
   step_brings before after (Recycles key) sent p input node e f = none_is_some input e
@@ -121,10 +121,10 @@ module _ {State : Type 0} (service : Machine State) where
     place_goes (Lives p) = tt
     place_goes (Opens n timestamping) = tt
 
-    quarantine_goes : (later : Stage) → AllByRecursion (λ x. P x.named) (quarantine_after node input later qs)
+    pub quarantine_goes : (later : Stage) → AllByRecursion (λ x. P x.named) (quarantine_after node input later qs)
     quarantine_goes later = all_flat (λ place. Unit {0}) (λ x. P x.named) (quarantine_of node input qs) (places_at later) (λ place u. place_goes place) (all_of (λ place. Unit {0}) (places_at later) (λ place. tt))
 
-  quarantine_kept : (P : Named → Type 0) (o : Option Node) (i : Option Input) (later : Option Node) (qs : List Quarantined) → AllByRecursion (λ x. P x.named) qs
+  pub quarantine_kept : (P : Named → Type 0) (o : Option Node) (i : Option Input) (later : Option Node) (qs : List Quarantined) → AllByRecursion (λ x. P x.named) qs
       → ((node : Node) (input : Input) (stage : Stage) → o ≡ Some node → i ≡ Some input → AllByRecursion (λ x. P x.named) (quarantine_after node input stage qs))
       → AllByRecursion (λ x. P x.named) (quarantine_then o i later qs)
   quarantine_kept P (Some node) (Some input) (Some later) qs all f = f node input later.stage refl refl
@@ -250,7 +250,7 @@ module _ {State : Type 0} (service : Machine State) where
     noted = names.noted;
   }
 
-  lost_names : {A : Type 0} (R : A → Type 0) (number : ℕ) (xs : List A) → AllByRecursion R xs → AllByRecursion R (without_at number xs)
+  pub lost_names : {A : Type 0} (R : A → Type 0) (number : ℕ) (xs : List A) → AllByRecursion R xs → AllByRecursion R (without_at number xs)
   lost_names R number [] a = tt
   lost_names R zero (x ∷ xs) a = a.1
   lost_names R (suc number) (x ∷ xs) a = (a.0, lost_names R number xs a.1)

@@ -13,7 +13,7 @@ use Rattle.ft_model.specs.Masked.{SeesFront, AcknowledgesLogged, RestartIsExact}
 use Rattle.ft_model.specs.Network.{Packet, destination_of}
 use Rattle.ft_model.specs.Network.Packet.{To_server, To_client, To_logger, From_logger}
 use Rattle.ft_model.specs.Lawful.{IsNearInput, IsSoundInput, fence}
-use Rattle.ft_model.specs.Node.{Stage, Input, key_of, place_at}
+use Rattle.ft_model.specs.Node.{Node, Stage, Input, key_of, place_at}
 use Rattle.ft_model.specs.Node.Input.{Packet_comes, Message_comes, Noise_comes, Tick_comes}
 use Rattle.ft_model.specs.Node.Place.{Lives}
 use Rattle.ft_model.specs.Point.{Point}
@@ -34,25 +34,29 @@ use Rattle.ft_model.proofs.SomeOutcome.{is_up}
 use Rattle.ft_model.specs.Log.{log_after}
 use Rattle.long_laws.specs.Forgetting.{after_forget}
 use Rattle.long_laws.specs.LongTrace.{Gone, SawFront, IsMaskedMoment, places_at, last_rst}
-use Rattle.long_laws.specs.QuarantineWorld.{QuarantineMoment, QuarantineJoint, recycled_by, after_moments}
+use Rattle.long_laws.specs.ForgetGrammar.{IsSpellable}
+use Rattle.long_laws.specs.QuarantineWorld.{QuarantineMoment, QuarantineJoint, recycled_by, after_moments, IsHeld, AllAreHeld}
 use Rattle.long_laws.proofs.LongPremises.{scripted_near, let_go_near, input_sound, no_fence}
 use Rattle.long_laws.proofs.Premised.{Premised}
 use Rattle.long_laws.proofs.QuarantineMessages.{KeepsAll}
 use Rattle.long_laws.proofs.QuarantineTraces.{Followed, follows}
+use Rattle.long_laws.proofs.QuarantineWhole.{all_held}
 use Rattle.long_laws.proofs.Stands.{Stands, sees_front, all_reported}
 use Rattle.lasting_laws.specs.LastingLegal.{LastingJoint, lasting_start, lasting_refusal, lasting_events_of, patience_of}
-use Rattle.lasting_laws.specs.LastingTurn.{LastingNode, LastingInput, LastingSent, LastingTurn, booted_to_last}
+use Rattle.lasting_laws.specs.LastingTurn.{LastingNode, booted_to_last}
 use Rattle.lasting_laws.specs.LastingTurn.LastingInput.{Usual_comes, Forget_comes}
-use Rattle.lasting_laws.specs.LastingWorld.{Parcel, LastingWorld, LastingMoment, LastingHappens, ParcelComes, ServerTurn, ServerMoves, Unless, parcels_of, with_sent, with_recycled, sent_at, lasting_after}
+use Rattle.lasting_laws.specs.LastingWorld.{Parcel, LastingWorld, LastingMoment, LastingHappens, ParcelComes, ServerMoves, Unless, with_sent, with_recycled, sent_at, lasting_after}
 use Rattle.lasting_laws.specs.LastingWorld.{Parcel as parcels}
 use Rattle.lasting_laws.specs.LastingUnseen.{AreUnseen, those_there, usual}
 use Rattle.lasting_laws.specs.LastingUnseen as unseen
-use Rattle.lasting_unseen.specs.Mirror.{OpensFreshly, AllOpenFreshly, HasNoFlip, MayStillCome, notes_under_way, mirrored}
+use Rattle.lasting_unseen.specs.Mirror.{OpensFreshly, AllOpenFreshly, MayStillCome, notes_under_way, quarantine_in, mirrored}
 use Rattle.lasting_unseen.proofs.Begins.{empty_start, empty_starts, guested_at_start}
 use Rattle.lasting_unseen.proofs.Fresh.{Differ, opens_fresh}
+use Rattle.lasting_unseen.proofs.Flips.{NoiseKeeps, server_shows, flip_shows}
 use Rattle.lasting_unseen.proofs.Forgets.{forget_shows, forgotten_shows}
 use Rattle.lasting_unseen.proofs.Guests.{Guested, of_those_there, of_those_gone}
 use Rattle.lasting_unseen.proofs.GuestsNames.{Identified, identity}
+use Rattle.lasting_unseen.proofs.InOrder.{IsInOrder, all_in_order, noise_in_order}
 use Rattle.lasting_unseen.proofs.Leads.{Passes, onto, goes_on, acknowledged, exactly}
 use Rattle.lasting_unseen.proofs.Moves.{guest_shows}
 use Rattle.lasting_unseen.proofs.Names.{Names, names_after}
@@ -60,7 +64,8 @@ use Rattle.lasting_unseen.proofs.Parcels.{packet_there}
 use Rattle.lasting_unseen.proofs.Peopled.{Peopled}
 use Rattle.lasting_unseen.proofs.PeopledTraces.{peopled_after, premised_after}
 use Rattle.lasting_unseen.proofs.Shows.{Shows, nothing_shows, client_shows, log_shows, boot_shows, crash_shows}
-use Rattle.lasting_unseen.proofs.Turns.{turned, turn_shows, tick_shows, message_fresh}
+use Rattle.lasting_unseen.proofs.Spelled.{spelled_after}
+use Rattle.lasting_unseen.proofs.Turns.{turn_shows, tick_shows, message_fresh}
 
 apart_at : (stage : Stage) → StageDistinct stage → AreDistinct (map key_of (places_at stage))
 apart_at (Serving opened places) d = d
@@ -69,24 +74,11 @@ apart_at (Fetching count fetched) d = tt
 apart_at (Fenced newer) d = tt
 
 module _ {State : Type 0} (service : Machine State) (w : LastingWorld) (clients : List Client) (past : List Gone) (o : Guested w.server w.guests clients past)
-    (peopled : Peopled service (mirrored w clients past).now) where
-  -- the server takes its turn, if it is up
-  server_shows : (input : LastingInput) (sent : List Parcel) (after : LastingWorld)
-      → ((n : LastingNode) (up : w.node ≡ Some n) (later : LastingNode) (out : LastingSent) → LastingTurn service w.patience n input out later
-      → Shows service w clients past (parcels_of out) (turned service w clients past n up later out))
-      → ServerMoves service input w sent after → Shows service w clients past sent after
-  server_shows input sent after turns moves = by w.node refl moves
-    where
-      by : (node : Option LastingNode) → w.node ≡ node → ServerTurn service input node w sent after → Shows service w clients past sent after
-      by None up t = subst (λ l. Shows service w clients past l after) (sym t.0) (subst (Shows service w clients past []) (sym t.1) (nothing_shows service w clients past o))
-      by (Some n) up (later, out, turn, sent_is, after_is) =
-          subst (λ l. Shows service w clients past l after) (sym sent_is)
-          (subst (Shows service w clients past (parcels_of out)) (sym (after_is ∙ ap (λ l. with_sent l (record w { node = Some later })) sent_is)) (turns n up later out turn))
-
+    (peopled : Peopled service (mirrored w clients past).now) (keeps : NoiseKeeps w.node) (spelled : AllByRecursion IsSpellable (notes_under_way w.sent)) where
   packet_shows : (number : ℕ) (segment : Segment) (sent : List Parcel) (after : LastingWorld) → sent_at w.sent number ≡ Some (record { parcel = parcels.Usual (To_server segment); lost = false })
       → OpensFreshly w (Deliver number) → ServerMoves service (Usual_comes (Packet_comes segment)) w sent after → Shows service w clients past sent after
   packet_shows number segment sent after at fresh moves =
-      server_shows (Usual_comes (Packet_comes segment)) sent after
+      server_shows service w clients past o (Usual_comes (Packet_comes segment)) sent after
       (λ n up later out turn. turn_shows service w clients past n up (To_server segment) (Packet_comes segment) number later out o at refl (fresh n segment up at) turn) moves
 
   parcel_shows : (number : ℕ) (parcel : Parcel) (sent : List Parcel) (after : LastingWorld) → sent_at w.sent number ≡ Some (record { parcel = parcel; lost = false }) → OpensFreshly w (Deliver number)
@@ -98,13 +90,13 @@ module _ {State : Type 0} (service : Machine State) (w : LastingWorld) (clients 
       subst (λ l. Shows service w clients past l after) (sym c.0)
       (subst (Shows service w clients past _) (sym (c.1 ∙ ap (λ l. with_sent l (record w { log = log_after w.log message })) c.0)) (log_shows service w clients past number message o at))
   parcel_shows number (parcels.Usual (From_logger message)) sent after at fresh c =
-      server_shows (Usual_comes (Message_comes message)) sent after
+      server_shows service w clients past o (Usual_comes (Message_comes message)) sent after
       (λ n up later out turn. turn_shows service w clients past n up (From_logger message) (Message_comes message) number later out o at refl (message_fresh _ n.node message n.node.stage) turn) c
   parcel_shows number (parcels.Forget_sent message) sent after at fresh c =
       subst (λ l. Shows service w clients past l after) (sym c.0)
       (subst (Shows service w clients past _) (sym (c.1 ∙ ap (λ l. with_sent l (record (with_recycled (recycled_by message w.log) w) { log = after_forget w.log message })) c.0)) (forget_shows service w clients past message peopled.stands.asked.distinct number o at))
   parcel_shows number (parcels.Forgotten_sent message) sent after at fresh c =
-      server_shows (Forget_comes message) sent after (λ n up later out turn. forgotten_shows service w clients past n up message number later out o at turn) c
+      server_shows service w clients past o (Forget_comes message) sent after (λ n up later out turn. forgotten_shows service w clients past n up message number later out o at turn) c
 
   delivery_shows : (number : ℕ) (parcel : Parcel) (lost : Bool) (sent : List Parcel) (after : LastingWorld) → sent_at w.sent number ≡ Some (record { parcel = parcel; lost = lost }) → OpensFreshly w (Deliver number)
       → Unless lost (ParcelComes service parcel) w sent after → Shows service w clients past sent after
@@ -125,25 +117,25 @@ module _ {State : Type 0} (service : Machine State) (w : LastingWorld) (clients 
   none_of None e = refl
   none_of (Some x) e = absurd (true≢false e)
 
-  pub event_shows : (event : Event) (sent : List Parcel) (after : LastingWorld) → FitsEvent event → HasNoFlip event → OpensFreshly w event → lasting_refusal w event ≡ None
+  pub event_shows : (event : Event) (sent : List Parcel) (after : LastingWorld) → FitsEvent event → OpensFreshly w event → lasting_refusal w event ≡ None
       → LastingHappens service w event sent after → Shows service w clients past sent after
-  event_shows (Boot boot isn) sent after fits flip fresh free h =
+  event_shows (Boot boot isn) sent after fits fresh free h =
       let parts = boot_free (is_some w.node) (nat_le boot w.boot) free in
       subst (λ l. Shows service w clients past l after) (sym h.0)
       (subst (Shows service w clients past _) (sym (h.1 ∙ ap (λ l. with_sent l (record w { boot = boot; node = Some (booted_to_last w.server w.profile boot isn) })) h.0)) (boot_shows service w clients past boot isn o (none_of w.node parts.0) (leb-false boot w.boot parts.1, fits.0)))
-  event_shows Crash sent after fits flip fresh free h =
+  event_shows Crash sent after fits fresh free h =
       subst (λ l. Shows service w clients past l after) (sym h.0)
       (subst (Shows service w clients past []) (sym h.1) (crash_shows service w clients past o (is_up (is_some w.node) free)))
-  event_shows Tick sent after fits flip fresh free h =
-      server_shows (Usual_comes Tick_comes) sent after (λ n up later out turn. tick_shows service w clients past n up later out o (tick_at n up) turn) h
-  event_shows (Deliver number) sent after fits flip fresh free (s, at, c) = delivery_shows number s.parcel s.lost sent after at fresh c
-  event_shows (Flip number bit) sent after fits flip fresh free h = absurd flip
-  event_shows (Begin client window) sent after fits flip fresh free h = guest_shows service w clients past (Begin client window) sent after o peopled fits free h
-  event_shows (Send client from len) sent after fits flip fresh free h = guest_shows service w clients past (Send client from len) sent after o peopled fits free h
-  event_shows (Fin client) sent after fits flip fresh free h = guest_shows service w clients past (Fin client) sent after o peopled fits free h
-  event_shows (Ack client window) sent after fits flip fresh free h = guest_shows service w clients past (Ack client window) sent after o peopled fits free h
-  event_shows (Reset client) sent after fits flip fresh free h = guest_shows service w clients past (Reset client) sent after o peopled fits free h
-  event_shows (Stop part) sent after fits flip fresh free h = absurd h
+  event_shows Tick sent after fits fresh free h =
+      server_shows service w clients past o (Usual_comes Tick_comes) sent after (λ n up later out turn. tick_shows service w clients past n up later out o (tick_at n up) turn) h
+  event_shows (Deliver number) sent after fits fresh free (s, at, c) = delivery_shows number s.parcel s.lost sent after at fresh c
+  event_shows (Flip number bit) sent after fits fresh free h = flip_shows service w clients past o keeps peopled spelled number bit sent after free h
+  event_shows (Begin client window) sent after fits fresh free h = guest_shows service w clients past (Begin client window) sent after o peopled fits free h
+  event_shows (Send client from len) sent after fits fresh free h = guest_shows service w clients past (Send client from len) sent after o peopled fits free h
+  event_shows (Fin client) sent after fits fresh free h = guest_shows service w clients past (Fin client) sent after o peopled fits free h
+  event_shows (Ack client window) sent after fits fresh free h = guest_shows service w clients past (Ack client window) sent after o peopled fits free h
+  event_shows (Reset client) sent after fits fresh free h = guest_shows service w clients past (Reset client) sent after o peopled fits free h
+  event_shows (Stop part) sent after fits fresh free h = absurd h
 
 -- A trace
 
@@ -166,14 +158,28 @@ module _ {State : Type 0} (service : Machine State) (small : HasSmallOutputs ser
     pub identified : Identified (lasting_after start trace).guests clients past
     pub identities : map identity (lasting_after start trace).guests ≡ map identity start.guests
 
-  peopled_in : (trace : List LastingMoment) → (m : Mirrors trace) → Peopled service (mirrored (lasting_after start trace) m.clients m.past).now
+  pub peopled_in : (trace : List LastingMoment) → (m : Mirrors trace) → Peopled service (mirrored (lasting_after start trace) m.clients m.past).now
   peopled_in trace m = subst (λ q. Peopled service q.now) m.is (peopled_after service small writes waits.wait begun m.moments m.joint)
 
-  shows_next : (moment : LastingMoment) (earlier : List LastingMoment) → (m : Mirrors earlier) → FitsEvent moment.event → HasNoFlip moment.event → OpensFreshly (lasting_after start earlier) moment.event
+  keeps_in : (trace : List LastingMoment) → (m : Mirrors trace) → NoiseKeeps (lasting_after start trace).node
+  keeps_in trace m = λ n up.
+      let o : Option Node = option_map (λ x. x.node) (lasting_after start trace).node in
+      let there : o ≡ Some n.node = ap (option_map (λ x. x.node)) up in
+      let qs : quarantine_in (lasting_after start trace).node ≡ n.quarantine = ap quarantine_in up in
+      let order : IsInOrder o n.quarantine =
+      subst (IsInOrder o) qs (subst (λ q. IsInOrder q.now.node q.quarantine) m.is (all_in_order service small waits.wait begun m.moments m.joint)) in
+      let held : AllByRecursion (IsHeld (quarantine_in (lasting_after start trace).node)) (places_at n.node.stage) =
+      subst AllAreHeld m.is (all_held service small waits.wait begun m.moments m.joint) n.node there in
+      noise_in_order n.node n.quarantine (order n.node there) (subst (λ l. AllByRecursion (IsHeld l) (places_at n.node.stage)) qs held)
+
+  pub spelled_in : (trace : List LastingMoment) → (m : Mirrors trace) → AllByRecursion IsSpellable (notes_under_way (lasting_after start trace).sent)
+  spelled_in trace m = subst (λ q. AllByRecursion IsSpellable q.notes) m.is (spelled_after service small writes waits.wait begun m.moments m.joint)
+
+  shows_next : (moment : LastingMoment) (earlier : List LastingMoment) → (m : Mirrors earlier) → FitsEvent moment.event → OpensFreshly (lasting_after start earlier) moment.event
       → lasting_refusal (lasting_after start earlier) moment.event ≡ None → LastingHappens service (lasting_after start earlier) moment.event moment.parcels moment.world
       → Shows service (lasting_after start earlier) m.clients m.past moment.parcels moment.world
-  shows_next moment earlier m fits flip fresh free h =
-      event_shows service (lasting_after start earlier) m.clients m.past m.guested (peopled_in earlier m) moment.event moment.parcels moment.world fits flip fresh free h
+  shows_next moment earlier m fits fresh free h =
+      event_shows service (lasting_after start earlier) m.clients m.past m.guested (peopled_in earlier m) (keeps_in earlier m) (spelled_in earlier m) moment.event moment.parcels moment.world fits fresh free h
 
   passes_next : (moment : LastingMoment) (earlier : List LastingMoment) → (m : Mirrors earlier) → (s : Shows service (lasting_after start earlier) m.clients m.past moment.parcels moment.world)
       → Passes service waits.wait (after_moments begun m.moments) (usual moment.parcels) (mirrored moment.world s.later s.gone)
@@ -213,23 +219,23 @@ module _ {State : Type 0} (service : Machine State) (small : HasSmallOutputs ser
       fewer (To_logger message) a = tt
       fewer (From_logger message) a = tt
 
-  pub mirrors : (trace : List LastingMoment) → LastingJoint service start trace → AllByRecursion (λ m. FitsEvent m.event × HasNoFlip m.event) trace → AllOpenFreshly start trace → Mirrors trace
+  pub mirrors : (trace : List LastingMoment) → LastingJoint service start trace → AllByRecursion (λ m. FitsEvent m.event) trace → AllOpenFreshly start trace → Mirrors trace
   mirrors [] j fits fresh = record { clients = []; past = []; moments = []; joint = empty_starts schedule playable; is = refl; guested = guested_at_start waits schedule playable; patience = refl; identified = record { here = tt; gone = tt }; identities = refl }
   mirrors (moment ∷ earlier) j fits fresh =
       let m : Mirrors earlier = mirrors earlier j.0 fits.1 fresh.0 in
-      next moment earlier m (shows_next moment earlier m fits.0.0 fits.0.1 fresh.1 j.1 j.2)
+      next moment earlier m (shows_next moment earlier m fits.0 fresh.1 j.1 j.2)
 
-  pub all_unseen : (trace : List LastingMoment) → LastingJoint service start trace → AllByRecursion (λ m. FitsEvent m.event × HasNoFlip m.event) trace → AllOpenFreshly start trace → AreUnseen service start trace
+  pub all_unseen : (trace : List LastingMoment) → LastingJoint service start trace → AllByRecursion (λ m. FitsEvent m.event) trace → AllOpenFreshly start trace → AreUnseen service start trace
   all_unseen [] j fits fresh = tt
   all_unseen (moment ∷ earlier) j fits fresh =
       let m : Mirrors earlier = mirrors earlier j.0 fits.1 fresh.0 in
-      (all_unseen earlier j.0 fits.1 fresh.0, masked moment earlier m (shows_next moment earlier m fits.0.0 fits.0.1 fresh.1 j.1 j.2))
+      (all_unseen earlier j.0 fits.1 fresh.0, masked moment earlier m (shows_next moment earlier m fits.0 fresh.1 j.1 j.2))
 
   -- the events of a trace fit if those of the schedule do
-  pub events_fit : (trace : List LastingMoment) → AllByRecursion (λ e. FitsEvent e × HasNoFlip e) (lasting_events_of trace) → AllByRecursion (λ m. FitsEvent m.event × HasNoFlip m.event) trace
+  pub events_fit : (trace : List LastingMoment) → AllByRecursion FitsEvent (lasting_events_of trace) → AllByRecursion (λ m. FitsEvent m.event) trace
   events_fit [] a = tt
   events_fit (moment ∷ earlier) a =
-      let parts = all_front (λ e. FitsEvent e × HasNoFlip e) (lasting_events_of earlier) moment.event a in (parts.1, events_fit earlier parts.0)
+      let parts = all_front FitsEvent (lasting_events_of earlier) moment.event a in (parts.1, events_fit earlier parts.0)
 
   -- The premises of the server's turns
 
@@ -283,7 +289,7 @@ module _ {State : Type 0} (service : Machine State) (small : HasSmallOutputs ser
   fresh_next trace m differ (Reset client) = tt
   fresh_next trace m differ (Stop part) = tt
 
-  pub all_open_freshly : Differ (map identity start.guests) → (trace : List LastingMoment) → LastingJoint service start trace → AllByRecursion (λ m. FitsEvent m.event × HasNoFlip m.event) trace
+  pub all_open_freshly : Differ (map identity start.guests) → (trace : List LastingMoment) → LastingJoint service start trace → AllByRecursion (λ m. FitsEvent m.event) trace
       → AllOpenFreshly start trace
   all_open_freshly differ [] j fits = tt
   all_open_freshly differ (moment ∷ earlier) j fits =

@@ -1,5 +1,5 @@
 -- The world of a schedule whose server lasts, as a world with a quarantine: what is lost isn't there, and messages about forgetting stand apart from packets.
-use Rattle.std.specs.Prelude.{◌≡◌, ℕ, true, false, Option, Some, None, option_map, List, [], ◌∷◌, ◌++◌, if◌then◌else◌}
+use Rattle.std.specs.Prelude.{◌≡◌, ℕ, false, Option, Some, None, option_map, List, [], ◌∷◌, ◌++◌, if◌then◌else◌}
 use Rattle.std.specs.List.{AllByRecursion}
 use Rattle.seq_arith.specs.Packet.{Segment}
 use Rattle.ft_model.specs.Client.{Client}
@@ -7,7 +7,7 @@ use Rattle.ft_model.specs.Network.Packet.{To_server, From_logger}
 use Rattle.ft_model.specs.Node.{Input}
 use Rattle.ft_model.specs.Node.Input.{Packet_comes, Message_comes, Noise_comes, Tick_comes}
 use Rattle.ft_model.specs.declared.event.Event.{Event}
-use Rattle.ft_model.specs.declared.event.Event.TheVariants.{Deliver, Flip}
+use Rattle.ft_model.specs.declared.event.Event.TheVariants.{Deliver}
 use Rattle.long_laws.specs.Forgetting.{ForgetMessage}
 use Rattle.long_laws.specs.LongTrace.{Gone}
 use Rattle.long_laws.specs.Quarantine.{Quarantined}
@@ -58,11 +58,6 @@ OpensFreshly w event = Unit {0}
 abbrev pub AllOpenFreshly : LastingWorld → List LastingMoment → Type 0
 AllOpenFreshly start [] = Unit {0}
 AllOpenFreshly start (moment ∷ earlier) = AllOpenFreshly start earlier × OpensFreshly (lasting_after start earlier) moment.event
-
--- no bit of a parcel is changed on its way
-abbrev pub HasNoFlip : Event → Type 0
-HasNoFlip (Flip number bit) = ⊥
-HasNoFlip event = Unit {0}
 
 -- what may come to the server next, of what isn't lost
 abbrev pub MayStillCome : LastingWorld → Input → Type 0

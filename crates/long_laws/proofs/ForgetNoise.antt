@@ -27,7 +27,7 @@ sum_if (Some kind) bytes ok =
     sum_held (not (nat_eq (word_at bytes 4) (length bytes)) || not (nat_eq (length bytes) 30)) bad.Length bad.Sum bytes
     (if nat_lt (boot_in bytes) 1 then Err bad.Field else Ok (message_in kind bytes)) ok
 
-sum_of : (bytes : List ℕ) → IsOk (reading bytes) → checksum bytes ≡ 0
+pub sum_of : (bytes : List ℕ) → IsOk (reading bytes) → checksum bytes ≡ 0
 unfolding reading
 sum_of bytes ok =
     sum_if (kind_numbered (slice_index bytes 3)) bytes

@@ -85,10 +85,10 @@ lengthened_packet_is_refused bytes behind segment is more =
     in omega (arith, was.counted, now.counted, length-append bytes behind, word_in_longer bytes behind 2 (omega (arith, was.long))))
 
 -- what acceptance says of a message's length and of its checksum
-record IsWholeMessage (bytes : List ℕ) : Type 0 where
-  long : 16 ≤ length bytes
-  counted : word_at bytes 4 ≡ length bytes
-  sum : checksum bytes ≡ 0
+pub record IsWholeMessage (bytes : List ℕ) : Type 0 where
+  pub long : 16 ≤ length bytes
+  pub counted : word_at bytes 4 ≡ length bytes
+  pub sum : checksum bytes ≡ 0
 
 -- no refusal came first
 pub proceeds : {E V : Type 0} (b : Bool) (e : E) (later : Result V E) → IsOk (if b then Err e else later) → (b ≡ false) × IsOk later
@@ -111,7 +111,7 @@ whole_if : (grammar : Grammar) (kind : Option Kind) (bytes : List ℕ) → IsOk 
 whole_if grammar None bytes ok = absurd (cc)
 whole_if grammar (Some kind) bytes ok = whole_of grammar kind bytes ok
 
-whole_message : (grammar : Grammar) (bytes : List ℕ) → IsOk (reading_by grammar bytes) → IsWholeMessage bytes
+pub whole_message : (grammar : Grammar) (bytes : List ℕ) → IsOk (reading_by grammar bytes) → IsWholeMessage bytes
 unfolding reading_by
 whole_message grammar bytes ok =
     let short : Bool = nat_lt (length bytes) 16
