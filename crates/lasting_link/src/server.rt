@@ -28,7 +28,11 @@ use server_trait::Saved;
 use std::alloc::Global;
 
 /// Returns what came as the server's input: a datagram from its logger's address is a message, any other a packet, and `None` a tick.
-fn input_of<'a>(loggers: Loggers, came: Option<(usize, Addr)>, buffer: &'a [u8]) -> Input<'a>
+pub(crate) fn input_of<'a>(
+    loggers: Loggers,
+    came: Option<(usize, Addr)>,
+    buffer: &'a [u8],
+) -> Input<'a>
     requires { IfSome came (λ g. g.0 ≤ length buffer.now) }
     ensures { (grammar : Grammar) (r : Received) → MatchOption came (IsQuiet r) (λ g. r ≡ datagram g.1 (take g.0 buffer.now))
         → lasting_input_of grammar result ≡ lasting_input grammar loggers r }
@@ -45,7 +49,7 @@ fn input_of<'a>(loggers: Loggers, came: Option<(usize, Addr)>, buffer: &'a [u8])
 }
 
 /// Takes one turn: receives once, and sends all packets with which the server reacts.
-fn take_turn<S: Saved, L: Link>(
+pub(crate) fn take_turn<S: Saved, L: Link>(
     alloc: Global,
     loggers: Loggers,
     node: &mut LastingNode<S>,
@@ -65,7 +69,7 @@ fn take_turn<S: Saved, L: Link>(
 }
 
 /// Boots a server, and sends the packets of its boot.
-fn boot<S: Saved, L: Link>(
+pub(crate) fn boot<S: Saved, L: Link>(
     alloc: Global,
     role: &LastingRole,
     link: &mut L,
@@ -96,7 +100,8 @@ fn serve<S: Saved, L: Link>(
     link: &mut L,
 ) -> Result<Counts, TurnEnd>
     requires { LastingInRange role.now }
-    ensures served { IfOk result (λ counts. HasServedLasting (machines S.started S.after S.greeting) role.now (L.reported link.old) (L.reported link.new) counts) }
+    ensures served { IfOk result (λ counts.
+        HasServedLasting (machines S.started S.after S.greeting) role.now (L.reported link.old) (L.reported link.new) counts) }
     ensures stops { IfErr result (ServingLastingStops (machines S.started S.after S.greeting) role.now (L.reported link.old) (L.reported link.new)) }
     ensures no_bind_fault { L.bind_fault_count link.new ≡ L.bind_fault_count link.old }
 {
