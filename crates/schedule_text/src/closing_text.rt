@@ -1,7 +1,7 @@
 //! The last lines of a report: the state of the clients and of the log, and the number of events.
 
 ghost use Rattle.std.specs.Prelude.{◌≡◌, ◌++◌, ◌∷◌, [], codes, decimal, OnOk, OnErr};
-ghost use Rattle.ft_model.specs.Texts.{spaced, bit_text, list_text, phase_text};
+ghost use Rattle.ft_model.specs.Texts.{line as line_of, spaced, key_text, bit_text, list_text, phase_text};
 ghost use Rattle.ft_model.specs.Report.{phase_line, entry_line, end_line};
 
 use crate::line_out::LineOut;
@@ -88,6 +88,36 @@ fn put_log(entry: &LogLine<'_>, line: &mut LineOut) -> Result<(), NoMemory>
     ensures before { line.new.before ≡ line.old.before }
 {
     line.append_text("log")?;
+    put_address(entry.key.ip, entry.key.port, line)?;
+    put_counts(entry, line)?;
+    put_standing(entry, line)?;
+    line.push(b'\n')
+}
+
+/// Writes the state of a recycled entry. After `NoMemory` `out` is unchanged.
+pub fn write_gone_line(
+    alloc: Global,
+    entry: &LogLine<'_>,
+    out: &mut Vec<u8>,
+) -> Result<(), NoMemory>
+    ensures ok { OnOk result (out.new.items ≡ out.old.items
+        ++ line_of (codes "gone") (key_text entry.now.key ∷ codes "length" ∷ decimal entry.now.length ∷ codes "fin" ∷ bit_text entry.now.fin
+        ∷ codes "acked" ∷ decimal entry.now.acked ∷ codes "done" ∷ bit_text entry.now.done ∷ codes "reads" ∷ list_text entry.now.reads.now ∷ [])) }
+    ensures err { OnErr result (out.new.items ≡ out.old.items) }
+{
+    let mut line = LineOut::open(alloc, out);
+    let written = put_gone(entry, &mut line);
+    line.close(out, written)
+}
+
+#[tactic(auto, using(crate::proofs::LineLemmas::line_rules))]
+fn put_gone(entry: &LogLine<'_>, line: &mut LineOut) -> Result<(), NoMemory>
+    ensures ok { OnOk result (line.new.words ≡ line.old.words
+        ++ line_of (codes "gone") (key_text entry.now.key ∷ codes "length" ∷ decimal entry.now.length ∷ codes "fin" ∷ bit_text entry.now.fin
+        ∷ codes "acked" ∷ decimal entry.now.acked ∷ codes "done" ∷ bit_text entry.now.done ∷ codes "reads" ∷ list_text entry.now.reads.now ∷ [])) }
+    ensures before { line.new.before ≡ line.old.before }
+{
+    line.append_text("gone")?;
     put_address(entry.key.ip, entry.key.port, line)?;
     put_counts(entry, line)?;
     put_standing(entry, line)?;

@@ -111,7 +111,7 @@ fn put_packet_line(
 
 /// Appends the part of the line before the packet's content.
 #[tactic(auto, using(crate::proofs::LineLemmas::line_rules))]
-fn put_start(n: u32, way: Way, line: &mut LineOut) -> Result<(), NoMemory>
+pub(crate) fn put_start(n: u32, way: Way, line: &mut LineOut) -> Result<(), NoMemory>
     ensures ok { OnOk result (line.new.words ≡ line.old.words ++ (codes "packet" ++ spaced (decimal n ∷ way_text way ∷ []))) }
     ensures before { line.new.before ≡ line.old.before }
 {

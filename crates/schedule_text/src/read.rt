@@ -172,7 +172,7 @@ fn finish(number: u32, draft: Draft) -> Result<Schedule, ScheduleEnd>
 }
 
 /// Reads a text by a reader that knows these schedules.
-#[tactic(auto, using(crate::proofs::LineByLine::proceeds, crate::proofs::LineByLine::stops, crate::proofs::LineByLine::ends), unfolding(ft_model::specs::Grammar::read_with))]
+#[tactic(auto, using(crate::proofs::Cited::read_known_lemmas), unfolding(ft_model::specs::Grammar::read_with))]
 fn read_known(alloc: Global, known: Known, text: &[u8]) -> Result<Schedule, ScheduleEnd>
     ensures { Gives result (read_with (objection_of known) text.now) }
 {
