@@ -1,4 +1,5 @@
 pub mod AnswerCalls
+pub mod Cited
 pub mod EndReport
 pub mod Gathering
 pub mod Living

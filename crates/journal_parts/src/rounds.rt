@@ -232,7 +232,7 @@ pub(crate) fn compact_if_due<K: Desk>(
     }
 }
 
-#[tactic(auto, using(crate::proofs::Rounding::ended_by, crate::proofs::Rounding::faulted_by, crate::proofs::Rounding::readied, crate::proofs::Rounding::serving_cut, crate::proofs::Rounding::replacing_cut, crate::proofs::Rounding::serving_none, crate::proofs::Rounding::unbegun))]
+#[tactic(auto, using(crate::proofs::Cited::serve_lemmas))]
 /// Takes this many turns, in rounds, and returns the counts of their calls. Before each round the file is replaced if it is longer than `compact`, and than
 /// twice its length after the last time.
 pub(crate) fn serve<K: Desk>(

@@ -15,3 +15,4 @@ pub mod Deaths
 pub mod OneReading
 pub mod Drafts
 pub mod Said
+pub mod Cited

@@ -45,7 +45,7 @@ fn huge_at(bytes: &[u8], at: usize) -> u64
 }
 
 /// Says whether these bytes begin with the next block.
-#[tactic(auto, using(crate::proofs::Starts::too_long, crate::proofs::Starts::too_short, crate::proofs::Starts::is_block, crate::proofs::Starts::is_other, crate::proofs::Blocks::none_in_few))]
+#[tactic(auto, using(crate::proofs::Cited::start_of_lemmas))]
 pub fn start_of(alloc: Global, tip: &Tip, bytes: &[u8]) -> Result<Start, AllocError>
     ensures { IfOk result (StartsWith tip.now bytes.now) }
 {

@@ -103,7 +103,7 @@ impl Draft {
         self.flush(alloc, desk)
     }
 
-    #[tactic(auto, using(crate::proofs::Drafts::taken, crate::proofs::Drafts::written_on, crate::proofs::Files::quiet_on, ft_io::proofs::Recordings::none_reported))]
+    #[tactic(auto, using(crate::proofs::Cited::take_lemmas))]
     /// Takes the bytes of one message, or none.
     pub fn take<K: Desk>(
         &mut self,

@@ -47,7 +47,7 @@ pub fn first_of(made: &[u8]) -> Tip
     }
 }
 
-#[tactic(auto, using(crate::proofs::Headers::is_older, crate::proofs::Headers::not_older, crate::proofs::Headers::unfinished_front, crate::proofs::Headers::unfinished_behind, crate::proofs::Headers::missing_few))]
+#[tactic(auto, using(crate::proofs::Cited::begin_of_lemmas))]
 /// Says what a file begins with.
 pub fn begin_of(bytes: &[u8]) -> Begin
     ensures { HasBegin bytes.now result }

@@ -91,7 +91,7 @@ pub(crate) fn take_block(
 }
 
 /// Takes a block into the log, or reads on.
-#[tactic(auto, using(ft_io::proofs::Recordings::none_reported, crate::proofs::Steps::block_steps, crate::proofs::Steps::end_steps, crate::proofs::Steps::wrong_steps, crate::proofs::Steps::short_ends, crate::proofs::Steps::short_steps))]
+#[tactic(auto, using(crate::proofs::Cited::step_lemmas))]
 fn step<D: Disk>(
     alloc: Global,
     disk: &mut D,
@@ -123,7 +123,7 @@ fn step<D: Disk>(
     }
 }
 
-#[tactic(auto, using(crate::proofs::Files::quiet_on, crate::proofs::Files::rose_later, ft_io::proofs::Recordings::none_reported, crate::proofs::Onward::at_first))]
+#[tactic(auto, using(crate::proofs::Cited::read_blocks_lemmas))]
 /// Takes all blocks of a file into the log. The window has what was read after the header.
 fn read_blocks<D: Disk>(
     alloc: Global,

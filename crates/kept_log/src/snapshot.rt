@@ -29,7 +29,7 @@ use logger_store::{LogStore, MsgOut, StoredEntry};
 use logger_wire::Grammar;
 use std::alloc::Global;
 
-#[tactic(auto, using(crate::proofs::Said::partly_begun, crate::proofs::Said::partly_on, crate::proofs::Said::all_of, crate::proofs::Files::quiet_on, ft_io::proofs::Recordings::none_reported))]
+#[tactic(auto, using(crate::proofs::Cited::write_entry_lemmas))]
 /// Writes what makes an entry again.
 fn write_entry<K: Desk>(
     alloc: Global,
@@ -56,7 +56,7 @@ fn write_entry<K: Desk>(
     Ok(())
 }
 
-#[tactic(auto, using(crate::proofs::Said::none_written, crate::proofs::Said::one_more_at, crate::proofs::Said::all_written, crate::proofs::Files::quiet_on, ft_io::proofs::Recordings::none_reported))]
+#[tactic(auto, using(crate::proofs::Cited::write_entries_lemmas))]
 /// Writes what makes the entries of a log again.
 fn write_entries<K: Desk>(
     alloc: Global,
@@ -111,7 +111,8 @@ pub fn write_snapshot<K: Desk>(
 ) -> Result<Tip, KeepEnd>
     requires boot { 1 ≤ store.now.boot }
     requires time { length made.now ≡ 8 }
-    ensures written { IfOk result (λ tip. (bodies : List (List ℕ)) × (messages : List Message) × IsSnapshotOf store.now messages × AreKept bodies (map Usual messages)
+    ensures written { IfOk result (λ tip. (bodies : List (List ℕ)) × (messages : List Message)
+        × IsSnapshotOf store.now messages × AreKept bodies (map Usual messages)
         × (tip ≡ tip_of made.now bodies) × HasAside (K.aside_synced desk.new) (front made.now bodies)) }
     ensures reported { Reports (K.reported desk.old) (K.reported desk.new) [] }
     ensures never_falls { K.fault_count desk.old ≤ K.fault_count desk.new }
@@ -142,7 +143,7 @@ fn take_place<K: Desk>(desk: &mut K) -> Result<(), Failed>
     Ok(())
 }
 
-#[tactic(auto, using(crate::proofs::Drafts::compacted, crate::proofs::Drafts::cut_compaction, crate::proofs::Files::quiet_on, ft_io::proofs::Recordings::none_reported))]
+#[tactic(auto, using(crate::proofs::Cited::replace_file_lemmas))]
 /// Writes a new file with a snapshot of a log, of a journal that is made at this time, and puts it in the place of the old one. Returns where its next block
 /// begins; `None` if it couldn't be written: then it is removed, and the old file is as before.
 pub fn replace_file<K: Desk>(

@@ -20,7 +20,8 @@ use Rattle.node_link.specs.ServerParts.{identity_of}
 use Rattle.server_trait.specs.Service.{Machine}
 use Rattle.ft_model.specs.Legal.{machines}
 use Rattle.lasting_link.specs.declared.role.LastingRole.{LastingRole}
-use Rattle.lasting_link.specs.LastingLife.{lasting_first, lasting_grammar, lasting_input, lasting_fence, LastingMoment, lasting_after, AreLastingTurns, AreFairToLast, Lasts}
+use Rattle.lasting_link.specs.LastingLife.{lasting_first, lasting_grammar, lasting_input, lasting_fence, LastingMoment, lasting_after}
+use Rattle.lasting_link.specs.LastingLife.{AreLastingTurns, AreFairToLast, Lasts}
 
 module _ {S : Type 0} {s : Ghosts S} where
   -- it has booted, and its Hello was handed to send

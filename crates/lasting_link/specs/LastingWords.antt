@@ -15,7 +15,8 @@ use Rattle.lasting_link.specs.declared.role.LastingRole.{LastingRole}
 
 abbrev pub forget_options : List OptionName
 forget_options =
-    option.Local ∷ option.Logger ∷ option.Service ∷ option.Boot ∷ option.Isn ∷ option.Turns ∷ option.Times ∷ option.Profile ∷ option.Forget ∷ option.Silence ∷ []
+    option.Local ∷ option.Logger ∷ option.Service ∷ option.Boot ∷ option.Isn ∷ option.Turns ∷ option.Times ∷ option.Profile ∷ option.Forget
+    ∷ option.Silence ∷ []
 
 -- a server of a service of one's own names none
 abbrev pub own_forget_options : List OptionName

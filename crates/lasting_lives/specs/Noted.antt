@@ -1,4 +1,5 @@
--- What a server that lasts notes of its keys in a turn on a message of its own boot: what it knew, and what it knows then, by the stage of its node after the turn.
+-- What a server that lasts notes of its keys in a turn on a message of its own boot: what it knew, and what it knows then, by the stage of its node after
+-- the turn.
 use Rattle.std.specs.Prelude.{◌≡◌, ◌&&◌, not, Bool, false, find, is_some, Option, Some, None, MatchOption, option_map, if◌then◌else◌}
 use Rattle.ft_io.specs.declared.Key.{Key}
 use Rattle.ft_io.specs.Key.{key_eq}

@@ -9,3 +9,5 @@ pub mod EventWords
 pub mod EventRanges
 pub mod EventLines
 pub mod HeaderLines
+pub mod Cited
+pub mod Unfolded

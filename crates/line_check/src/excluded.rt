@@ -26,7 +26,7 @@ fn a_header_of_two_loggers_passes(
 }
 
 /// A word with a leading zero spells no number: the contract of `number_word`.
-#[tactic(auto, unfolding(crate::specs::Words::number_word, ft_model::specs::Spelling::number_of, ft_model::specs::Spelling::numeral, ft_model::proofs::ReportOnLiterals::report_on_literals))]
+#[tactic(auto, unfolding(crate::proofs::Unfolded::a_leading_zero_passes_words))]
 fn a_leading_zero_passes() -> Option<u64>
     ensures { result ≡ None }
 {

@@ -95,7 +95,7 @@ fn is_plain_text(text: &[u8]) -> bool
 
 /// Reads the line of the server or of a client. It follows the first `start` bytes of a report's text, and is the last line of this text. Returns the
 /// schedule of the header with this line, or `None` if no such line may follow.
-#[tactic(auto, using(crate::proofs::HeaderLines::short_line_stops, crate::proofs::HeaderLines::unprintable_line_stops, crate::proofs::HeaderLines::header_given))]
+#[tactic(auto, using(crate::proofs::Cited::read_header_line_lemmas))]
 pub fn read_header_line(
     alloc: Global,
     text: &[u8],

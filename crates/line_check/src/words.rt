@@ -30,7 +30,7 @@ fn position_of(bytes: &[u8], mark: u8) -> usize
 }
 
 /// Returns the bytes before the first `mark` and those after it, or `None` if no byte is `mark`.
-#[tactic(auto, using(schedule_text::proofs::Pieces::slice_split_whole, schedule_text::proofs::Pieces::slice_split_at_mark, std::proofs::lemmas::List::take_rest))]
+#[tactic(auto, using(crate::proofs::Cited::next_piece_lemmas))]
 pub(crate) fn next_piece(bytes: &[u8], mark: u8) -> Option<(&[u8], &[u8])>
     ensures pieces { MatchOption result (slice_split (is mark) bytes.now ≡ bytes.now ∷ [])
         (λ p. slice_split (is mark) bytes.now ≡ p.0.now ∷ slice_split (is mark) p.1.now) }

@@ -100,7 +100,8 @@ fn a_logger_ignores_the_profile<L: Link, O: Sink>(
     requires turns { role.now.turns ≤ most_turns }
     requires chosen { role.now.profile ≡ profiles.Wan }
     ensures { OnOk result ((turns : List LoggerTurn)
-        × Reports (L.reported link.old) (L.reported link.new) (Bound role.now.local ∷ calls_of (record { grammar = grammars.Wide; forgets = role.now.forgets }) turns)) }
+        × Reports (L.reported link.old) (L.reported link.new)
+        (Bound role.now.local ∷ calls_of (record { grammar = grammars.Wide; forgets = role.now.forgets }) turns)) }
 {
     run_logger(alloc, role, link, out)
 }

@@ -5,3 +5,4 @@ pub mod Lengths
 pub mod Levels
 pub mod Cutting
 pub mod Took
+pub mod Cited

@@ -143,7 +143,7 @@ impl Pages {
     }
 
     /// Appends bytes, at most 4,096. What fits the page of the last byte needs no allocation.
-    #[tactic(auto, using(crate::proofs::GivenUp::room_kept, crate::proofs::Filling::all_more, crate::proofs::Filling::filled, std::proofs::Common::append_assoc))]
+    #[tactic(auto, using(crate::proofs::Cited::add_lemmas))]
     pub fn add(&mut self, alloc: Global, bytes: &[u8]) -> Result<(), NoMemory>
         requires { length bytes.now ≤ 4096 }
         ensures ok { OnOk result (self.new.bytes ≡ self.old.bytes ++ bytes.now) }

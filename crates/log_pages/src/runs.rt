@@ -80,7 +80,7 @@ struct Front {
 }
 
 /// Returns the longest prefix of `runs` that has at most `reads` reads.
-#[tactic(auto, using(crate::proofs::Cutting::more_reads, crate::proofs::Cutting::more_bytes, crate::proofs::Cutting::few_bytes, crate::proofs::Cutting::stops_there, crate::proofs::Cutting::stops_at_end))]
+#[tactic(auto, using(crate::proofs::Cited::front_of_lemmas))]
 fn front_of(runs: &[Run], reads: u32) -> Front
     requires { sum (flat_map lengths_in runs.now) ≤ longest_stream }
     ensures runs { result.runs ≤ length runs.now }
@@ -224,7 +224,7 @@ impl Runs {
     }
 
     /// Discards the first `reads` lengths, and returns how many bytes these reads took. Nothing is allocated.
-    #[tactic(auto, using(crate::proofs::Cutting::all_rest, crate::proofs::Cutting::all_took, crate::proofs::Cutting::behind_few, crate::proofs::Cutting::last_enough))]
+    #[tactic(auto, using(crate::proofs::Cited::drop_first_lemmas))]
     pub fn drop_first(&mut self, reads: u32) -> u32
         requires there { reads ≤ length self.old }
         requires few { sum self.old ≤ longest_stream }

@@ -60,7 +60,7 @@ impl Cuts {
     }
 
     /// Returns these reads and those of the lengths `lens`, two bytes for each length, if all of these may follow.
-    #[tactic(auto, using(seq_arith::proofs::Texts::lens_in_length, crate::proofs::Lengths::goes_through, crate::proofs::Lengths::stops_there, crate::proofs::Lengths::all_through, crate::proofs::Lengths::sum_through))]
+    #[tactic(auto, using(crate::proofs::Cited::through_lemmas))]
     pub fn through(self, lens: &[u8], len: u32, fin: bool) -> Option<Cuts>
         requires len { len ≤ longest_stream }
         requires bytes { HaveBytes self }

@@ -10,3 +10,5 @@ pub mod Asking
 pub mod Fronts
 pub mod Sending
 pub mod Fence
+pub mod Cited
+pub mod Unfolded

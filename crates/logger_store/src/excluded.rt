@@ -14,7 +14,7 @@ use logger_wire::{Body, Grammar, Msg, Part};
 use std::alloc::Global;
 
 /// What an older boot sends changes nothing and gets Stale: the clauses `next` and `answer` of `LogStore::answer`.
-#[tactic(auto, unfolding(seq_arith::specs::MessageGrammar::is_sound_by, seq_arith::specs::MessageGrammar::has_length, ft_model::specs::Log::log_after, ft_model::specs::Log::answer_to))]
+#[tactic(auto, unfolding(crate::proofs::Unfolded::keeps_old_boot_words))]
 fn keeps_old_boot(store: &mut LogStore, alloc: Global, out: &mut MsgOut) -> Result<(), NoMemory>
     requires { store.old.boot ≡ 2 }
     ensures unchanged { OnOk result (store.new ≡ store.old) }
@@ -52,7 +52,7 @@ fn leaves_a_gap(entry: &mut StoredEntry, alloc: Global, key: Key) -> Result<(), 
 }
 
 /// A Data that another of its turn follows has no answer: the clause `answer` of `LogStore::answer_by`.
-#[tactic(auto, unfolding(seq_arith::specs::MessageGrammar::is_sound_by, seq_arith::specs::MessageGrammar::has_length, ft_model::specs::Log::log_after, ft_model::specs::Log::answer_to))]
+#[tactic(auto, unfolding(crate::proofs::Unfolded::keeps_old_boot_words))]
 fn answers_each_data(store: &mut LogStore, alloc: Global, out: &mut MsgOut) -> Result<(), NoMemory>
     requires { store.old.boot ≡ 1 }
     ensures { OnOk result (out.new ≡ []) }

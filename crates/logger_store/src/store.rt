@@ -348,7 +348,7 @@ impl LogStore {
     }
 
     /// Keeps what a message with the log's boot number says.
-    #[tactic(auto, using(crate::proofs::Sending::open_ranges, crate::proofs::Sending::data_ranges, crate::proofs::Sending::data_few, crate::proofs::Sending::read_range))]
+    #[tactic(auto, using(crate::proofs::Cited::take_lemmas))]
     fn take(&mut self, alloc: Global, grammar: Grammar, m: &Msg<'_>) -> Result<(), NoMemory>
         requires { IsSendableBy grammar m.now }
         ensures ok { OnOk result (self.new ≡ with_body (body_of m.now.body) self.old) }
@@ -369,7 +369,7 @@ impl LogStore {
 
     /// Writes the log's answer to a message with its boot number into the empty `out`, after the log has taken the message. A Data that a later one of its turn
     /// follows has none.
-    #[tactic(auto, using(crate::proofs::Sending::some_boot, crate::proofs::Sending::list_range), unfolding(seq_arith::specs::MessageGrammar::has_length, seq_arith::specs::MessageGrammar::is_sound_by))]
+    #[tactic(auto, using(crate::proofs::Sending::some_boot, crate::proofs::Sending::list_range), unfolding(crate::proofs::Unfolded::write_answer_words))]
     fn write_answer(&self, grammar: Grammar, m: &Msg<'_>, out: &mut MsgOut)
         requires sendable { IsSendableBy grammar m.now }
         requires empty { out.old ≡ [] }
@@ -407,7 +407,7 @@ impl LogStore {
     }
 
     /// Takes a message of a grammar, and replaces the content of `out` by the answer to it in that grammar, or by nothing.
-    #[tactic(auto, using(crate::proofs::Sending::some_boot), unfolding(ft_model::specs::Log::log_after, ft_model::specs::Log::answer_to, crate::specs::StoreState::wants_memory))]
+    #[tactic(auto, using(crate::proofs::Sending::some_boot), unfolding(crate::proofs::Unfolded::answer_by_words))]
     pub fn answer_by(
         &mut self,
         alloc: Global,

@@ -9,3 +9,4 @@ pub mod Placing
 pub mod Putting
 pub mod Sendable
 pub mod TwinSpelled
+pub mod Unfolded

@@ -27,7 +27,7 @@ fn answers_with_boot_1(out: &mut [u8])
 }
 
 /// A logger's answer isn't what a Forward may hold: the contract of `is_asking`.
-#[tactic(auto, unfolding(seq_arith::specs::TwinGrammar::is_asking_by, seq_arith::specs::MessageGrammar::is_sound_by, seq_arith::specs::MessageGrammar::has_length))]
+#[tactic(auto, unfolding(crate::proofs::Unfolded::forwards_an_answer_words))]
 fn forwards_an_answer(out: &mut [u8]) -> bool
     requires { 18 ≤ length out.old }
     ensures { result ≡ false }
@@ -43,7 +43,7 @@ fn forwards_an_answer(out: &mut [u8]) -> bool
 }
 
 /// A short message of the right length, whose checksum is wrong, is refused for its checksum: the clause `value` of `open_within`.
-#[tactic(auto, unfolding(crate::specs::Places::opened, crate::specs::Places::number_at, seq_arith::specs::MessageGrammar::number_in, seq_arith::specs::Bytes::word_at, seq_arith::specs::Checksum::check_of, seq_arith::specs::Checksum::folded))]
+#[tactic(auto, unfolding(crate::proofs::Unfolded::ignores_sum_words))]
 fn ignores_sum() -> Result<u64, BadMsg>
     ensures { result ≡ Err BadMsg.Sum }
 {

@@ -1,6 +1,7 @@
 //! A process of FT-TCP: `run` takes the words and what a process is given (`Process`), chooses the role, and returns the exit status. A role is one of `node`
-//! (server, logger, client or pair), a server that lasts, a logger that keeps its log in a journal, one of two loggers that act as one, or `alone`, which informs one of them that
-//! the other has stopped. The service is any. `run_program` gives a role what the system has, and `run_ftnode` is the program `ftnode`.
+//! (server, logger, client or pair), a server that lasts, a logger that keeps its log in a journal, one of two loggers that act as one, or `alone`, which
+//! informs one of them that the other has stopped. The service is any. `run_program` gives a role what the system has, and `run_ftnode` is the program
+//! `ftnode`.
 #![tactic(auto)]
 
 pub use chain_parts::{AloneRole, PartRole, TwinRole};

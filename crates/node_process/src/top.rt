@@ -264,8 +264,8 @@ fn run_and_report<S: Saved, L: Link, I: Source, O: Sink, E: Sink, P: Spawner, K:
 
 /// Runs a process with these words: as a server, a logger or a client of FT-TCP, or as a pair, which starts these as processes, all as
 /// [`node`](node_link::node) does; as a server that lasts, by `--forget`; as a logger that keeps its log in the file of `--journal`; as one of two loggers that
-/// act as one, by `--part` and `--other`; or as `alone`, which informs one of them that the other has stopped. A server's service is `S`. If a role stops early, the reason is written to standard
-/// error, unless a write failed.
+/// act as one, by `--part` and `--other`; or as `alone`, which informs one of them that the other has stopped. A server's service is `S`. If a role stops
+/// early, the reason is written to standard error, unless a write failed.
 ///
 /// The status is 0 if all was done, 2 if the words aren't allowed or the input is longer than 2^24 bytes, 3 if an allocation failed, 4 if the bind failed, 5 if
 /// a write failed, 6 if a newer server fenced this one, 7 if the client's connection was reset, 8 if the client's turns ended before its connection, 9 if a

@@ -1,6 +1,7 @@
 -- The timestamps of a live client's segments (RFC 7323, 3.2 and 4.3). TCP knows nothing of them: they are noted from what comes, and added to what it sends.
 use Rattle.limits.specs.Limits.{longest_packet}
-use Rattle.std.specs.Prelude.{ℕ, ℤ, Bool, true, false, pos, ◌^◌, ◌<◌, ◌&&◌, ◌||◌, not, nat_lt, int_le, is_some, Option, None, Some, List, [], ◌∷◌, map, if◌then◌else◌}
+use Rattle.std.specs.Prelude.{ℕ, ℤ, Bool, true, false, pos, ◌^◌, ◌<◌, ◌&&◌, ◌||◌, not, nat_lt, int_le, is_some, Option, None, Some, List, [], ◌∷◌}
+use Rattle.std.specs.Prelude.{map, if◌then◌else◌}
 use Rattle.seq_arith.specs.Number.{gap}
 use Rattle.seq_arith.specs.Offset.{length_of}
 use Rattle.seq_arith.specs.Packet.{Head, Segment, has_rst, has_ack, text_size, with_timestamps}

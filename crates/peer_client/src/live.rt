@@ -80,7 +80,7 @@ impl Model for LiveClient {
 impl LiveClient {
     /// Creates a client that connects from `local` to `server` with the initial sequence number `isn`. Its script has at most 2^24 bytes. The next flush
     /// sends the SYN. Fails where an allocation fails.
-    #[tactic(auto, unfolding(tcp_endpoint::specs::Tcb::connecting, tcp_endpoint::specs::Tcb::listening, tcp_endpoint::specs::Tcb::connecting_measuring, tcp_endpoint::specs::Tcb::listening_measuring))]
+    #[tactic(auto, unfolding(crate::proofs::Unfolded::new_words))]
     pub fn new(
         alloc: Global,
         local: Addr,

@@ -8,7 +8,8 @@ ghost use Rattle.segment_codec.specs.Value.{said, segment_of};
 ghost use Rattle.tcp_endpoint.specs.Output.{packets};
 ghost use Rattle.tcp_endpoint.specs.Packets.{AreReadable, IsReadable, byte_count};
 ghost use Rattle.tcp_rules.specs.Timestamping.{timestamps_sent};
-ghost use Rattle.peer_client.specs.Stamping.{first_stamps, size_read, as_read, is_timely, noted, stamps_after, stamped, all_stamped, after_last, after_sending, EchoFits};
+ghost use Rattle.peer_client.specs.Stamping.{first_stamps, size_read, as_read, is_timely, noted, stamps_after, stamped, all_stamped, after_last};
+ghost use Rattle.peer_client.specs.Stamping.{after_sending, EchoFits};
 
 use crate::segment::{has_ack, has_rst, segment_len};
 use ft_io::NoMemory;

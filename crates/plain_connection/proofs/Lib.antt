@@ -9,3 +9,4 @@ pub mod Spelled
 pub mod Reporting
 pub mod Texts
 pub mod Turns
+pub mod Unfolded

@@ -35,7 +35,7 @@ impl<S: Service> PlainConnection<S> {
     ghost use Rattle.ft_model.specs.Sending.{sent_after as sent_lem};
 
     /// Notes what the news brings, before the service reads. After `NoMemory` the connection may only be dropped.
-    #[tactic(auto, unfolding(ft_model::specs::Taken::taken_after, ft_model::specs::Taken::early_after, ft_model::specs::Taken::fin_after, ft_model::specs::Answered::answered_after, ft_model::specs::Answered::reads_answered_after, ft_model::specs::Sending::syn_acked_after, ft_model::specs::Sending::acknowledged_after, ft_model::specs::Sending::edge_after, ft_model::specs::Sending::wl1_after, ft_model::specs::Sending::wl2_after, ft_model::specs::Sending::congestion_after, ft_model::specs::Timer::timing_noted))]
+    #[tactic(auto, unfolding(crate::proofs::Unfolded::note_words))]
     fn note(&mut self, alloc: Global, news: &News<'_>) -> Result<(), NoMemory>
         ensures kind { self.new.kind ≡ self.old.kind }
         ensures noted { OnOk result (self.new ≡ record self.old { point = noted (news_in news.now) self.old.point }) }
@@ -140,7 +140,7 @@ impl<S: Service> PlainConnection<S> {
     }
 
     /// Takes the news of a connection that its client resets, or has reset: it only notes what is logged.
-    #[tactic(auto, unfolding(ft_model::specs::Taken::taken_after, ft_model::specs::Taken::early_after, ft_model::specs::Taken::fin_after, ft_model::specs::Answered::answered_after, ft_model::specs::Answered::reads_answered_after, ft_model::specs::Sending::syn_acked_after, ft_model::specs::Sending::acknowledged_after, ft_model::specs::Sending::edge_after, ft_model::specs::Sending::wl1_after, ft_model::specs::Sending::wl2_after, ft_model::specs::Sending::congestion_after, ft_model::specs::Timer::timing_noted))]
+    #[tactic(auto, unfolding(crate::proofs::Unfolded::note_words))]
     fn note_reset(&mut self, news: &News<'_>)
         ensures { self.new ≡ record self.old { point = reset_noted (news_in news.now) self.old.point } }
     {

@@ -3,3 +3,4 @@ pub mod Mapped
 pub mod Ranges
 pub mod Replies
 pub mod Following
+pub mod Cited

@@ -209,7 +209,7 @@ impl PlainFetched {
     }
 
     /// Adds the length of a read that may follow. After `NoMemory` the entry may only be dropped.
-    #[tactic(auto, using(ft_model::proofs::Services::sum_append, crate::proofs::Following::short_more, crate::proofs::Following::closes_more, crate::proofs::Following::was_open, crate::proofs::Following::ends_within))]
+    #[tactic(auto, using(crate::proofs::Cited::add_length_lemmas))]
     fn add_length(&mut self, len: u16) -> Result<(), NoMemory>
         requires count { length self.old.lengths < self.old.head.reads }
         requires follow { may_follow self.old.head.length self.old.head.fin self.old.lengths len ≡ true }

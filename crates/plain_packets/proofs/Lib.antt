@@ -5,3 +5,4 @@ pub mod Fins
 pub mod Runs
 pub mod Laying
 pub mod Kept
+pub mod Cited

@@ -146,7 +146,7 @@ impl Places {
     }
 
     /// Returns whether some place holds a byte, from this place on. The last place is looked at first, since it holds one.
-    #[tactic(auto, using(crate::proofs::Runs::held_behind, crate::proofs::Runs::none_behind, crate::proofs::Runs::none_further, crate::proofs::Runs::none_at_end))]
+    #[tactic(auto, using(crate::proofs::Cited::hold_some_from_lemmas))]
     pub(crate) fn hold_some_from(&self, first: u64) -> bool
         ensures { result ≡ holds_some (drop first self.now) }
     {

@@ -99,7 +99,7 @@ impl PlainPoint {
     }
 
     /// Takes or holds the text and the FIN of a segment, if it counts. After `NoMemory` the point may only be dropped.
-    #[tactic(auto, unfolding(ft_model::specs::Taken::taken_after, ft_model::specs::Taken::early_after, ft_model::specs::Taken::fin_after, ft_model::specs::Taken::came))]
+    #[tactic(auto, unfolding(crate::proofs::Unfolded::take_words))]
     pub(crate) fn take(&mut self, alloc: Global, segment: &PacketRef<'_>) -> Result<(), NoMemory>
         ensures { OnOk result (self.new ≡ record self.old {
           taken = taken_after (Comes (segment_of segment.now)) self.old;

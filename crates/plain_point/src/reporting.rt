@@ -11,7 +11,7 @@ impl PlainPoint {
     ghost use Rattle.plain_point.specs.Turn.{noted};
 
     /// Records how much is logged. Reads that this incarnation hasn't made don't count.
-    #[tactic(auto, unfolding(ft_model::specs::Taken::taken_after, ft_model::specs::Taken::early_after, ft_model::specs::Taken::fin_after, ft_model::specs::Answered::answered_after, ft_model::specs::Answered::reads_answered_after, ft_model::specs::Sending::syn_acked_after, ft_model::specs::Sending::acknowledged_after, ft_model::specs::Sending::edge_after, ft_model::specs::Sending::wl1_after, ft_model::specs::Sending::wl2_after, ft_model::specs::Sending::congestion_after, ft_model::specs::Timer::timing_noted))]
+    #[tactic(auto, unfolding(crate::proofs::Unfolded::note_logged_words))]
     pub fn note_logged(&mut self, kept: Kept)
         ensures { self.new ≡ noted (Logged (kept_said kept)) self.old }
     {
@@ -22,7 +22,7 @@ impl PlainPoint {
     }
 
     /// Records a tick: if the timer expires while something is in flight and the client has room for it, that counts as lost.
-    #[tactic(auto, unfolding(ft_model::specs::Taken::taken_after, ft_model::specs::Taken::early_after, ft_model::specs::Taken::fin_after, ft_model::specs::Answered::answered_after, ft_model::specs::Answered::reads_answered_after, ft_model::specs::Sending::syn_acked_after, ft_model::specs::Sending::acknowledged_after, ft_model::specs::Sending::edge_after, ft_model::specs::Sending::wl1_after, ft_model::specs::Sending::wl2_after))]
+    #[tactic(auto, unfolding(crate::proofs::Unfolded::note_tick_words))]
     pub fn note_tick(&mut self)
         ensures { self.new ≡ noted Ticks self.old }
     {

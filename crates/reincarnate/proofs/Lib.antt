@@ -12,3 +12,4 @@ pub mod Startable
 pub mod Questions
 pub mod MarkLaw
 pub mod Arrivals
+pub mod Cited

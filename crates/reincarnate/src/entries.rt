@@ -59,7 +59,7 @@ impl<S: Service> Entries<S> {
     }
 
     /// Removes and returns the next entry in the log's order.
-    #[tactic(auto, using(crate::proofs::Ready::last_is_ready, crate::proofs::Ready::others_are_ready, crate::proofs::Ready::newest_is_ready, crate::proofs::Ready::first_in_order))]
+    #[tactic(auto, using(crate::proofs::Cited::pop_lemmas))]
     fn pop(&mut self) -> Option<FetchedEntry<S>>
         ensures order { self.old ≡ option_to_list result ++ self.new }
         ensures end { IfNone result (self.old ≡ []) }

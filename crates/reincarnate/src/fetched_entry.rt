@@ -323,7 +323,7 @@ fn next_whole<S: Service>(waiting: &VecDeque<u16>, replay: &Replay<S>) -> Option
 }
 
 /// Replays the reads that are complete.
-#[tactic(auto, using(crate::proofs::ReplayOn::replays_on, crate::proofs::ReplayOn::waits_for_bytes, crate::proofs::ReplayOn::first_is_short, crate::proofs::ReplayOn::first_is_held, crate::proofs::ReplayOn::others_are_short))]
+#[tactic(auto, using(crate::proofs::Cited::replay_whole_lemmas))]
 fn replay_whole<S: Service>(
     waiting: &mut VecDeque<u16>,
     replay: &mut Replay<S>,

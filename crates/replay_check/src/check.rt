@@ -43,7 +43,7 @@ fn write_packets<O: Sink>(out: &mut O, packets: u32) -> Result<(), Failed>
 }
 
 /// Writes the line for a legal report.
-#[tactic(auto, using(crate::proofs::Fronts::then_whole, crate::proofs::Fronts::then_front, crate::proofs::Fronts::front_then), unfolding(crate::specs::Checks::legal_line))]
+#[tactic(auto, using(crate::proofs::Cited::write_legal_lemmas), unfolding(crate::specs::Checks::legal_line))]
 fn write_legal<O: Sink>(out: &mut O, yes: Yes) -> Result<(), Failed>
     ensures whole { OnOk result (Appends (O.taken out.old) (O.taken out.new) (legal_line yes.events yes.packets)) }
     ensures front { OnErr result (WroteFront (O.taken out.old) (O.taken out.new) (legal_line yes.events yes.packets)) }

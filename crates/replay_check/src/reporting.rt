@@ -93,7 +93,7 @@ pub(crate) fn write_both<E: Sink>(err: &mut E, first: &str, second: &str) -> Res
 }
 
 /// Writes a name followed by its number, and a word.
-#[tactic(auto, using(crate::proofs::Fronts::then_whole, crate::proofs::Fronts::then_front, crate::proofs::Fronts::front_then), unfolding(crate::specs::ErrText::numbered))]
+#[tactic(auto, using(crate::proofs::Cited::write_legal_lemmas), unfolding(crate::specs::ErrText::numbered))]
 fn write_numbered<E: Sink>(err: &mut E, name: &str, n: u32, word: &str) -> Result<(), Failed>
     ensures whole { OnOk result (Appends (E.taken err.old) (E.taken err.new) (numbered name.now n word.now)) }
     ensures front { OnErr result (WroteFront (E.taken err.old) (E.taken err.new) (numbered name.now n word.now)) }
@@ -136,7 +136,7 @@ fn write_line<E: Sink>(err: &mut E, end: RunEnd) -> Result<(), Failed>
 }
 
 /// Writes the whole line on an end: the program's name, why the run ended, and the end of the line.
-#[tactic(auto, using(crate::proofs::Fronts::then_whole, crate::proofs::Fronts::then_front, crate::proofs::Fronts::front_then), unfolding(crate::specs::ErrText::error_line))]
+#[tactic(auto, using(crate::proofs::Cited::write_legal_lemmas), unfolding(crate::specs::ErrText::error_line))]
 fn write_end<E: Sink>(err: &mut E, end: RunEnd) -> Result<(), Failed>
     ensures whole { OnOk result (Appends (E.taken err.old) (E.taken err.new) (error_line (cause_text end))) }
     ensures front { OnErr result (WroteFront (E.taken err.old) (E.taken err.new) (error_line (cause_text end))) }

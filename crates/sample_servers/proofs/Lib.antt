@@ -4,3 +4,4 @@ pub mod Requests
 pub mod Lines
 pub mod Cuts
 pub mod Whole
+pub mod Unfolded

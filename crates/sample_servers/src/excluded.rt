@@ -35,7 +35,7 @@ fn number_wraps(line: &mut Line, out: &mut Vec<u8>) -> Result<Next, NoMemory>
 }
 
 /// Transfer goes on with the pattern where the chunk before ended: the clauses `state` and `output` of `Service::take`.
-#[tactic(auto, using(std::proofs::Common::append_assoc), unfolding(crate::specs::Transfer::bytes_served, crate::specs::Transfer::request_served, crate::specs::Transfer::pattern))]
+#[tactic(auto, using(std::proofs::Common::append_assoc), unfolding(crate::proofs::Unfolded::restarts_the_pattern_words))]
 fn restarts_the_pattern(alloc: Global, out: &mut Vec<u8>) -> Result<Next, NoMemory>
     ensures { IfOk result (λ _. out.new.items ≡ out.old.items ++ 0 ∷ 1 ∷ []) }
 {

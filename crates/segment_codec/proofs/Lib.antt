@@ -8,3 +8,5 @@ pub mod Refusals
 pub mod Patching
 pub mod Setters
 pub mod Words
+pub mod Cited
+pub mod Unfolded

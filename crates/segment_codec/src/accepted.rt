@@ -9,7 +9,7 @@ use crate::PacketRef;
 use crate::reading::{Options, payload_start, read_head, read_options};
 
 /// Reads a packet that `read_packet` accepts. It looks only at the headers.
-#[tactic(auto, using(crate::proofs::Accepting::header_is_long, crate::proofs::Accepting::packet_is_short, crate::proofs::Accepting::is_read), unfolding(seq_arith::specs::PacketGrammar::segment_in))]
+#[tactic(auto, using(crate::proofs::Cited::read_accepted_lemmas), unfolding(seq_arith::specs::PacketGrammar::segment_in))]
 pub fn read_accepted(bytes: &[u8]) -> PacketRef<'_>
     requires { IsOk (reading bytes.now) }
     ensures read { reading bytes.now ≡ Ok (segment_of result) }

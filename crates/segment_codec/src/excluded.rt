@@ -21,7 +21,7 @@ fn accepts_a_byte_too_many() -> Option<BadPacket>
 }
 
 /// The TCP checksum of 40 zero bytes is computed, and isn't zero: the contract of `seal`.
-#[tactic(auto, unfolding(crate::specs::Change::sealed, crate::specs::Change::put, seq_arith::specs::Bytes::two, seq_arith::specs::Bytes::word_at, seq_arith::specs::PacketGrammar::tcp_text, seq_arith::specs::Checksum::check_of, seq_arith::specs::Checksum::folded))]
+#[tactic(auto, unfolding(crate::proofs::Unfolded::forgets_checksum_words))]
 fn forgets_checksum() -> u16
     ensures { result ≡ 65509 }
 {
@@ -31,7 +31,7 @@ fn forgets_checksum() -> u16
 }
 
 /// A checksum is patched in one's complement, with the carries added back in: the clause `bytes` of `patch_word`.
-#[tactic(auto, unfolding(crate::specs::Change::patched_at, crate::specs::Change::put, seq_arith::specs::Bytes::two, seq_arith::specs::Bytes::word_at, seq_arith::specs::Checksum::patched, seq_arith::specs::Checksum::folded))]
+#[tactic(auto, unfolding(crate::proofs::Unfolded::forgets_the_carry_of_a_word_words))]
 fn forgets_the_carry_of_a_word() -> u16
     ensures { result ≡ 65534 }
 {
@@ -41,7 +41,7 @@ fn forgets_the_carry_of_a_word() -> u16
 }
 
 /// A packet of 40 bytes that doesn't sum to its TCP checksum is refused: the contract of `read_tcp`.
-#[tactic(auto, unfolding(seq_arith::specs::PacketGrammar::tcp_tests, seq_arith::specs::PacketGrammar::payload_at, seq_arith::specs::PacketGrammar::options_in, seq_arith::specs::PacketGrammar::tcp_text, seq_arith::specs::Bytes::two, seq_arith::specs::Checksum::check_of, seq_arith::specs::Checksum::folded))]
+#[tactic(auto, unfolding(crate::proofs::Unfolded::ignores_tcp_checksum_words))]
 fn ignores_tcp_checksum() -> Option<BadPacket>
     ensures { result ≡ Some TcpChecksum }
 {

@@ -61,6 +61,7 @@ pub(crate) fn ip_checksum(bytes: &[u8]) -> u16
 
 /// The TCP checksum of a packet, computed over whatever is in the checksum's place. It sums the protocol and the length too, and the addresses, which stand in
 /// front of the TCP header. The headers are summed by themselves: their number of bytes is known, so nothing of them that was just written is read again.
+#[inline(always)]
 pub(crate) fn tcp_checksum(bytes: &[u8]) -> u16
     requires long { 40 ≤ length bytes.now }
     requires short { length bytes.now < 2 ^ 16 }

@@ -5,6 +5,7 @@ ghost use Rattle.seq_arith.specs.Checksum.{word_sum, check_of};
 
 /// Returns a number that differs from the sum of a string's words by a multiple of 65,535. Two words are read at once, each with its bytes in the other order,
 /// and what they sum to is turned round at the end (RFC 1071, 2).
+#[inline(always)]
 pub(crate) fn words_of(bytes: &[u8]) -> u64
     requires { length bytes.now < 2 ^ 16 }
     ensures sum { result % 65535 ≡ word_sum false bytes.now % 65535 }

@@ -5,3 +5,5 @@ pub mod Marked
 pub mod Covered
 pub mod Grown
 pub mod QueueFields
+pub mod Cited
+pub mod Unfolded

@@ -90,7 +90,7 @@ fn few(runs: &ArrayVec<Run, 16>)
 }
 
 /// Returns how many places are in order once the first `n` are, and the runs past those.
-#[tactic(auto, using(crate::proofs::Grown::first_grows, crate::proofs::Grown::first_waits, crate::proofs::Grown::first_is_past), unfolding(crate::specs::Runs::grown_to, crate::specs::Runs::runs_past))]
+#[tactic(auto, using(crate::proofs::Cited::past_lemmas), unfolding(crate::specs::Runs::grown_to, crate::specs::Runs::runs_past))]
 fn past(runs: &[Run], n: usize) -> (usize, &[Run])
     ensures grown { result.0 ≡ grown_to n runs.now }
     ensures left { result.1.now ≡ runs_past n runs.now }

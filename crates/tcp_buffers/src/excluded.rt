@@ -67,7 +67,7 @@ fn window_grows_by_all_units(state: &SendState) -> u64
 }
 
 /// One unit at a time is timed, so its round trip is measured though a later unit was sent: the contract of `Timing::on_send`.
-#[tactic(auto, unfolding(tcp_rules::specs::Timing::with_sent, tcp_rules::specs::Timing::with_tick, tcp_rules::specs::Timing::with_acknowledged, tcp_rules::specs::Timing::with_sample))]
+#[tactic(auto, unfolding(crate::proofs::Unfolded::a_later_unit_is_timed_words))]
 fn a_later_unit_is_timed() -> u8
     ensures { result ≡ 3 }
 {
@@ -80,7 +80,7 @@ fn a_later_unit_is_timed() -> u8
 }
 
 /// A round trip is measured when the timed unit is acknowledged: the contract of `Timing::on_ack`.
-#[tactic(auto, unfolding(tcp_rules::specs::Timing::with_sent, tcp_rules::specs::Timing::with_tick, tcp_rules::specs::Timing::with_acknowledged, tcp_rules::specs::Timing::with_sample))]
+#[tactic(auto, unfolding(crate::proofs::Unfolded::a_later_unit_is_timed_words))]
 fn round_trip_ends_a_unit_late() -> u8
     ensures { result ≡ 3 }
 {

@@ -6,3 +6,5 @@ pub mod Reassembly
 pub mod Acks
 pub mod Spelled
 pub mod Delayed
+pub mod Cited
+pub mod Unfolded

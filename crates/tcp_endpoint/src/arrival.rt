@@ -251,7 +251,7 @@ impl Endpoint {
     }
 
     /// RFC 9293, 3.10.7.4, first check: a segment that is neither acceptable nor specially allowed (`is_allowed`) requires an ACK, unless it is a RST.
-    #[tactic(auto, unfolding(crate::specs::Arrival::accepts, crate::specs::Arrival::check_sequence, crate::specs::Arrival::in_others, crate::specs::Arrival::with_time_wait_restarted))]
+    #[tactic(auto, unfolding(crate::proofs::Unfolded::in_others_words))]
     fn in_others(&mut self, p: PacketRef<'_>)
         requires { length p.payload.now ≤ 65535 }
         ensures { IsShort self.old.sending → self.new ≡ in_others self.old (segment_of p.entry) }

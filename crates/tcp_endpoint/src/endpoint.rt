@@ -110,7 +110,7 @@ impl Endpoint {
     }
 
     /// Opens actively to a remote address, with `isn` and `limit` as in `listen`. The next flush sends the SYN. Fails where an allocation fails.
-    #[tactic(auto, unfolding(crate::specs::Tcb::connecting, crate::specs::Tcb::listening, crate::specs::Tcb::connecting_measuring, crate::specs::Tcb::listening_measuring))]
+    #[tactic(auto, unfolding(crate::proofs::Unfolded::connect_words))]
     pub fn connect(
         alloc: Global,
         local: Addr,

@@ -84,7 +84,7 @@ impl Endpoint {
     }
 
     /// Sends the RST in reply to a segment, where one is due.
-    #[tactic(auto, using(seq_arith::proofs::Units::options_short, crate::proofs::Spelled::packets_one, crate::proofs::Spelled::packets_none), unfolding(crate::specs::Output::reset_reply_out))]
+    #[tactic(auto, using(crate::proofs::Cited::send_reset_reply_lemmas), unfolding(crate::specs::Output::reset_reply_out))]
     fn send_reset_reply(&self, out: &mut Outbox)
         requires { out.old ≡ [] }
         ensures sent { out.new ≡ packets (reset_reply_out self.now) }
@@ -129,7 +129,7 @@ impl Endpoint {
     }
 
     /// Sends the first unacknowledged segment, where it is due.
-    #[tactic(auto, using(seq_arith::proofs::Units::options_short, crate::proofs::Spelled::packets_one, crate::proofs::Spelled::nothing_more), unfolding(crate::specs::Output::retransmission_out, crate::specs::Output::retransmitted_segment))]
+    #[tactic(auto, using(crate::proofs::Cited::retransmit_lemmas), unfolding(crate::proofs::Unfolded::retransmit_words))]
     fn retransmit(&self, out: &mut Outbox)
         requires count { length out.old ≤ 1 }
         requires bytes { byte_count out.old ≤ 56 }
@@ -151,7 +151,7 @@ impl Endpoint {
     }
 
     /// Sends a probe, where it is due.
-    #[tactic(auto, using(crate::proofs::Spelled::packets_one, crate::proofs::Spelled::nothing_more), unfolding(crate::specs::Output::probe_out, crate::specs::Output::with_probe))]
+    #[tactic(auto, using(crate::proofs::Cited::send_probe_lemmas), unfolding(crate::specs::Output::probe_out, crate::specs::Output::with_probe))]
     fn send_probe(&mut self, out: &mut Outbox)
         requires count { length out.old ≤ 2 }
         requires bytes { byte_count out.old ≤ 1556 }
@@ -228,7 +228,7 @@ impl Endpoint {
     }
 
     /// Sends the FIN for the first time, where it is due.
-    #[tactic(auto, using(crate::proofs::Spelled::packets_one, crate::proofs::Spelled::nothing_more), unfolding(crate::specs::Output::fin_out, crate::specs::Output::with_fin_out))]
+    #[tactic(auto, using(crate::proofs::Cited::send_probe_lemmas), unfolding(crate::specs::Output::fin_out, crate::specs::Output::with_fin_out))]
     fn send_fin(&mut self, out: &mut Outbox)
         requires count { length out.old ≤ 1027 }
         requires bytes { byte_count out.old ≤ 108092 }

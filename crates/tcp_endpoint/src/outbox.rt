@@ -110,7 +110,7 @@ impl Outbox {
     }
 
     /// Does the same for a packet with timestamps: at most 124,000 bytes in all.
-    #[tactic(auto, using(crate::proofs::Pieces::length_pieces, crate::proofs::Pieces::byte_count_pieces, crate::proofs::Pieces::climbs_push, crate::proofs::Pieces::pieces_push))]
+    #[tactic(auto, using(crate::proofs::Cited::push_longer_lemmas))]
     pub fn push_longer(&mut self, packet: &[u8]) -> bool
         ensures fits { IsTrue result ↔ (length self.old < PACKET_ROOM) × (byte_count self.old + length packet.now ≤ LONG_ROOM) }
         ensures pushed { OnTrue result (self.new ≡ self.old ++ packet.now ∷ []) }

@@ -1,3 +1,4 @@
+pub mod Cited
 pub mod Coming
 pub mod ComingAlone
 pub mod ComingFins
@@ -6,4 +7,5 @@ pub mod ComingShifts
 pub mod Congested
 pub mod Shifts
 pub mod Texts
+pub mod Unfolded
 pub mod Unmeasured

@@ -91,7 +91,7 @@ pub fn congestion_window_is_bounded()
 {}
 
 /// Without recovery of further losses, congestion control is that of RFC 5681, and no loss is noted.
-#[tactic(auto, using(crate::proofs::Unmeasured::plain_new_data, crate::proofs::Unmeasured::plain_third, crate::proofs::Unmeasured::plain_duplicate, crate::proofs::Unmeasured::plain_expiry))]
+#[tactic(auto, using(crate::proofs::Cited::plain_congestion_notes_no_loss_lemmas))]
 pub fn plain_congestion_notes_no_loss()
     ensures new_data { (mss units : ℕ) (c : Congestion) → c.recovers ≡ false → c.lost ≡ 0
         → with_new_data mss units c ≡ record c { cwnd = min most_window (if nat_le 3 c.dups then c.ssthresh else c.cwnd + growth mss units c); dups = 0 } }
@@ -110,7 +110,7 @@ pub fn plain_congestion_notes_no_loss()
 {}
 
 /// The estimate of a sender that doesn't measure never changes, and its timer starts with one tick.
-#[tactic(auto, unfolding(crate::specs::Timing::with_acknowledged, crate::specs::Timing::with_tick, crate::specs::Timing::without_trip, crate::specs::Timing::with_backoff, crate::specs::Timing::with_sent))]
+#[tactic(auto, unfolding(crate::proofs::Unfolded::unmeasured_timing_stays_words))]
 pub fn unmeasured_timing_stays()
     ensures acknowledged { (units : ℕ) → with_acknowledged units (initial_timing false) ≡ initial_timing false }
     ensures tick { with_tick (initial_timing false) ≡ initial_timing false }

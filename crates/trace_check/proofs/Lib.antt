@@ -9,3 +9,4 @@ pub mod SentLines
 pub mod ReportedTurns
 pub mod TurnWalk
 pub mod WalkEnds
+pub mod Cited

@@ -94,7 +94,7 @@ pub(crate) fn is_same(line: &[u8], due: &[u8]) -> bool
 
 /// Compares the text after its first `at` bytes, which are `lines` lines, with the closing lines that are due there. The text is rejected at the first line
 /// that differs.
-#[tactic(auto, using(crate::proofs::ClosingLines::line_closes, crate::proofs::ClosingLines::other_line_is_rejected, crate::proofs::ClosingLines::early_end_is_rejected, crate::proofs::ClosingLines::late_line_is_rejected, crate::proofs::ClosingLines::line_is_same, crate::proofs::ClosingLines::nothing_is_left))]
+#[tactic(auto, using(crate::proofs::Cited::check_closing_lemmas))]
 pub fn check_closing<S: Service>(
     text: &[u8],
     at: usize,

@@ -39,7 +39,7 @@ fn is_name(line: &[u8]) -> bool
 }
 
 /// Returns the length of a report's first line.
-#[tactic(auto, using(line_check::proofs::Spelled::same_bytes, crate::proofs::HeaderLines::empty_is_rejected, crate::proofs::HeaderLines::name_is_read, crate::proofs::HeaderLines::name_is_rejected))]
+#[tactic(auto, using(crate::proofs::Cited::read_name_lemmas))]
 fn read_name<S: Service>(text: &[u8]) -> Result<usize, CheckEnd>
     ensures ok { IfOk result (λ at. (at ≤ length text.now) × (0 < at) × (take at text.now ≡ codes "ftreplay 1\n")
         × Leads (machines S.started S.after S.greeting) text.now (InHeader Empty) (drop at text.now) 1) }
@@ -63,7 +63,7 @@ fn read_name<S: Service>(text: &[u8]) -> Result<usize, CheckEnd>
 }
 
 /// Reads the service from a report's second line, which begins at `at`. Returns the service and the end of that line.
-#[tactic(auto, using(crate::proofs::HeaderLines::no_service_is_rejected, crate::proofs::HeaderLines::service_is_read, crate::proofs::HeaderLines::service_is_rejected))]
+#[tactic(auto, using(crate::proofs::Cited::read_service_lemmas))]
 fn read_service<S: Service>(text: &[u8], at: usize) -> Result<(ServiceKind, usize), CheckEnd>
     requires within { (0 < at) × (at ≤ length text.now) }
     requires name { take at text.now ≡ codes "ftreplay 1\n" }

@@ -80,7 +80,7 @@ fn end_of_piece(text: &[u8]) -> usize
 }
 
 /// Returns the first piece of a line and what follows its end, or `None` if it is the only one.
-#[tactic(auto, using(schedule_text::proofs::Pieces::slice_split_whole, schedule_text::proofs::Pieces::slice_split_at_mark, std::proofs::lemmas::List::take_rest))]
+#[tactic(auto, using(crate::proofs::Cited::next_piece_lemmas))]
 fn next_piece(text: &[u8]) -> Option<(&[u8], &[u8])>
     ensures { MatchOption result (pieces text.now ≡ text.now ∷ []) (λ p. pieces text.now ≡ p.0.now ∷ pieces p.1.now) }
 {

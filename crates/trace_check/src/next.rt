@@ -43,7 +43,7 @@ fn begins_event(line: &[u8]) -> bool
 
 /// Reads the line after the first `at` bytes of a text, where a legal trace of `events` events ends, and the schedule's own text has `size` bytes so far.
 /// Returns `None` if closing lines are due there. It doesn't test whether the event may happen.
-#[tactic(auto, using(crate::proofs::AfterLines::late_packet_is_rejected, crate::proofs::AfterLines::no_event_is_rejected, crate::proofs::AfterLines::event_is_read, crate::proofs::AfterLines::closing_begins, crate::proofs::AfterLines::closing_begins_at_end))]
+#[tactic(auto, using(crate::proofs::Cited::read_event_lemmas))]
 pub fn read_event<S: Service>(
     text: &[u8],
     at: usize,

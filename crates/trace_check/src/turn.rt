@@ -34,7 +34,7 @@ pub struct PacketLines {
 }
 
 /// Reads the packet lines after the first `at` bytes of a text; those of `reported` packets come before. The line after them is not that of the next packet.
-#[tactic(auto, using(crate::proofs::TurnLines::all_begin, crate::proofs::TurnLines::all_grow, crate::proofs::TurnLines::few_packets, crate::proofs::TurnLines::turn_ends_with_text, crate::proofs::TurnLines::turn_ends_before))]
+#[tactic(auto, using(crate::proofs::Cited::read_packet_lines_lemmas))]
 pub fn read_packet_lines<S: Service>(
     schedule: &Schedule,
     text: &[u8],
@@ -64,7 +64,7 @@ pub fn read_packet_lines<S: Service>(
 }
 
 /// Returns whether the line of packet `n` follows the first `at` bytes of a text.
-#[tactic(auto, using(crate::proofs::ReportedTurns::no_packet_begins, crate::proofs::TurnLines::turn_ends_before, crate::proofs::ReportedTurns::packet_follows, std::proofs::lemmas::List::take_rest))]
+#[tactic(auto, using(crate::proofs::Cited::another_follows_lemmas))]
 fn another_follows(schedule: &Schedule, text: &[u8], at: usize, n: u32) -> bool
     requires within { at ≤ length text.now }
     requires schedule { IsChecked schedule.now }
@@ -79,7 +79,7 @@ fn another_follows(schedule: &Schedule, text: &[u8], at: usize, n: u32) -> bool
 }
 
 /// Returns where `due` ends, if it follows the first `from` bytes of a text, and is not followed by the line of packet `n`.
-#[tactic(auto, using(crate::proofs::ReportedTurns::due_is_reported, crate::proofs::ReportedTurns::other_is_due, crate::proofs::ReportedTurns::more_is_due, std::proofs::lemmas::List::take_rest))]
+#[tactic(auto, using(crate::proofs::Cited::reported_end_lemmas))]
 pub(crate) fn reported_end(
     schedule: &Schedule,
     text: &[u8],

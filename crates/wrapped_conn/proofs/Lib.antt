@@ -32,3 +32,4 @@ pub mod Ticking
 pub mod Joining
 pub mod Lending
 pub mod Quieting
+pub mod Cited

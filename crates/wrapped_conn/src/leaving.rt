@@ -27,7 +27,7 @@ use tcp_endpoint::Outbox;
 
 impl<S: Service> Conn<S> {
     /// Ends TCP's turn, and passes on what it sends.
-    #[tactic(auto, using(crate::proofs::Flushed::sent_rises, crate::proofs::Flushed::sent_few, crate::proofs::Flushed::sound_again, crate::proofs::Passing::accepted))]
+    #[tactic(auto, using(crate::proofs::Cited::flush_lemmas))]
     pub(crate) fn flush(&mut self, out: &mut Outbox, spare: &mut Outbox)
         requires sound { IsSound self.old }
         requires empty { out.old ≡ [] }
@@ -44,7 +44,7 @@ impl<S: Service> Conn<S> {
     }
 
     /// Has TCP delay its ACK, where that waits for the log.
-    #[tactic(auto, using(crate::proofs::Delays::delayed_sends, crate::proofs::Delays::undelayed_sends, crate::proofs::Delays::delayed_ends, crate::proofs::Delays::delayed_sound))]
+    #[tactic(auto, using(crate::proofs::Cited::delay_ack_lemmas))]
     pub(crate) fn delay_ack(&mut self, before: Before)
         requires sound { IsSound self.old }
         ensures sent { leaving self.new.endpoint ≡ tcp_out before self.old }

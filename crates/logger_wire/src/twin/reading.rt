@@ -44,7 +44,7 @@ pub fn read_twin_by(grammar: Grammar, bytes: &[u8]) -> Result<TwinMsg<'_>, BadTw
 }
 
 /// Reads a datagram of a known kind.
-#[tactic(auto, using(std::proofs::lemmas::List::take_rest), unfolding(seq_arith::specs::TwinGrammar::reading_of, seq_arith::specs::TwinGrammar::is_sound_in, seq_arith::specs::TwinGrammar::datagram_in))]
+#[tactic(auto, using(std::proofs::lemmas::List::take_rest), unfolding(crate::proofs::Unfolded::read_kind_words))]
 fn read_kind(grammar: Grammar, kind: TwinKind, bytes: &[u8]) -> Result<TwinMsg<'_>, BadTwin>
     requires { 16 ≤ length bytes.now }
     ensures value { seen result ≡ reading_of grammar kind bytes.now }
