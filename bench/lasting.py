@@ -22,10 +22,10 @@ HOST, SERVER, LOGGER, CLIENT = "127.0.0.1", 7471, 7472, 7473
 SYN, PSH, ACK = 2, 8, 16
 
 
-def packet(seq, ack, flags, text=b""):
-    """An IPv4 packet of the client to the server, which a datagram carries."""
+def packet(seq, ack, flags, text=b"", port=CLIENT):
+    """An IPv4 packet of a client to the server, which a datagram carries."""
     ip = socket.inet_aton(HOST)
-    head = struct.pack("!HHIIBBHHH", CLIENT, SERVER, seq, ack, 5 << 4, flags, 65535, 0, 0)
+    head = struct.pack("!HHIIBBHHH", port, SERVER, seq, ack, 5 << 4, flags, 65535, 0, 0)
     pseudo = ip + ip + struct.pack("!HH", 6, len(head) + len(text))
     head = head[:16] + struct.pack("!H", checksum(pseudo + head + text)) + head[18:]
     front = struct.pack("!BBHHHBBH", 0x45, 0, 40 + len(text), 0, 0, 64, 6, 0) + ip + ip

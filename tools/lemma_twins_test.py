@@ -108,11 +108,32 @@ class Twins(unittest.TestCase):
         self.assertEqual(places, ["    low/proofs/Sums: add_zero", "    middle/proofs/More: zero_after", "    top/proofs/More: again"])
 
     def test_left_out(self):
-        """What is said of a run of its own, and answers of proofs (files in a folder below)."""
-        for name in ("CrashShown", "Report2", "OnLiterals"):
-            self.put("top", name, "again : (x : Nat) → x + 0 ≡ x\nagain = by auto\n")
+        """Answers of proofs (files in a folder below), and types of functions."""
         self.put("top", "module/function/Answers", "again : (x : Nat) → x + 0 ≡ x\nagain = by auto\n")
+        self.put("top", "Functions", "half : Nat → Nat\nhalf n = n / 2\nthird : Nat → Nat\nthird n = n / 3\n")
         self.assertEqual(len(self.found().splitlines()), 13)
+
+    def test_two_definitions(self):
+        """Words of one name that different modules define: of the file itself, of a module that it imports, and by the name of a module."""
+        lemma = "again : (x : Nat) → is_end x ≡ true → after.end x ≡ 0\nagain = by auto\n"
+        self.put("middle", "Own", "is_end : Nat → Bool\nis_end x = x == 0\nuse Rattle.low.specs.Ends as after\n" + lemma)
+        self.put("middle", "Imports", "use Rattle.low.specs.Ends.{is_end}\nuse Rattle.low.specs.Ends as after\n" + lemma)
+        self.put("top", "Others", "use Rattle.low.specs.Ends.{is_end}\nuse Rattle.middle.specs.Ends as after\n" + lemma)
+        self.put("top", "Signs", "use Rattle.low.specs.Signs.{◌+◌}\nplus : (x : Nat) → x + 0 ≡ x\nplus = by auto\n")
+        self.assertEqual(self.found(), FOUND)
+
+    def test_one_definition(self):
+        """One word under two names, of a module that hands it on, and of the kit, whose modules hand on what others define."""
+        (self.top / "crates/middle/specs").mkdir()
+        (self.top / "crates/middle/specs/Handed.antt").write_text("pub use Rattle.low.specs.Ends.{is_end}\n")
+        for crate, file, uses, word in (
+            ("middle", "Straight", "use Rattle.low.specs.Ends.{is_end}\nuse Rattle.std.specs.Prelude.{not}\n", "is_end"),
+            ("middle", "Renamed", "use Rattle.low.specs.Ends.{is_end as ends}\nuse Rattle.std.proofs.Common.{not}\n", "ends"),
+            ("top", "Handed", "use Rattle.middle.specs.Handed.{is_end}\nuse Rattle.std.proofs.Common.{not}\n", "is_end"),
+        ):
+            self.put(crate, file, f"{uses}again : (x : Nat) → not ({word} x) ≡ true\nagain = by auto\n")
+        places = "    middle/proofs/Renamed: again\n    middle/proofs/Straight: again\n    top/proofs/Handed: again\n"
+        self.assertIn(f"($0 : Nat) → not (ends $0) ≡ true\n{places}", self.found())
 
     def test_one_file(self):
         """Twice in one file."""
