@@ -1,9 +1,12 @@
 #!/usr/bin/env bash
-# A service that outlives its 64 places. 10,000 TCP clients of a kernel, up to 40 at a time, each send 100 to 100,000 bytes through tools/bridge.py to one echo
-# server of ftnode with a quarantine of a second, whose logger recycles the entries of what is done, and has a journal. The same local ports are used again and
-# again. Meanwhile the server and the logger are killed (kill -9) every two seconds each, and started again: the server with the next boot number, the logger with
-# the same words. Each client must get its bytes back, and none may be refused or reset. In between come 1,000 SYNs of strangers, who never answer: then a client
-# must be served within a minute. At the end the journal must open once more.
+# A service that outlives its 64 places. 10,000 TCP clients of a kernel, up to 40 at a time and ten a second, each send 100 to 100,000 bytes through
+# tools/bridge.py to one echo server of ftnode with a quarantine of a second, whose logger recycles the entries of what is done, and has a journal. The same local
+# ports are used again and again. Meanwhile the server and the logger are killed (kill -9) every two seconds each, on average, and started again: the server with
+# the next boot number, the logger with the same words. The moments are random, since even ones keep step with the seconds after which a kernel sends a SYN again.
+# Each client must get its bytes back, and none may be refused or reset. In between come 1,000 SYNs of strangers, who never answer: within a minute all places that
+# they took must be back, and a client served. Until then nothing is killed, since the age of a half-open place, which comes back after five seconds, dies with
+# the server. The age of a place in quarantine does too, so more than some twelve clients a second find all 64 places taken. At the end the journal must open once
+# more.
 # It makes two network namespaces and a TUN device, and removes them at the end. It takes about 20 minutes, and needs root and a built ftnode:
 #     sudo examples/many.sh [PROGRAM] [CLIENTS] [SEED] [SECONDS]
 # Defaults: PROGRAM crates/ftnode/out/ftnode, CLIENTS 10000, SEED random, SECONDS between the kills 2.
@@ -25,6 +28,11 @@ start_numbered_server() { # BOOT
     process=$server_process
 }
 
+random_wait() { # half of EVERY to one and a half, in seconds
+    local wait=$((500 * every + RANDOM % (1000 * every)))
+    sleep "$((wait / 1000)).$(printf %03d $((wait % 1000)))"
+}
+
 # Starts a process by START, kills it again and again, and starts it again, until it is killed itself. How much memory it had at most stands in a file.
 kill_again() { # NAME START
     trap '{ kill -9 "$process" && wait "$process"; } 2>/dev/null' EXIT
@@ -32,7 +40,8 @@ kill_again() { # NAME START
     "$2" 1
     for ((number = 1; ; number++)); do
         echo $number >"$room/$1.starts"
-        sleep "$every"
+        random_wait
+        while [ -e "$room/calm" ]; do sleep 0.2; done
         awk '/VmHWM/ { print $2 }' "/proc/$process/status" >>"$room/$1.memory" 2>/dev/null
         end_by 9 "$process"
         status=$?
@@ -43,7 +52,18 @@ kill_again() { # NAME START
 most() { sort -n "$room/$1.memory" | tail -n 1; }
 
 clients_of() { # COUNT SEED
-    ip netns exec "$inside" examples/many_clients.py "$1" 40 "${server%:*}" "${server#*:}" "$2" 2>&1
+    ip netns exec "$inside" examples/many_clients.py "$1" 40 10 "${server%:*}" "${server#*:}" "$2" 2>&1
+}
+
+# Waits, at most a minute, until nothing in the log is of a client that never sent anything.
+await_places() {
+    local status
+    for ((second = 0; second < 60; second++)); do
+        status=$(ip netns exec "$outside" tools/log_status.py --logger "$logger")
+        [[ ${status%%$'\n'*} == *"of 64 places"* && ${status%%$'\n'*} != *empty* ]] && return 0
+        sleep 1
+    done
+    return 1
 }
 
 add_spaces
@@ -61,12 +81,16 @@ server_killer=$!
 failed=0
 half=$((clients / 2))
 clients_of $half "$seed" || failed=1
+touch "$room/calm"
 ip netns exec "$outside" examples/strangers.py 1000 "${server%:*}" "${server#*:}" "$seed"
 SECONDS=0
+await_places || failed=1
+places=$SECONDS
 clients_of 1 $((seed + 1)) >"$room/first" || failed=1
 first=$SECONDS
+rm "$room/calm"
 [ $first -le 60 ] || failed=1
-echo "a client was served $first seconds after the strangers"
+echo "$places seconds after the strangers their places were back, and after $first a client was served"
 clients_of $((clients - half)) $((seed + 2)) || failed=1
 end_by TERM "$server_killer"
 end_by TERM "$logger_killer"

@@ -1,7 +1,7 @@
 #!/usr/bin/env python3
-"""Many ordinary sockets of the kernel: many_clients.py COUNT AT_ONCE HOST PORT SEED [MOST].
+"""Many ordinary sockets of the kernel: many_clients.py COUNT AT_ONCE A_SECOND HOST PORT SEED [MOST].
 
-It opens COUNT connections, up to AT_ONCE at a time, to an echo server. Each sends 100 to MOST (100,000) bytes that are drawn from the seed, ends its side, and must
+It opens COUNT connections, up to AT_ONCE at a time and A_SECOND a second, to an echo server. Each sends 100 to MOST (100,000) bytes that are drawn from the seed, ends its side, and must
 receive the same bytes, by their SHA-256, and the end. It prints how many were right, how many were refused or reset, how long they took, and how often a local
 port was used again."""
 import hashlib
@@ -12,9 +12,9 @@ import threading
 import time
 
 PATIENCE = 170  # seconds in which nothing comes
-count, at_once, host, port, seed = int(sys.argv[1]), int(sys.argv[2]), sys.argv[3], int(sys.argv[4]), int(sys.argv[5])
-most = int(sys.argv[6]) if len(sys.argv) > 6 else 100_000
-lock, left = threading.Lock(), list(range(count))
+count, at_once, a_second, host, port, seed = int(sys.argv[1]), int(sys.argv[2]), int(sys.argv[3]), sys.argv[4], int(sys.argv[5]), int(sys.argv[6])
+most = int(sys.argv[7]) if len(sys.argv) > 7 else 100_000
+lock, pace, left = threading.Lock(), threading.Lock(), list(range(count))
 times, ports, faults = [], {}, {}
 
 
@@ -44,12 +44,17 @@ def send(link, data):
         pass  # the receiving side sees it, too
 
 
+def next_number():
+    """The next connection's number, once it may begin; None if none is left."""
+    with pace:
+        if not left:
+            return None
+        time.sleep(1 / a_second)
+        return left.pop()
+
+
 def work():
-    while True:
-        with lock:
-            if not left:
-                return
-            number = left.pop()
+    while (number := next_number()) is not None:
         began = time.monotonic()
         fault, here = exchange(number)
         with lock:
