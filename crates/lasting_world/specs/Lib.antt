@@ -1,0 +1,13 @@
+pub mod Abouts
+pub mod Guests
+pub mod GoneEntries
+pub mod NetworkView
+pub mod NetworkStands
+pub mod Around
+pub mod LogTurns
+pub mod Sending
+pub mod WorldView
+pub mod Stands
+pub mod SentParcels
+pub mod Steps
+pub mod Along
